@@ -1,0 +1,5 @@
+-- The laws of counting, for the crates above.
+pub mod Tests
+pub mod Sums
+pub mod Ranges
+pub mod Counts

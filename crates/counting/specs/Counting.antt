@@ -1,0 +1,33 @@
+-- Sums, counts, the largest value and tests over the numbers below n.
+-- Each is a fold from below, the shape of a loop `while i < n`: its invariant is `acc ≡ sum i f`.
+use mathlib.Core.Bool.{Bool, true, false, _&&_, _||_}
+use Prim.Native.Nat.{ℕ, zero, suc, _+_, max}
+
+-- x where the test holds, and 0 elsewhere
+abbrev pub only : Bool → ℕ → ℕ
+only true x = x
+only false x = 0
+
+-- f 0 + f 1 + … + f (n - 1)
+unfoldable pub sum : ℕ → (ℕ → ℕ) → ℕ
+sum zero f = 0
+sum (suc n) f = sum n f + f n
+
+-- the largest of f 0, …, f (n - 1), and 0 where n is 0
+unfoldable pub largest : ℕ → (ℕ → ℕ) → ℕ
+largest zero f = 0
+largest (suc n) f = max (largest n f) (f n)
+
+-- the test holds of every number below n
+unfoldable pub every : ℕ → (ℕ → Bool) → Bool
+every zero p = true
+every (suc n) p = every n p && p n
+
+-- the test holds of some number below n
+unfoldable pub any : ℕ → (ℕ → Bool) → Bool
+any zero p = false
+any (suc n) p = any n p || p n
+
+-- how many numbers below n pass the test
+abbrev pub count : ℕ → (ℕ → Bool) → ℕ
+count n p = sum n (λ i. only (p i) 1)
