@@ -1,0 +1,67 @@
+// Sets of small numbers in one word: a u32 holds jobs, a u64 modules. Member i is bit i, and bit 0 is the lowest.
+ghost use mathlib.Core.Path.{_≡_};
+ghost use Prim.Native.Nat.{_<_};
+ghost use lib.Count.{ones};
+ghost use Rattle.bits.specs.Bits.{bit, withBit, withoutBit};
+
+// Whether i is a member.
+pub fn test32(set: u32, i: usize) -> bool
+    requires { ⌜ i < 32 ⌝ }
+    ensures { λ r. ⌜ r ≡ bit set i ⌝ }
+{
+    (set >> i) % 2 == 1
+}
+
+// The set with i.
+pub fn set32(set: u32, i: usize) -> u32
+    requires { ⌜ i < 32 ⌝ }
+    ensures { λ r. ⌜ r ≡ withBit set i ⌝ }
+{
+    set | (1u32 << i)
+}
+
+// The set without i.
+pub fn clear32(set: u32, i: usize) -> u32
+    requires { ⌜ i < 32 ⌝ }
+    ensures { λ r. ⌜ r ≡ withoutBit set i ⌝ }
+{
+    set - (set & (1u32 << i))
+}
+
+// How many members the set has.
+pub fn ones32(set: u32) -> u32
+    ensures { λ r. ⌜ r ≡ ones set ⌝ }
+{
+    u32::count_ones(set)
+}
+
+// Whether i is a member.
+pub fn test64(set: u64, i: usize) -> bool
+    requires { ⌜ i < 64 ⌝ }
+    ensures { λ r. ⌜ r ≡ bit set i ⌝ }
+{
+    (set >> i) % 2 == 1
+}
+
+// The set with i.
+pub fn set64(set: u64, i: usize) -> u64
+    requires { ⌜ i < 64 ⌝ }
+    ensures { λ r. ⌜ r ≡ withBit set i ⌝ }
+{
+    set | (1u64 << i)
+}
+
+// The set without i.
+pub fn clear64(set: u64, i: usize) -> u64
+    requires { ⌜ i < 64 ⌝ }
+    ensures { λ r. ⌜ r ≡ withoutBit set i ⌝ }
+{
+    set - (set & (1u64 << i))
+}
+
+// How many members the set has.
+pub fn ones64(set: u64) -> u32
+    ensures { λ r. ⌜ r ≡ ones set ⌝ }
+{
+    u64::count_ones(set)
+}
