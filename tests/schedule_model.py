@@ -109,7 +109,7 @@ def random_sheet(rng, most_jobs, wide=0.05, resting=True):
     n = rng.randint(0, most_jobs)
     modules = rng.randint(1, 4)
     marks = rng.choice([0, 0.15, 0.4])
-    backward = rng.random() < 0.15
+    backward = rng.random() < 0.3
     jobs = []
     for j in range(n):
         need = rng.randint(1, modules) if rng.random() >= wide else modules + 1
@@ -170,7 +170,7 @@ late w m e a = record { need = w; minutes = m; earlier = e; arrival = a }
 
 def samples():
     rng = random.Random(2016)
-    answered = [random_sheet(rng, 4) for _ in range(40)] + [random_sheet(rng, 5, 0, False) for _ in range(6)]
+    answered = [random_sheet(rng, 4) for _ in range(60)] + [random_sheet(rng, 5, 0, False) for _ in range(8)]
     placed, judged = [], []
     while len(placed) < 40:
         sheet = random_sheet(rng, 6, 0)

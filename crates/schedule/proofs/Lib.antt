@@ -10,5 +10,9 @@ pub mod Orders
 pub mod Along
 pub mod Area
 pub mod Chains
+pub mod Jumps
+pub mod Horizon
+pub mod Theorems
+pub mod RowLaws
 pub mod ValidTest
 pub mod Samples

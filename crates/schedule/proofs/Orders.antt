@@ -206,12 +206,15 @@ module _ (S : Sheet) where
       go : Found all → (o : List ℕ) × (bestOrder S ≡ some o) × Best S o
       go (inl (e, z)) = absurd (subst (λ (l : List (List ℕ)). In p l) z (there p h))
       go (inr (o, e, f)) =
-          let a = orders-follow (S .jobs) noJobs o (f .one) in
-          (o, e, record {
-            order = record { all = a .1; follows = a .0 };
-            early = λ q g. f .early q (there q g);
-            first = λ q g. f .first q (there q g);
-          })
+          let a = orders-follow (S .jobs) noJobs o (f .one) in (
+            o,
+            e,
+            record {
+              order = record { all = a .1; follows = a .0 };
+              early = λ q g. f .early q (there q g);
+              first = λ q g. f .first q (there q g);
+            },
+          )
 
   -- what is computed is an order
   pub best-order : (o : List ℕ) → bestOrder S ≡ some o → Best S o
