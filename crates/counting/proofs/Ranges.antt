@@ -6,7 +6,8 @@ use Prim.Native.Nat.{ℕ, zero, suc, _≤_, _<_, max, zero-le}
 use native.Mathlib.Omega.{arith}
 use native.Mathlib.Nat.{le-refl, not-suc-le-zero}
 use Rattle.counting.specs.Counting.{largest, every, any}
-use Rattle.counting.proofs.Tests.{true-or-false, clash, and-left, and-right, or-left, or-right, less-or-not, below-suc, last-or-below}
+use Rattle.counting.proofs.Tests.{true-or-false, clash, and-left, and-right, or-left, or-right}
+use Rattle.counting.proofs.Tests.{less-or-not, below-suc, last-or-below}
 
 -- ---- the largest
 

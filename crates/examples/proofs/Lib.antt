@@ -1,2 +1,3 @@
 -- That the examples hold.
 pub mod Held
+pub mod Instances

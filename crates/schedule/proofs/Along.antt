@@ -1,6 +1,5 @@
 -- What holds along an order: a placed job keeps its place, starts never fall, and each job comes once.
 use mathlib.Core.Path.{_≡_, refl}
-use mathlib.Core.Logic.{_⊎_, inl, inr}
 use mathlib.Core.Bool.{Bool, true, false}
 use mathlib.Core.List.{List, [], _∷_, _++_}
 use Prim.Native.Nat.{ℕ, _+_, _≤_, _<_}
@@ -10,7 +9,7 @@ use borrow.Author.Tests.{eqb-true, eq-eqb, ne-eqb}
 use Rattle.counting.specs.Counting.{only}
 use Rattle.counting.proofs.Tests.{clash}
 use Rattle.schedule.specs.Plan.{Sheet}
-use Rattle.schedule.specs.ListPlan.{Order, PartPlan, noJobs, Follows, startOf, place, emptyPart, placeAll, listPlan}
+use Rattle.schedule.specs.ListPlan.{Order, PartPlan, Follows, startOf, place, emptyPart, placeAll, listPlan}
 use Rattle.schedule.proofs.Starts.{ready-says, start-may}
 use Rattle.schedule.proofs.Sound.{Narrow, completes-all, order-completes}
 

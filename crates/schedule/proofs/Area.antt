@@ -8,7 +8,7 @@ use native.Mathlib.Omega.{arith}
 use native.Mathlib.Nat.{le-refl, le-trans, le-of-eq, mul-le-mul-left, mul-le-mul-right, mul-add, zero-mul}
 use lib.Dec.{ltb, eqb}
 use borrow.Author.Tests.{ltb-false, eqb-true}
-use Rattle.counting.specs.Counting.{only, sum, largest, count}
+use Rattle.counting.specs.Counting.{only, sum, largest}
 use Rattle.counting.proofs.Tests.{true-or-false}
 use Rattle.counting.proofs.Sums.{sum-le, sum-same, sum-add, sum-mul, sum-zero, sum-const, sum-swap, le-sum}
 use Rattle.counting.proofs.Ranges.{le-largest, largest-le}
@@ -124,7 +124,7 @@ formula-six S P h =
     let split = sum-add N (λ m. P .last) (λ m. sum n (λ i. left i m)) in
     let flat = sum-const N (P .last) in
     let swap = sum-swap n N left in
-    let todos : sum n (λ i. sum N (left i)) + sum n (λ i. only (not (P .placed i)) (S .need i * S .minutes i)) ≡ sum n (todo S P (P .last)) =
+    let all : sum n (λ i. sum N (left i)) + sum n (λ i. only (not (P .placed i)) (S .need i * S .minutes i)) ≡ sum n (todo S P (P .last)) =
     sym (sum-add n (λ i. sum N (left i)) (λ i. only (not (P .placed i)) (S .need i * S .minutes i)))
     ∙ sum-same n _ _ (λ i l. two i l (true-or-false (P .placed i))) in
     omega arith

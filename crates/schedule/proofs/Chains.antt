@@ -1,21 +1,21 @@
 -- The longest-chain bound: a job that can follow, and the longest chain of jobs that wait for it, must still fit before the end.
-use mathlib.Core.Path.{_≡_, refl, sym, ap, _∙_}
+use mathlib.Core.Path.{_≡_, refl, sym}
 use mathlib.Core.Logic.{_⊎_, inl, inr}
-use mathlib.Core.Bool.{Bool, true, false, not, _&&_, _||_}
+use mathlib.Core.Bool.{Bool, true, false, _&&_, _||_}
 use mathlib.Core.List.{List, [], _∷_}
 use Prim.Native.Nat.{ℕ, zero, suc, _+_, _-_, _≤_, _<_, zero-le}
 use native.Mathlib.Omega.{arith}
-use native.Mathlib.Nat.{le-refl, le-trans, le-of-eq}
+use native.Mathlib.Nat.{le-trans, le-of-eq}
 use lib.Dec.{eqb}
 use lib.ListN.{length}
 use borrow.Author.Tests.{eqb-true, ne-eqb, not-true}
-use Rattle.counting.specs.Counting.{only, largest, any, count}
+use Rattle.counting.specs.Counting.{only, largest, count}
 use Rattle.counting.proofs.Tests.{true-or-false, clash, not-of-false}
 use Rattle.counting.proofs.Ranges.{le-largest, largest-le, any-none, none-any}
 use Rattle.counting.proofs.Counts.{count-mono, count-insert}
 use Rattle.schedule.specs.Plan.{Sheet, Plan, Valid, finish, planEnd}
 use Rattle.schedule.specs.ListPlan.{PartPlan, ready, occupies, free, startOf, place, placeAll}
-use Rattle.schedule.proofs.Starts.{Ready, ready-says, ready-when, MayStart, start-le, start-may}
+use Rattle.schedule.proofs.Starts.{Ready, ready-says, MayStart, start-le, start-may}
 use Rattle.schedule.proofs.Sound.{Narrow, Sound, place-all-sound, complete-valid, Completes, completes-all}
 use Rattle.schedule.proofs.Along.{next-start-kept}
 

@@ -7,7 +7,6 @@ use native.Mathlib.Omega.{arith}
 use native.Mathlib.Nat.{le-trans}
 use lib.Dec.{eqb}
 use borrow.Author.Tests.{ltb-true, lt-ltb}
-use Rattle.counting.specs.Counting.{count}
 use Rattle.counting.proofs.Tests.{and-left, and-right, and-both, only-mono}
 use Rattle.counting.proofs.Sums.{sum-le}
 use Rattle.counting.proofs.Ranges.{le-largest, largest-le}
@@ -15,7 +14,7 @@ use Rattle.counting.proofs.Counts.{count-insert}
 use Rattle.schedule.specs.Plan.{Sheet, finish, planEnd}
 use Rattle.schedule.specs.ListPlan.{PartPlan, Follows, occupies, startOf, place, placeAll}
 use Rattle.schedule.proofs.Starts.{Ready, ready-says, MayStart, start-le, start-may}
-use Rattle.schedule.proofs.Sound.{Narrow, Sound, partEnd, part-end-le, place-sound, place-all-sound, Completes, completes-all}
+use Rattle.schedule.proofs.Sound.{Narrow, Sound, partEnd, part-end-le, place-sound, Completes, completes-all}
 use Rattle.schedule.proofs.Occupied.{occupied, room-sum, sum-room}
 
 -- From minute l on, A has placed the same jobs as B and keeps no module longer.

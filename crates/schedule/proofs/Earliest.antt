@@ -3,14 +3,14 @@ use mathlib.Core.Path.{_≡_, refl, sym, ap, _∙_}
 use mathlib.Core.Logic.{_⊎_, inl, inr, ⊎-elim}
 use mathlib.Core.Bool.{Bool, true, false, not, _&&_}
 use mathlib.Core.List.{List, [], _∷_}
-use Prim.Native.Nat.{ℕ, zero, suc, _+_, _*_, _≤_, _<_, zero-le}
+use Prim.Native.Nat.{ℕ, zero, suc, _+_, _≤_, _<_, zero-le}
 use native.Mathlib.Omega.{arith}
 use native.Mathlib.Nat.{le-refl}
 use lib.Dec.{ltb, leb, eqb}
 use lib.ListN.{length}
-use borrow.Author.Tests.{ltb-true, leb-true, eqb-true, eqb-false, lt-ltb, le-leb, eq-eqb, ne-eqb, not-true}
+use borrow.Author.Tests.{ltb-true, leb-true, eqb-true, eqb-false, lt-ltb, le-leb, ne-eqb, not-true}
 use Rattle.counting.specs.Counting.{only, sum, count}
-use Rattle.counting.proofs.Tests.{true-or-false, clash, and-left, and-right, and-both, or-left, or-right, not-of-false}
+use Rattle.counting.proofs.Tests.{true-or-false, clash, and-left, and-right, and-both, or-right, not-of-false}
 use Rattle.counting.proofs.Sums.{sum-le, sum-same, sum-add, sum-swap, sum-const, sum-single}
 use Rattle.counting.proofs.Ranges.{le-largest, largest-le, argmin}
 use Rattle.counting.proofs.Counts.{count-le, count-insert, count-full, count-one, count-not, count-none, only-count}
@@ -18,7 +18,7 @@ use Rattle.schedule.specs.Plan.{Sheet, Plan, Valid, finish, planEnd}
 use Rattle.schedule.specs.ListPlan.{Order, PartPlan, noJobs, Follows, occupies, startOf, place, emptyPart, placeAll, listPlan}
 use Rattle.schedule.specs.TieRule.{endOf}
 use Rattle.schedule.proofs.Starts.{Ready, ready-when, MayStart, start-le, start-may}
-use Rattle.schedule.proofs.Sound.{Narrow, Sound, place-sound, empty-sound, Completes}
+use Rattle.schedule.proofs.Sound.{Narrow, Sound, place-sound, empty-sound}
 use Rattle.schedule.proofs.Occupied.{occupied, sum-room}
 
 -- every job lasts a minute or more

@@ -8,7 +8,7 @@ use native.Mathlib.Omega.{arith}
 use native.Mathlib.Nat.{le-refl}
 use lib.Dec.{ltb, eqb}
 use lib.ListN.{length}
-use borrow.Author.Tests.{eqb-true, not-true, ltb-true, ltb-false, le-ltb}
+use borrow.Author.Tests.{eqb-true, not-true, ltb-false, le-ltb}
 use Rattle.counting.specs.Counting.{count}
 use Rattle.counting.proofs.Tests.{true-or-false, clash, and-left, and-right, and-both, not-of-false}
 use Rattle.counting.proofs.Ranges.{find, any-none, none-any}
@@ -48,14 +48,16 @@ module _ (S : Sheet) (d : ℕ → Bool) (stuck : (j : ℕ) → j < S .jobs → r
   back : (j : ℕ) → j < S .jobs → d j ≡ false → Missing j
   back j l e = ⊎-elim
       (λ r. (r .0, r .1, and-left (S .before (r .0) j) _ (r .2), not-true (d (r .0)) (and-right (S .before (r .0) j) _ (r .2))))
-      (λ h. clash (ready S d j) (ready-when S d j (record { job = l; new = e; after = λ i k b. go i (h i k) b (true-or-false (d i)) })) (stuck j l))
+      (λ h. let r = ready-when S d j (record { job = l; new = e; after = λ i k b. go i (h i k) b (true-or-false (d i)) }) in
+      clash (ready S d j) r (stuck j l))
       (find (S .jobs) (λ i. S .before i j && not (d i)))
     where
       go : (i : ℕ) → (S .before i j && not (d i)) ≡ false → S .before i j ≡ true → (d i ≡ true) ⊎ (d i ≡ false) → d i ≡ true
       go i h b (inl q) = q
       go i h b (inr q) = clash (S .before i j && not (d i)) (and-both _ _ b (not-of-false (d i) q)) h
 
-  module _ (c : ℕ) (v : ℕ → Bool) (l : c < S .jobs) (h : (i : ℕ) → i < S .jobs → v i ≡ true → (i ≡ c) ⊎ MustPrecede S c i) (b : Missing c) where
+  module _ (c : ℕ) (v : ℕ → Bool) (l : c < S .jobs) (h : (i : ℕ) → i < S .jobs → v i ≡ true → (i ≡ c) ⊎ MustPrecede S c i)
+      (b : Missing c) where
     met : v (b .0) ≡ true → Circular S
     met q = ⊎-elim (λ z. (c, directly l l (rw z at (b .2)))) (λ m. (b .0, through (b .1) l (b .2) m)) (h (b .0) (b .1) q)
 
@@ -132,5 +134,6 @@ has-order S = (
 pub has-plan : (S : Sheet) → Lasting S → ((P : Plan) × Valid S P) ↔ ((overWide S ≡ false) × (¬ Circular S))
 has-plan S w = (
   (λ p. (narrow-when S (valid-narrow S (p .0) (p .1)), valid-not-circular S (p .0) (p .1) w)),
-  (λ h. ⊎-elim (λ t. (listPlan S (t .0), list-plan-valid S (narrow-says S (h .0)) (t .0) (t .1))) (λ c. absurd (h .1 c)) (order-or-circular S)),
+  (λ h. ⊎-elim (λ t. (listPlan S (t .0), list-plan-valid S (narrow-says S (h .0)) (t .0) (t .1))) (λ c. absurd (h .1 c))
+      (order-or-circular S)),
 )

@@ -1,11 +1,10 @@
 -- How a program finds a start: from one end of a placed job to the next, by the sum of needs.
-use mathlib.Core.Path.{_≡_, refl}
+use mathlib.Core.Path.{_≡_}
 use mathlib.Core.Logic.{_⊎_, ⊎-elim, inl, inr}
-use mathlib.Core.Bool.{Bool, true, false}
+use mathlib.Core.Bool.{true}
 use Prim.Native.Nat.{ℕ, _+_, _≤_, _<_}
 use native.Mathlib.Omega.{arith}
-use native.Mathlib.Nat.{le-antisymm, le-trans}
-use lib.Dec.{ltb}
+use native.Mathlib.Nat.{le-antisymm}
 use borrow.Author.Tests.{ltb-true, lt-ltb}
 use Rattle.counting.specs.Counting.{only}
 use Rattle.counting.proofs.Tests.{and-left, and-right, and-both, only-mono, less-or-not}
@@ -28,7 +27,8 @@ module _ (S : Sheet) (P : PartPlan) where
   occupied-until t u next l m h = sum-le (S .jobs) _ _ (λ i k. only-mono (occupies S P t i) (occupies S P u i) (S .need i) (λ e.
       let a = and-left (P .placed i) _ e in
       let b = ltb-true t (finish S (P .plan) i + S .rest) (and-right (P .placed i) _ e) in
-      and-both (P .placed i) _ a (lt-ltb u (finish S (P .plan) i + S .rest) (⊎-elim (λ x. absurd (omega arith)) (λ x. omega arith) (h i k a)))))
+      let c : u < finish S (P .plan) i + S .rest = ⊎-elim (λ x. absurd (omega arith)) (λ x. omega arith) (h i k a) in
+      and-both (P .placed i) _ a (lt-ltb u (finish S (P .plan) i + S .rest) c)))
 
 module _ (S : Sheet) (P : PartPlan) (h : Sound S P) (j : ℕ) (w : S .need j ≤ S .modules) where
   -- where the job has no room at minute t, it starts no earlier than the next end

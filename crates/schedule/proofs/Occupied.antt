@@ -1,11 +1,11 @@
 -- The sum of needs: how many modules the placed jobs occupy, and that it gives the same starts as looking at the modules.
 use mathlib.Core.Path.{_≡_, refl, sym, ap, _∙_}
 use mathlib.Core.Logic.{_⊎_, inl, inr, ⊎-elim}
-use mathlib.Core.Bool.{Bool, true, false, not, _&&_}
+use mathlib.Core.Bool.{Bool, true, false, _&&_}
 use Prim.Native.Nat.{ℕ, _+_, _≤_, _<_}
 use native.Mathlib.Omega.{arith}
 use native.Mathlib.Nat.{le-antisymm}
-use lib.Dec.{ltb, leb, eqb}
+use lib.Dec.{leb, eqb}
 use borrow.Author.Tests.{ltb-true, eqb-true, eqb-false, lt-ltb, leb-true, le-leb}
 use Rattle.counting.specs.Counting.{only, sum, any, count}
 use Rattle.counting.proofs.Tests.{true-or-false, and-left, and-right, and-both, only-mono, same-test}

@@ -1,16 +1,16 @@
 -- The computed list of orders has every order once, in dictionary order, and its first earliest one is the tie rule's.
-use mathlib.Core.Path.{_≡_, refl, sym, ap, ap₂, _∙_, subst}
+use mathlib.Core.Path.{_≡_, refl, sym, ap, _∙_, subst}
 use mathlib.Core.Logic.{_⊎_, inl, inr, ⊎-elim}
 use mathlib.Core.Bool.{Bool, true, false, cond}
 use mathlib.Core.List.{List, [], _∷_, _++_}
-use mathlib.Core.Option.{Option, none, some}
+use mathlib.Core.Option.{none, some}
 use Prim.Native.Nat.{ℕ, zero, suc, _≤_, _<_}
 use native.Mathlib.Omega.{arith}
 use native.Mathlib.Nat.{le-refl, not-suc-le-zero}
 use lib.Dec.{leb}
 use lib.ListN.{length}
 use borrow.Author.Tests.{leb-true, leb-false}
-use Rattle.counting.proofs.Tests.{true-or-false, clash, last-or-below}
+use Rattle.counting.proofs.Tests.{last-or-below}
 use Rattle.schedule.specs.Plan.{Sheet}
 use Rattle.schedule.specs.ListPlan.{Order, noJobs, placing, ready, Follows}
 use Rattle.schedule.specs.TieRule.{endOf, DictionaryLe, Best, joined, headed, ordersAfter, earliestOf, bestOrder}

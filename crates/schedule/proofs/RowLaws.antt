@@ -1,13 +1,12 @@
 -- A row that passes the test is right: one law for every table of rows.
-use mathlib.Core.Path.{_≡_, refl, ap, ap₂}
-use mathlib.Core.Bool.{Bool, true, false, _&&_}
+use mathlib.Core.Path.{_≡_, refl, ap₂}
+use mathlib.Core.Bool.{Bool, true, false}
 use mathlib.Core.List.{List, [], _∷_}
 use Prim.Native.Nat.{ℕ, zero, suc, _<_}
 use native.Mathlib.Nat.{le-of-suc-le-suc, not-suc-le-zero}
 use lib.Dec.{eqb}
 use lib.ListN.{length, getD}
 use borrow.Author.Tests.{eqb-true}
-use Rattle.counting.specs.Counting.{every}
 use Rattle.counting.proofs.Tests.{and-left, and-right, clash}
 use Rattle.counting.proofs.Ranges.{every-at}
 use Rattle.schedule.specs.Plan.{Sheet, Plan}

@@ -1,7 +1,7 @@
 -- Random sheets and plans, and what tests/schedule_model.py, which reads the document on its own, says of them.
 -- Written by that model: its rows are compared with these by the gate.
 use mathlib.Core.Path.{_≡_, refl}
-use mathlib.Core.Bool.{Bool, true, false}
+use mathlib.Core.Bool.{true, false}
 use mathlib.Core.List.{List, [], _∷_}
 use Prim.Native.Nat.{ℕ}
 use Rattle.counting.specs.Counting.{sum, largest, every, any}

@@ -9,12 +9,13 @@ use native.Mathlib.Nat.{le-refl, le-trans}
 use lib.Dec.{ltb, eqb}
 use lib.ListN.{length}
 use borrow.Author.Tests.{ltb-true, ltb-false, eqb-true, lt-ltb, eq-eqb, ne-eqb, not-true}
-use Rattle.counting.specs.Counting.{only, largest, any, count}
+use Rattle.counting.specs.Counting.{only, largest, count}
 use Rattle.counting.proofs.Tests.{true-or-false, clash, and-left, and-right, and-both, only-le}
 use Rattle.counting.proofs.Ranges.{le-largest, largest-le, any-none}
 use Rattle.counting.proofs.Counts.{count-full, count-insert, count-lowest, count-none, count-same}
 use Rattle.schedule.specs.Plan.{Sheet, Valid, finish, planEnd}
-use Rattle.schedule.specs.ListPlan.{Order, PartPlan, noJobs, Follows, occupies, free, lowest, startOf, place, emptyPart, placeAll, partOf, listPlan}
+use Rattle.schedule.specs.ListPlan.{Order, PartPlan, noJobs, Follows, occupies, free, lowest, startOf}
+use Rattle.schedule.specs.ListPlan.{place, emptyPart, placeAll, partOf, listPlan}
 use Rattle.schedule.proofs.Starts.{Ready, ready-says, MayStart, start-may}
 
 -- no job is wider than the cabinet

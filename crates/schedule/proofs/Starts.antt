@@ -1,5 +1,5 @@
 -- When a job can follow and when it can start: what `ready` and `startOf` say.
-use mathlib.Core.Path.{_≡_, refl, sym, ap, _∙_}
+use mathlib.Core.Path.{_≡_, refl, ap, _∙_}
 use mathlib.Core.Logic.{_⊎_, inl, inr, _≢_}
 use mathlib.Core.Bool.{Bool, true, false, not, _&&_, _||_}
 use Prim.Native.Nat.{ℕ, zero, suc, _+_, _*_, _≤_, _<_, zero-le}
@@ -7,7 +7,7 @@ use native.Mathlib.Omega.{arith}
 use native.Mathlib.Nat.{le-refl}
 use lib.Dec.{ltb, leb}
 use borrow.Author.Tests.{ltb-true, leb-true, lt-ltb, le-leb, not-true}
-use Rattle.counting.specs.Counting.{only, largest, every, any, count}
+use Rattle.counting.specs.Counting.{only, largest, every, count}
 use Rattle.counting.proofs.Tests.{true-or-false, clash, and-left, and-right, and-both, not-of-false, implied, implication}
 use Rattle.counting.proofs.Ranges.{le-largest, largest-le, every-at, every-intro, none-any}
 use Rattle.counting.proofs.Sums.{sum-const, sum-same}
@@ -90,7 +90,8 @@ pub record MayStart (S : Sheet) (P : PartPlan) (j t : ℕ) : Type 0 where
 -- every module is free once all placed jobs have given up theirs
 pub all-free : (S : Sheet) (P : PartPlan) (t : ℕ) → allFreeFrom S P ≤ t → count (S .modules) (free S P t) ≡ S .modules
 all-free S P t h =
-    sum-same (S .modules) _ (λ m. 1) (λ m k. ap (λ b. only (not b) 1) (none-any (S .jobs) _ (λ i l. one m i l (true-or-false (occupies S P t i)))))
+    sum-same (S .modules) _ (λ m. 1)
+    (λ m k. ap (λ b. only (not b) 1) (none-any (S .jobs) _ (λ i l. one m i l (true-or-false (occupies S P t i)))))
     ∙ sum-const (S .modules) 1 ∙ (let z : S .modules * 1 ≡ S .modules = omega arith in z)
   where
     one : (m i : ℕ) → i < S .jobs → (occupies S P t i ≡ true) ⊎ (occupies S P t i ≡ false) → (occupies S P t i && P .plan .uses i m) ≡ false

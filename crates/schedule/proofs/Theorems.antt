@@ -1,7 +1,7 @@
 -- What is proved of plans, in the words of the demands. Each theorem assembles what its file proves.
 use mathlib.Core.Path.{_≡_, refl, ap, _∙_, subst}
 use mathlib.Core.Logic.{_⊎_, inl, inr, ⊎-elim, _↔_}
-use mathlib.Core.Bool.{Bool, true, false, _&&_}
+use mathlib.Core.Bool.{true, false, _&&_}
 use mathlib.Core.List.{List}
 use mathlib.Core.Option.{Option, none, some}
 use Prim.Native.Nat.{ℕ, _≤_, _<_}
@@ -13,11 +13,11 @@ use Rattle.counting.proofs.Tests.{true-or-false, clash, and-left, and-right, an
 use Rattle.counting.proofs.Counts.{count-up}
 use Rattle.schedule.specs.Plan.{Sheet, Plan, Valid, planEnd, overWide, Circular}
 use Rattle.schedule.specs.ListPlan.{PartPlan, free, lowest, startOf, place, partOf, listPlan}
-use Rattle.schedule.specs.TieRule.{endOf, Best, bestOrder, Answer, wide, circular, planned, planAnswer, answerOf}
+use Rattle.schedule.specs.TieRule.{endOf, Best, bestOrder, wide, circular, planned, planAnswer, answerOf}
 use Rattle.schedule.proofs.Starts.{MayStart, start-le, start-may}
 use Rattle.schedule.proofs.Sound.{list-plan-valid}
-use Rattle.schedule.proofs.Earliest.{Lasting, valid-narrow, matched-end}
-use Rattle.schedule.proofs.Existence.{narrow-says, narrow-when, order-or-circular, order-not-circular, has-plan, valid-not-circular}
+use Rattle.schedule.proofs.Earliest.{Lasting, matched-end}
+use Rattle.schedule.proofs.Existence.{narrow-says, order-or-circular, order-not-circular, has-plan}
 use Rattle.schedule.proofs.Orders.{best-found, best-order}
 
 -- ---- the list plan

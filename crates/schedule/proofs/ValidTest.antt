@@ -3,7 +3,7 @@ use mathlib.Core.Path.{_≡_, refl}
 use mathlib.Core.Logic.{_⊎_, inl, inr, _≢_, ⊎-elim}
 use mathlib.Core.Bool.{Bool, true, false, not, _&&_, _||_}
 use mathlib.Core.List.{List, [], _∷_}
-use Prim.Native.Nat.{ℕ, _+_, _≤_, _<_}
+use Prim.Native.Nat.{ℕ, _+_, _<_}
 use lib.Dec.{ltb, leb, eqb}
 use borrow.Author.Tests.{ltb-true, leb-true, eqb-true, lt-ltb, le-leb, eq-eqb, ne-eqb, not-true, eqb-false}
 use Rattle.counting.specs.Counting.{every, count}
@@ -78,8 +78,8 @@ module _ (B : ℕ) (S : Sheet) (P : Plan) where
     enough = λ j l. eqb-true _ _ (tested h j l .1);
     apart = λ i j m l k d u v.
         let both : shared B S P i j m ≡ true = and-both _ _ (and-both _ _ (not-of-false (eqb i j) (ne-eqb i j d)) u) v in
-        let each = every-at (S .jobs) (λ j. every B (λ m. not (shared B S P i j m) || apart B S P i j)) (tested h i l .2) j k in
-        let one = implied (shared B S P i j m) _ (every-at B (λ m. not (shared B S P i j m) || apart B S P i j) each m (below i m l u)) both in
+        let e = every-at (S .jobs) (λ j. every B (λ m. not (shared B S P i j m) || apart B S P i j)) (tested h i l .2) j k in
+        let one = implied (shared B S P i j m) _ (every-at B (λ m. not (shared B S P i j m) || apart B S P i j) e m (below i m l u)) both in
         ⊎-elim (λ x. inl (leb-true _ _ x)) (λ x. inr (leb-true _ _ x))
         (either (leb (finish S P i + S .rest) (P .start j)) (leb (finish S P j + S .rest) (P .start i)) one);
     after = λ i j l k b. leb-true _ _ (implied (S .before i j) _
