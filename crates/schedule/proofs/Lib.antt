@@ -10,6 +10,10 @@ pub mod Orders
 pub mod Along
 pub mod Area
 pub mod Chains
+pub mod Prefixes
+pub mod Places
+pub mod Swept
+pub mod Cuts
 pub mod Jumps
 pub mod Horizon
 pub mod Theorems
