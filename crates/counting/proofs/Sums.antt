@@ -99,3 +99,21 @@ sum-insert n d g j l e =
     one : (i : ℕ) (b : Bool) → eqb i j ≡ b → only (eqb i j || d i) (g i) ≡ only (eqb i j) (g i) + only (d i) (g i)
     one i true q = let z : d i ≡ false = rw (eqb-true i j q) e in rw (q, z) (omega arith)
     one i false q = rw q (omega arith)
+
+-- one value put in at place `at`, and those from there on one place up
+pub sum-put-in : (n at x : ℕ) (f g : ℕ → ℕ) → at ≤ n → ((k : ℕ) → k < at → g k ≡ f k) → g at ≡ x
+    → ((k : ℕ) → at ≤ k → k < n → g (suc k) ≡ f k) → sum (suc n) g ≡ sum n f + x
+unfolding sum
+sum-put-in zero at x f g l below here above =
+    let e : at ≡ 0 = omega arith in
+    let h : g 0 ≡ x = rw e at here in
+    omega arith
+sum-put-in (suc n) at x f g l below here above =
+    go (last-or-below (suc n) at (omega arith)) (λ k. sum-put-in n at x f g k below here (λ i a b. above i a (omega arith)))
+  where
+    go : (at ≡ suc n) ⊎ (at < suc n) → (at ≤ n → sum (suc n) g ≡ sum n f + x) → sum (suc n) g + g (suc n) ≡ sum (suc n) f + x
+    go (inl e) h =
+        let same = sum-same (suc n) g f (λ k m. below k (omega arith)) in
+        let last : g (suc n) ≡ x = rw e at here in
+        omega arith
+    go (inr k) h = omega (arith, h (omega arith), above n (omega arith) (le-refl _))

@@ -1,0 +1,4 @@
+-- The laws of part-plans in code, for the proofs here and in the crates above.
+pub mod Profiles
+pub mod Inserts
+pub mod Parts

@@ -1,0 +1,287 @@
+-- The part-plan in code and the theory's: which jobs may come next, when they start, and the part-plan with one job more.
+use mathlib.Core.Path.{_≡_, refl, sym, ap, ap₂, _∙_, subst}
+use mathlib.Core.Logic.{_⊎_, inl, inr}
+use mathlib.Core.Bool.{Bool, true, false, not, _&&_, _||_}
+use mathlib.Core.List.{List, [], _∷_, _++_}
+use Prim.Native.Nat.{ℕ, suc, _+_, _*_, _≤_, _<_, zero-le}
+use native.Mathlib.Omega.{arith}
+use native.Mathlib.Nat.{add-zero, not-suc-le-zero}
+use native.Mathlib.Numerals.{add-one}
+use lib.Dec.{ltb, eqb}
+use lib.Bits.{bitAnd, and-comm}
+use lib.Count.{ones}
+use lib.ListN.{length, getD, take, set, length-set, length-replicate, getD-replicate}
+use lib.Pow.{pow-pos}
+use lib.Seq.{getD-set-same, getD-set-other, take-suc-set}
+use borrow.Author.Tests.{eqb-true, eqb-false, eq-eqb}
+use Rattle.counting.specs.Counting.{only, sum, count}
+use Rattle.counting.proofs.Tests.{true-or-false, clash, same-test, and-left, and-right, and-both}
+use Rattle.counting.proofs.Sums.{sum-same, sum-zero, sum-add, sum-single, le-sum}
+use Rattle.counting.proofs.Ranges.{largest-same}
+use Rattle.counting.proofs.Counts.{count-same, count-not, count-full}
+use Rattle.bits.specs.Bits.{bit, withoutBit}
+use Rattle.bits.proofs.Members.{bit-without, without-le}
+use Rattle.bits.proofs.Sets.{and-empty, empty-and, all-bits}
+use Rattle.bits.proofs.Ones.{ones-count, ones-without, ones-ones}
+use Rattle.schedule.specs.Plan.{Sheet, finish}
+use Rattle.schedule.specs.ListPlan.{PartPlan, ready, occupies, notBefore, startOf, place, placeAll, partOf}
+use Rattle.schedule.proofs.Starts.{Ready, ready-says, ready-when, start-may, not-before-le}
+use Rattle.schedule.proofs.Sound.{Sound, part-sound}
+use Rattle.schedule.proofs.Occupied.{occupied, room-sum}
+use Rattle.schedule.proofs.Jumps.{start-here}
+use Rattle.schedule.proofs.Horizon.{ends-within}
+use Rattle.schedule.proofs.Prefixes.{part-count, part-more, follows-more}
+use Rattle.tables.specs.Tables.{sheetOf, Fit}
+use Rattle.tables.proofs.Laws.{all-minutes}
+use Rattle.placement.specs.declared.Part.{Part}
+use Rattle.placement.specs.Profile.{heldAt, heldFrom}
+use Rattle.placement.specs.Part.{waits, StartFor, Figures, IsPart, Placeable, Placed, isReady, firstPart}
+use Rattle.placement.proofs.Inserts.{inserted-held}
+
+not-true-false : (b : Bool) → not b ≡ true → b ≡ false
+not-true-false true e = sym e
+not-true-false false e = refl
+
+not-false-true : (b : Bool) → not b ≡ false → b ≡ true
+not-false-true true e = refl
+not-false-true false e = sym e
+
+module _ (need minutes earlier : List ℕ) (jobs modules : ℕ) (fit : Fit need minutes jobs modules) where
+  abbrev S : Sheet
+  S = sheetOf need minutes earlier jobs modules
+
+  -- ---- the part-plan without jobs
+
+  pub first-is : IsPart S [] (firstPart need minutes jobs modules)
+  unfolding firstPart placeAll heldAt heldFrom sum occupied
+  first-is = record {
+    word = refl;
+    follows = tt;
+    figures = record {
+      low = omega (arith, pow-pos jobs);
+      set = λ i l. all-bits jobs i l;
+      sizes = omega (arith, ones-ones jobs);
+      last = refl;
+      ends = λ i l. getD-replicate 20 i 0 0 (omega (arith, fit .few));
+      left = refl;
+      profile = record {
+        sorted = λ i k l m. absurd (not-suc-le-zero m);
+        few = zero-le;
+        inside = zero-le;
+        ended = λ k l. absurd (not-suc-le-zero l);
+        rest = add-zero modules;
+      };
+      occupied = λ t. sym (sum-zero jobs);
+      ends-length = length-replicate {A = ℕ} 20 0;
+      until-length = length-replicate {A = ℕ} 20 0;
+      held-length = length-replicate {A = ℕ} 20 0;
+      order-length = length-replicate {A = ℕ} 20 0;
+    };
+  }
+
+  module _ (p : Part) (w : List ℕ) (is : IsPart S w p) where
+    abbrev P : PartPlan
+    P = partOf S w
+
+    abbrev F : Figures S P p
+    F = is .figures
+
+    sound : Sound S P
+    sound = part-sound S (fit .narrow) w (is .follows)
+
+    -- ---- how many jobs are left
+
+    pub left-count : length w + ones (p .unplaced) ≡ jobs
+    left-count =
+        let a = ones-count jobs (p .unplaced) (F .low) in
+        let b = count-same jobs (bit (p .unplaced)) (λ i. not (P .placed i)) (F .set) in
+        omega (arith, count-not jobs (P .placed), part-count S w (is .follows))
+
+    pub all-placed : ones (p .unplaced) ≡ 0 → (i : ℕ) → i < jobs → P .placed i ≡ true
+    all-placed z i l = count-full jobs (P .placed) (omega (arith, left-count, part-count S w (is .follows))) i l
+
+    -- ---- which jobs may come next
+
+    module _ (j : ℕ) (l : j < jobs) where
+      follow-ready : isReady earlier (p .unplaced) j ≡ true → ready S (P .placed) j ≡ true
+      follow-ready e =
+          let a = and-left (bit (p .unplaced) j) _ e in
+          let z : bitAnd (getD earlier j 0) (p .unplaced) ≡ 0 = eqb-true _ 0 (and-right (bit (p .unplaced) j) _ e) in
+          ready-when S (P .placed) j (record {
+            job = l;
+            new = not-true-false (P .placed j) (sym (F .set j l) ∙ a);
+            after = λ i k b. not-false-true (P .placed i) (sym (F .set i k) ∙ and-empty (getD earlier j 0) (p .unplaced) z i b);
+          })
+
+      ready-follow : ready S (P .placed) j ≡ true → isReady earlier (p .unplaced) j ≡ true
+      ready-follow e =
+          let r = ready-says S (P .placed) j e in
+          let z : bitAnd (p .unplaced) (getD earlier j 0) ≡ 0 =
+          empty-and jobs (p .unplaced) (getD earlier j 0) (F .low) (λ i k u. none r i k u (true-or-false (bit (getD earlier j 0) i))) in
+          and-both (bit (p .unplaced) j) _ (F .set j l ∙ ap not (r .new)) (eq-eqb _ 0 (and-comm (getD earlier j 0) (p .unplaced) ∙ z))
+        where
+          none : Ready S (P .placed) j → (i : ℕ) → i < jobs → bit (p .unplaced) i ≡ true
+              → (bit (getD earlier j 0) i ≡ true) ⊎ (bit (getD earlier j 0) i ≡ false) → bit (getD earlier j 0) i ≡ false
+          none r i k u (inr b) = b
+          none r i k u (inl b) = clash (not (P .placed i)) (sym (F .set i k) ∙ u) (ap not (r .after i k b))
+
+      -- the code's test is the theory's
+      pub ready-is : isReady earlier (p .unplaced) j ≡ ready S (P .placed) j
+      ready-is = same-test _ _ follow-ready ready-follow
+
+    -- ---- when a job that may come next starts
+
+    module _ (j : ℕ) (r : ready S (P .placed) j ≡ true) where
+      abbrev R : Ready S (P .placed) j
+      R = ready-says S (P .placed) j r
+
+      pub waits-is : waits (p .ends) (getD earlier j 0) jobs (p .last) ≡ notBefore S P j
+      waits-is =
+          let q = largest-same jobs (λ i. only (bit (getD earlier j 0) i) (getD (p .ends) i 0))
+          (λ i. only (S .before i j) (finish S (P .plan) i)) (λ i l. one i l (true-or-false (S .before i j))) in
+          omega (arith, F .last)
+        where
+          one : (i : ℕ) → i < jobs → (S .before i j ≡ true) ⊎ (S .before i j ≡ false)
+              → only (S .before i j) (getD (p .ends) i 0) ≡ only (S .before i j) (finish S (P .plan) i)
+          one i l (inl e) = rw (e, F .ends i l, R .after i l e)
+          one i l (inr e) = rw e
+
+      pub start-is : (t : ℕ)
+          → StartFor (p .ends) (p .until) (p .held) (p .placed) modules (p .last) jobs (getD earlier j 0) (getD need j 0) t
+          → t ≡ startOf S P j
+      start-is t f =
+          let g = start-may S P j (fit .narrow j (R .job)) in
+          let low = not-before-le S P j (startOf S P j) (g .later) (g .arrived) (g .after) in
+          let room : heldAt (p .until) (p .held) (p .placed) (startOf S P j) + getD need j 0 ≤ modules =
+          omega (arith, F .occupied (startOf S P j), room-sum S P sound j (startOf S P j) g) in
+          sym (start-here S P sound j t (omega (arith, f .from, waits-is)) (f .first (startOf S P j) (omega (arith, waits-is)) room)
+          (omega (arith, F .occupied t, f .room)))
+
+      -- no minute of a plan reaches 28,801
+      pub start-short : startOf S P j + getD minutes j 0 ≤ 28800
+      start-short =
+          let s = part-more S w j in
+          let self : eqb j j ≡ true = eq-eqb j j refl in
+          let placed : partOf S (w ++ (j ∷ [])) .placed j ≡ true = subst (λ (X : PartPlan). X .placed j ≡ true) (sym s) (rw self) in
+          let end : finish S (partOf S (w ++ (j ∷ [])) .plan) j ≡ startOf S P j + getD minutes j 0 =
+          subst (λ (X : PartPlan). finish S (X .plan) j ≡ startOf S P j + getD minutes j 0) (sym s) (rw self) in
+          let h = ends-within S (fit .narrow) 0 (λ i l. zero-le) (w ++ (j ∷ [])) (follows-more S w j (is .follows) r) j (R .job) placed in
+          let flat = sum-same jobs (λ i. getD minutes i 0 + 0) (λ i. getD minutes i 0) (λ i l. add-zero (getD minutes i 0)) in
+          omega (arith, all-minutes need minutes jobs modules fit)
+
+      -- ---- the part-plan with it
+
+      unplaced-yet : bit (p .unplaced) j ≡ true
+      unplaced-yet = F .set j (R .job) ∙ ap not (R .new)
+
+      area-le : getD need j 0 * getD minutes j 0 ≤ p .left
+      area-le =
+          let one : getD need j 0 * getD minutes j 0 ≤ sum jobs (λ i. only (not (P .placed i)) (S .need i * S .minutes i)) =
+          rw (R .new) at (le-sum jobs (λ i. only (not (P .placed i)) (S .need i * S .minutes i)) j (R .job)) in
+          omega (arith, F .left)
+
+      pub placeable : Placeable p j (startOf S P j) (getD need j 0) (getD minutes j 0) modules
+      placeable =
+          let g = start-may S P j (fit .narrow j (R .job)) in
+          record {
+            job = omega (arith, R .job, fit .few);
+            count = omega (arith, F .sizes, fit .few, ones-without (p .unplaced) j unplaced-yet);
+            later = omega (arith, F .last, g .later);
+            lasts = fit .lasting j (R .job);
+            fits = omega (arith, start-short);
+            most = fit .most;
+            profile = F .profile;
+            room = omega (arith, F .occupied (startOf S P j), room-sum S P sound j (startOf S P j) g);
+            area = area-le;
+            until-length = F .until-length;
+            held-length = F .held-length;
+          }
+
+      pub fewer : suc (ones (withoutBit (p .unplaced) j)) ≡ ones (p .unplaced)
+      fewer = ones-without (p .unplaced) j unplaced-yet
+
+      abbrev Q : PartPlan
+      Q = place S P j (startOf S P j)
+
+      module _ (q : Part) (h : Placed p j (startOf S P j) (getD need j 0) (getD minutes j 0) modules q) where
+        next-set : (i : ℕ) → i < jobs → bit (q .unplaced) i ≡ not (Q .placed i)
+        next-set i l =
+            ap (λ (x : ℕ). bit x i) (h .unplaced) ∙ bit-without (p .unplaced) j i ∙ ap (λ b. b && not (eqb i j)) (F .set i l)
+            ∙ neither (eqb i j) (P .placed i)
+          where
+            neither : (a b : Bool) → (not b && not a) ≡ not (a || b)
+            neither true true = refl
+            neither true false = refl
+            neither false true = refl
+            neither false false = refl
+
+        next-ends : (i : ℕ) → i < jobs → (b : Bool) → eqb i j ≡ b → getD (q .ends) i 0 ≡ only (Q .placed i) (finish S (Q .plan) i)
+        next-ends i l true e =
+            let y : i ≡ j = eqb-true i j e in
+            rw (e, h .ends) (ap (λ (k : ℕ). getD (set (p .ends) j (startOf S P j + getD minutes j 0)) k 0) y
+            ∙ getD-set-same (p .ends) j (startOf S P j + getD minutes j 0) 0 (omega (arith, F .ends-length, R .job, fit .few))
+            ∙ ap (λ (k : ℕ). startOf S P j + getD minutes k 0) (sym y))
+        next-ends i l false e =
+            rw (e, h .ends) (getD-set-other (p .ends) j i (startOf S P j + getD minutes j 0) 0 (eqb-false i j e) ∙ F .ends i l)
+
+        next-left : q .left ≡ sum jobs (λ i. only (not (Q .placed i)) (S .need i * S .minutes i))
+        next-left =
+            let f : ℕ → ℕ = λ i. S .need i * S .minutes i in
+            let parts = sum-same jobs (λ i. only (not (P .placed i)) (f i))
+            (λ i. only (eqb i j) (f i) + only (not (Q .placed i)) (f i)) (λ i l. one i (eqb i j) refl) in
+            let split = sum-add jobs (λ i. only (eqb i j) (f i)) (λ i. only (not (Q .placed i)) (f i)) in
+            omega (arith, h .left, F .left, area-le, sum-single jobs f j (R .job))
+          where
+            one : (i : ℕ) (b : Bool) → eqb i j ≡ b
+                → only (not (P .placed i)) (S .need i * S .minutes i)
+                ≡ only (eqb i j) (S .need i * S .minutes i) + only (not (Q .placed i)) (S .need i * S .minutes i)
+            one i true e = let n : P .placed i ≡ false = rw (eqb-true i j e) (R .new) in rw (e, n) (omega arith)
+            one i false e = rw e (omega arith)
+
+        next-occupied : (t : ℕ) → heldAt (q .until) (q .held) (q .placed) t ≡ occupied S Q t
+        unfolding occupied
+        next-occupied t =
+            let parts = sum-same jobs (λ i. only (occupies S Q t i) (S .need i))
+            (λ i. only (occupies S P t i) (S .need i) + only (eqb i j) (only (ltb t (startOf S P j + getD minutes j 0)) (S .need i)))
+            (λ i l. one i (eqb i j) refl) in
+            let split = sum-add jobs (λ i. only (occupies S P t i) (S .need i))
+            (λ i. only (eqb i j) (only (ltb t (startOf S P j + getD minutes j 0)) (S .need i))) in
+            let self = sum-single jobs (λ i. only (ltb t (startOf S P j + getD minutes j 0)) (S .need i)) j (R .job) in
+            rw (h .placed) (omega (arith, inserted-held (h .lists) t, F .occupied t))
+          where
+            one : (i : ℕ) (b : Bool) → eqb i j ≡ b
+                → only (occupies S Q t i) (S .need i)
+                ≡ only (occupies S P t i) (S .need i) + only (eqb i j) (only (ltb t (startOf S P j + getD minutes j 0)) (S .need i))
+            one i true e =
+                let n : P .placed i ≡ false = rw (eqb-true i j e) (R .new) in
+                let z : startOf S P j + getD minutes i 0 + 0 ≡ startOf S P j + getD minutes j 0 =
+                add-zero _ ∙ ap (λ (k : ℕ). startOf S P j + getD minutes k 0) (eqb-true i j e) in
+                rw (e, n, z) (omega arith)
+            one i false e = rw e (omega arith)
+
+        figures : Figures S Q q
+        figures = record {
+          low = omega (arith, h .unplaced, without-le (p .unplaced) j, F .low);
+          set = next-set;
+          sizes = omega (arith, h .placed, ap ones (h .unplaced), fewer, F .sizes);
+          last = h .last;
+          ends = λ i l. next-ends i l (eqb i j) refl;
+          left = next-left;
+          profile = rw (h .last) (h .profile);
+          occupied = next-occupied;
+          ends-length = ap length (h .ends) ∙ length-set (p .ends) j (startOf S P j + getD minutes j 0) ∙ F .ends-length;
+          until-length = h .lists .until-length;
+          held-length = h .lists .held-length;
+          order-length = ap length (h .order) ∙ length-set (p .order) (p .placed) j ∙ F .order-length;
+        }
+
+        -- Placing a job that may come next gives the theory's part-plan with it.
+        pub placed-part : IsPart S (w ++ (j ∷ [])) q
+        placed-part = record {
+          word =
+              let l : p .placed < length (p .order) = omega (arith, F .order-length, placeable .count) in
+              ap₂ (λ (k : ℕ) (x : List ℕ). take k x) (h .placed ∙ add-one (p .placed)) (h .order) ∙ take-suc-set (p .order) (p .placed) j l
+              ∙ ap (λ (x : List ℕ). x ++ (j ∷ [])) (is .word);
+          follows = follows-more S w j (is .follows) r;
+          figures = subst (λ (X : PartPlan). Figures S X q) (sym (part-more S w j)) figures;
+        }

@@ -1,0 +1,3 @@
+-- What a part-plan in code is.
+pub mod Profile
+pub mod Part

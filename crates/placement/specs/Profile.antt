@@ -1,0 +1,53 @@
+-- The placed jobs sorted by their ends: the k-th ends at until k and then gives back held k modules.
+use mathlib.Core.Path.{_≡_}
+use mathlib.Core.List.{List}
+use Prim.Native.Nat.{ℕ, _+_, _≤_, _<_}
+use lib.Dec.{ltb, leb}
+use lib.ListN.{length, getD}
+use Rattle.counting.specs.Counting.{only, sum}
+use Rattle.placement.specs.declared.Ended.{Ended}
+
+-- the modules that are held at minute t
+unfoldable pub heldAt : List ℕ → List ℕ → ℕ → ℕ → ℕ
+heldAt until held count t = sum count (λ k. only (ltb t (getD until k 0)) (getD held k 0))
+
+-- the modules of the i-th and all later ones
+unfoldable pub heldFrom : List ℕ → ℕ → ℕ → ℕ
+heldFrom held count i = sum count (λ k. only (leb i k) (getD held k 0))
+
+abbrev pub Sorted : List ℕ → ℕ → Type 0
+Sorted until count = (i k : ℕ) → i ≤ k → k < count → getD until i 0 ≤ getD until k 0
+
+-- the first of them, `gone` in number, have ended by minute t, and so many modules are free then of `modules`
+pub record Profile (until held : List ℕ) (count gone free modules t : ℕ) : Type 0 where
+  pub sorted : Sorted until count
+  pub few : count ≤ 20
+  pub inside : gone ≤ count
+  pub ended : (k : ℕ) → k < gone → getD until k 0 ≤ t
+  pub rest : free + heldFrom held count gone ≡ modules
+
+-- r is the first minute from t on at which `want` modules are free
+pub record FirstRoom (until held : List ℕ) (count modules want t r : ℕ) : Type 0 where
+  pub from : t ≤ r
+  pub room : heldAt until held count r + want ≤ modules
+  pub first : (u : ℕ) → t ≤ u → heldAt until held count u + want ≤ modules → r ≤ u
+
+-- r says how many have ended by minute t, and none of the others has
+pub record EndedBy (until held : List ℕ) (count modules t : ℕ) (r : Ended) : Type 0 where
+  pub profile : Profile until held count (r .gone) (r .free) modules t
+  pub live : (k : ℕ) → r .gone ≤ k → k < count → t < getD until k 0
+
+-- a job that ends at `end` and holds `width` modules is put in its place among the others
+pub record Inserted (until held until′ held′ : List ℕ) (count end width : ℕ) : Type 0 where
+  pub at : ℕ
+  pub inside : at ≤ count
+  pub lower : (k : ℕ) → k < at → getD until k 0 ≤ end
+  pub upper : (k : ℕ) → at ≤ k → k < count → end < getD until k 0
+  pub until-below : (k : ℕ) → k < at → getD until′ k 0 ≡ getD until k 0
+  pub held-below : (k : ℕ) → k < at → getD held′ k 0 ≡ getD held k 0
+  pub until-here : getD until′ at 0 ≡ end
+  pub held-here : getD held′ at 0 ≡ width
+  pub until-above : (k : ℕ) → at ≤ k → k < count → getD until′ (k + 1) 0 ≡ getD until k 0
+  pub held-above : (k : ℕ) → at ≤ k → k < count → getD held′ (k + 1) 0 ≡ getD held k 0
+  pub until-length : length until′ ≡ 20
+  pub held-length : length held′ ≡ 20

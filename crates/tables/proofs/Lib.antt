@@ -1,0 +1,2 @@
+-- Laws of job tables.
+pub mod Laws

@@ -1,0 +1,2 @@
+-- A job sheet as tables of numbers.
+pub mod Tables
