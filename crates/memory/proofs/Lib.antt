@@ -1,0 +1,2 @@
+-- Laws of working memory.
+pub mod Slots

@@ -1,0 +1,2 @@
+-- What working memory holds.
+pub mod Entries

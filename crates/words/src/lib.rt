@@ -1,0 +1,41 @@
+// Numbers of several bytes, little-endian, in byte slices.
+ghost use mathlib.Core.Path.{_≡_};
+ghost use Prim.Native.Nat.{_+_, _≤_};
+ghost use lib.ListN.{length};
+ghost use Rattle.words.specs.Words.{u16-at, u32-at, Wrote};
+
+// A byte as a wider number; the contract hands its bound to the callers.
+fn wide(x: u8) -> u32
+    ensures { λ r. ⌜ (r ≡ x) × (r ≤ 255) ⌝ }
+{
+    x as u32
+}
+
+// The 16-bit number at a place.
+pub fn read16(s: &[u8], at: usize) -> u16
+    requires { ⌜ at + 2 ≤ length (now s) ⌝ }
+    ensures { λ r. ⌜ r ≡ u16-at (now (s .entry)) at ⌝ }
+{
+    let low = wide(s[at]);
+    let high = wide(s[at + 1]);
+    (low + high * 256) as u16
+}
+
+// The 32-bit number at a place.
+pub fn read32(s: &[u8], at: usize) -> u32
+    requires { ⌜ at + 4 ≤ length (now s) ⌝ }
+    ensures { λ r. ⌜ r ≡ u32-at (now (s .entry)) at ⌝ }
+{
+    let low = read16(s, at) as u32;
+    let high = read16(s, at + 2) as u32;
+    low + high * 65536
+}
+
+// Writes a 16-bit number at a place.
+pub fn write16(s: &mut [u8], at: usize, x: u16)
+    requires { ⌜ at + 2 ≤ length (now s) ⌝ }
+    ensures { λ _. ⌜ Wrote (now (s .entry)) (now (s .exit)) at x ⌝ }
+{
+    s[at] = (x % 256) as u8;
+    s[at + 1] = (x / 256) as u8;
+}
