@@ -8,8 +8,8 @@ use native.Mathlib.Nat.{le-refl}
 use lib.Dec.{ltb, eqb}
 use borrow.Author.Tests.{ltb-true, ltb-false}
 use Rattle.counting.specs.Counting.{only, sum, any, count}
-use Rattle.counting.proofs.Tests.{true-or-false, last-or-below, only-le, only-mono}
-use Rattle.counting.proofs.Sums.{sum-le, sum-same, sum-zero, le-sum, sum-insert}
+use Rattle.counting.proofs.Tests.{true-or-false, only-le, only-mono}
+use Rattle.counting.proofs.Sums.{sum-le, sum-same, sum-zero, le-sum, sum-up, sum-insert}
 
 pub count-le : (n : ℕ) (p : ℕ → Bool) → count n p ≤ n
 unfolding sum
@@ -18,13 +18,7 @@ count-le (suc n) p = omega (arith, count-le n p, only-le (p n) 1)
 
 -- more numbers, no lower a count
 pub count-up : (m n : ℕ) (p : ℕ → Bool) → m ≤ n → count m p ≤ count n p
-unfolding sum
-count-up m zero p l = let e : m ≡ 0 = omega arith in rw e (le-refl 0)
-count-up m (suc n) p l = go (last-or-below (suc n) m (omega arith)) (count-up m n p)
-  where
-    go : (m ≡ suc n) ⊎ (m < suc n) → (m ≤ n → count m p ≤ count n p) → count m p ≤ count n p + only (p n) 1
-    go (inl e) h = rw e (le-refl _)
-    go (inr k) h = omega (arith, h (omega arith))
+count-up m n p l = sum-up m n (λ i. only (p i) 1) l
 
 pub count-mono : (n : ℕ) (p q : ℕ → Bool) → ((i : ℕ) → i < n → p i ≡ true → q i ≡ true) → count n p ≤ count n q
 count-mono n p q h = sum-le n _ _ (λ i l. only-mono (p i) (q i) 1 (h i l))

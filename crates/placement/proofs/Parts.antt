@@ -3,9 +3,9 @@ use mathlib.Core.Path.{_≡_, refl, sym, ap, ap₂, _∙_, subst}
 use mathlib.Core.Logic.{_⊎_, inl, inr}
 use mathlib.Core.Bool.{Bool, true, false, not, _&&_, _||_}
 use mathlib.Core.List.{List, [], _∷_, _++_}
-use Prim.Native.Nat.{ℕ, suc, _+_, _*_, _≤_, _<_, zero-le}
+use Prim.Native.Nat.{ℕ, suc, _+_, _-_, _*_, _≤_, _<_, zero-le}
 use native.Mathlib.Omega.{arith}
-use native.Mathlib.Nat.{add-zero, not-suc-le-zero}
+use native.Mathlib.Nat.{le-trans, mul-le-mul-left, mul-le-mul-right, add-zero, not-suc-le-zero}
 use native.Mathlib.Numerals.{add-one}
 use lib.Dec.{ltb, eqb}
 use lib.Bits.{bitAnd, and-comm}
@@ -15,9 +15,9 @@ use lib.Pow.{pow-pos}
 use lib.Seq.{getD-set-same, getD-set-other, take-suc-set}
 use borrow.Author.Tests.{eqb-true, eqb-false, eq-eqb}
 use Rattle.counting.specs.Counting.{only, sum, count}
-use Rattle.counting.proofs.Tests.{true-or-false, clash, same-test, and-left, and-right, and-both}
-use Rattle.counting.proofs.Sums.{sum-same, sum-zero, sum-add, sum-single, le-sum}
-use Rattle.counting.proofs.Ranges.{largest-same}
+use Rattle.counting.proofs.Tests.{true-or-false, clash, only-le, same-test, and-left, and-right, and-both}
+use Rattle.counting.proofs.Sums.{sum-same, sum-zero, sum-add, sum-single, sum-most, le-sum}
+use Rattle.counting.proofs.Ranges.{largest-le, largest-same}
 use Rattle.counting.proofs.Counts.{count-same, count-not, count-full}
 use Rattle.bits.specs.Bits.{bit, withoutBit}
 use Rattle.bits.proofs.Members.{bit-without, without-le}
@@ -32,11 +32,11 @@ use Rattle.schedule.proofs.Jumps.{start-here}
 use Rattle.schedule.proofs.Horizon.{ends-within}
 use Rattle.schedule.proofs.Prefixes.{part-count, part-more, follows-more}
 use Rattle.tables.specs.Tables.{sheetOf, Fit}
-use Rattle.tables.proofs.Laws.{all-minutes}
+use Rattle.tables.proofs.Laws.{job-area, all-minutes}
 use Rattle.placement.specs.declared.Part.{Part}
-use Rattle.placement.specs.Profile.{heldAt, heldFrom}
+use Rattle.placement.specs.Profile.{heldAt, heldAfter, heldFrom}
 use Rattle.placement.specs.Part.{waits, StartFor, Figures, IsPart, Placeable, Placed, isReady, firstPart}
-use Rattle.placement.proofs.Inserts.{inserted-held}
+use Rattle.placement.proofs.Inserts.{inserted-held, inserted-after}
 
 not-true-false : (b : Bool) → not b ≡ true → b ≡ false
 not-true-false true e = sym e
@@ -53,7 +53,7 @@ module _ (need minutes earlier : List ℕ) (jobs modules : ℕ) (fit : Fit need 
   -- ---- the part-plan without jobs
 
   pub first-is : IsPart S [] (firstPart need minutes jobs modules)
-  unfolding firstPart placeAll heldAt heldFrom sum occupied
+  unfolding firstPart placeAll heldAt heldAfter heldFrom sum occupied
   first-is = record {
     word = refl;
     follows = tt;
@@ -72,6 +72,7 @@ module _ (need minutes earlier : List ℕ) (jobs modules : ℕ) (fit : Fit need 
         rest = add-zero modules;
       };
       occupied = λ t. sym (sum-zero jobs);
+      after = λ t. sym (sum-zero jobs);
       ends-length = length-replicate {A = ℕ} 20 0;
       until-length = length-replicate {A = ℕ} 20 0;
       held-length = length-replicate {A = ℕ} 20 0;
@@ -99,6 +100,45 @@ module _ (need minutes earlier : List ℕ) (jobs modules : ℕ) (fit : Fit need 
 
     pub all-placed : ones (p .unplaced) ≡ 0 → (i : ℕ) → i < jobs → P .placed i ≡ true
     all-placed z i l = count-full jobs (P .placed) (omega (arith, left-count, part-count S w (is .follows))) i l
+
+    -- ---- how large the figures are
+
+    -- no minute of a plan reaches 28,801
+    pub end-short : (i : ℕ) → i < jobs → P .placed i ≡ true → finish S (P .plan) i ≤ 28800
+    end-short i l e =
+        let h = ends-within S (fit .narrow) 0 (λ i l. zero-le) w (is .follows) i l e in
+        let flat = sum-same jobs (λ i. getD minutes i 0 + 0) (λ i. getD minutes i 0) (λ i l. add-zero (getD minutes i 0)) in
+        omega (arith, all-minutes need minutes jobs modules fit)
+
+    only-short : (i : ℕ) → i < jobs → (P .placed i ≡ true) ⊎ (P .placed i ≡ false) → only (P .placed i) (finish S (P .plan) i) ≤ 28800
+    only-short i l (inl e) = rw e (end-short i l e)
+    only-short i l (inr e) = rw e zero-le
+
+    pub last-short : p .last ≤ 28800
+    last-short =
+        let ends = largest-le jobs (λ i. only (P .placed i) (finish S (P .plan) i)) 28800 (λ i l. only-short i l (true-or-false (P .placed i))) in
+        omega (arith, F .last, sound .ended)
+
+    pub after-small : (t : ℕ) → heldAfter (p .until) (p .held) (p .placed) t ≤ 40000000
+    after-small t =
+        let most = sum-most jobs (λ i. only (P .placed i) (S .need i * (finish S (P .plan) i - t))) (64 * 28800)
+        (λ i l. one i l (true-or-false (P .placed i))) in
+        let all : jobs * (64 * 28800) ≤ 20 * (64 * 28800) = mul-le-mul-right (64 * 28800) (fit .few) in
+        omega (arith, F .after t)
+      where
+        one : (i : ℕ) → i < jobs → (P .placed i ≡ true) ⊎ (P .placed i ≡ false)
+            → only (P .placed i) (S .need i * (finish S (P .plan) i - t)) ≤ 64 * 28800
+        one i l (inr e) = rw e zero-le
+        one i l (inl e) =
+            let w : getD need i 0 ≤ 64 = omega (arith, fit .narrow i l, fit .most) in
+            rw e (le-trans (mul-le-mul-left (getD need i 0) (omega (arith, end-short i l e))) (mul-le-mul-right 28800 w))
+
+    pub left-small : p .left ≤ 2000000
+    left-small =
+        let most = sum-most jobs (λ i. only (not (P .placed i)) (S .need i * S .minutes i)) (64 * 1440)
+        (λ i l. le-trans (only-le (not (P .placed i)) (S .need i * S .minutes i)) (job-area need minutes jobs modules fit i l)) in
+        let all : jobs * (64 * 1440) ≤ 20 * (64 * 1440) = mul-le-mul-right (64 * 1440) (fit .few) in
+        omega (arith, F .left)
 
     -- ---- which jobs may come next
 
@@ -157,7 +197,6 @@ module _ (need minutes earlier : List ℕ) (jobs modules : ℕ) (fit : Fit need 
           sym (start-here S P sound j t (omega (arith, f .from, waits-is)) (f .first (startOf S P j) (omega (arith, waits-is)) room)
           (omega (arith, F .occupied t, f .room)))
 
-      -- no minute of a plan reaches 28,801
       pub start-short : startOf S P j + getD minutes j 0 ≤ 28800
       start-short =
           let s = part-more S w j in
@@ -259,6 +298,22 @@ module _ (need minutes earlier : List ℕ) (jobs modules : ℕ) (fit : Fit need 
                 rw (e, n, z) (omega arith)
             one i false e = rw e (omega arith)
 
+        next-after : (t : ℕ) → heldAfter (q .until) (q .held) (q .placed) t
+            ≡ sum jobs (λ i. only (Q .placed i) (S .need i * (finish S (Q .plan) i - t)))
+        next-after t =
+            let f : ℕ → ℕ = λ i. S .need i * (startOf S P j + S .minutes i - t) in
+            let parts = sum-same jobs (λ i. only (Q .placed i) (S .need i * (finish S (Q .plan) i - t)))
+            (λ i. only (P .placed i) (S .need i * (finish S (P .plan) i - t)) + only (eqb i j) (f i)) (λ i l. one i (eqb i j) refl) in
+            let split = sum-add jobs (λ i. only (P .placed i) (S .need i * (finish S (P .plan) i - t))) (λ i. only (eqb i j) (f i)) in
+            rw (h .placed) (omega (arith, inserted-after (h .lists) t, F .after t, sum-single jobs f j (R .job)))
+          where
+            one : (i : ℕ) (b : Bool) → eqb i j ≡ b
+                → only (Q .placed i) (S .need i * (finish S (Q .plan) i - t))
+                ≡ only (P .placed i) (S .need i * (finish S (P .plan) i - t))
+                + only (eqb i j) (S .need i * (startOf S P j + S .minutes i - t))
+            one i true e = let n : P .placed i ≡ false = rw (eqb-true i j e) (R .new) in rw (e, n) (omega arith)
+            one i false e = rw e (omega arith)
+
         figures : Figures S Q q
         figures = record {
           low = omega (arith, h .unplaced, without-le (p .unplaced) j, F .low);
@@ -269,6 +324,7 @@ module _ (need minutes earlier : List ℕ) (jobs modules : ℕ) (fit : Fit need 
           left = next-left;
           profile = rw (h .last) (h .profile);
           occupied = next-occupied;
+          after = next-after;
           ends-length = ap length (h .ends) ∙ length-set (p .ends) j (startOf S P j + getD minutes j 0) ∙ F .ends-length;
           until-length = h .lists .until-length;
           held-length = h .lists .held-length;

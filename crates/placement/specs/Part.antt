@@ -13,7 +13,7 @@ use Rattle.schedule.specs.Plan.{Sheet, finish}
 use Rattle.schedule.specs.ListPlan.{PartPlan, noJobs, Follows, partOf}
 use Rattle.schedule.proofs.Occupied.{occupied}
 use Rattle.placement.specs.declared.Part.{Part}
-use Rattle.placement.specs.Profile.{heldAt, Profile, FirstRoom, Inserted}
+use Rattle.placement.specs.Profile.{heldAt, heldAfter, Profile, FirstRoom, Inserted}
 
 -- the jobs in the order in which they were placed
 abbrev pub wordOf : Part → List ℕ
@@ -33,6 +33,8 @@ pub record Figures (S : Sheet) (P : PartPlan) (p : Part) : Type 0 where
   pub left : p .left ≡ sum (S .jobs) (λ i. only (not (P .placed i)) (S .need i * S .minutes i))
   pub profile : Profile (p .until) (p .held) (p .placed) (p .gone) (p .free) (S .modules) (p .last)
   pub occupied : (t : ℕ) → heldAt (p .until) (p .held) (p .placed) t ≡ occupied S P t
+  pub after : (t : ℕ) → heldAfter (p .until) (p .held) (p .placed) t
+      ≡ sum (S .jobs) (λ i. only (P .placed i) (S .need i * (finish S (P .plan) i - t)))
   pub ends-length : length (p .ends) ≡ 20
   pub until-length : length (p .until) ≡ 20
   pub held-length : length (p .held) ≡ 20

@@ -1,7 +1,7 @@
 -- The placed jobs sorted by their ends: the k-th ends at until k and then gives back held k modules.
 use mathlib.Core.Path.{_≡_}
 use mathlib.Core.List.{List}
-use Prim.Native.Nat.{ℕ, _+_, _≤_, _<_}
+use Prim.Native.Nat.{ℕ, _+_, _-_, _*_, _≤_, _<_}
 use lib.Dec.{ltb, leb}
 use lib.ListN.{length, getD}
 use Rattle.counting.specs.Counting.{only, sum}
@@ -10,6 +10,10 @@ use Rattle.placement.specs.declared.Ended.{Ended}
 -- the modules that are held at minute t
 unfoldable pub heldAt : List ℕ → List ℕ → ℕ → ℕ → ℕ
 heldAt until held count t = sum count (λ k. only (ltb t (getD until k 0)) (getD held k 0))
+
+-- the module-minutes that are held from minute t on
+unfoldable pub heldAfter : List ℕ → List ℕ → ℕ → ℕ → ℕ
+heldAfter until held count t = sum count (λ k. getD held k 0 * (getD until k 0 - t))
 
 -- the modules of the i-th and all later ones
 unfoldable pub heldFrom : List ℕ → ℕ → ℕ → ℕ

@@ -1,0 +1,5 @@
+-- The laws of the search.
+pub mod Candidates
+pub mod Areas
+pub mod Recalls
+pub mod Turns

@@ -1,0 +1,2 @@
+-- What the search knows and keeps.
+pub mod Search
