@@ -3,3 +3,6 @@ pub mod Candidates
 pub mod Areas
 pub mod Recalls
 pub mod Turns
+pub mod Chaining
+pub mod Choices
+pub mod Whole

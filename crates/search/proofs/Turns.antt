@@ -55,10 +55,10 @@ module _ (need minutes earlier tails : List ℕ) (jobs modules : ℕ) where
     -- ---- every job is placed
 
     module _ (z : ones (part .unplaced) ≡ 0) where
-      whole : Order S w
+      pub whole : Order S w
       whole = record { all = omega (arith, size); follows = known .is .follows }
 
-      end-is : largest jobs (λ i. getD (part .ends) i 0) ≡ endOf S w
+      pub end-is : largest jobs (λ i. getD (part .ends) i 0) ≡ endOf S w
       end-is = largest-same jobs _ _ (λ i l. known .is .figures .ends i l
           ∙ ap (λ b. only b (finish S (P .plan) i)) (all-placed need minutes earlier jobs modules (known .fit) part w (known .is) z i l))
 

@@ -21,12 +21,18 @@ use Rattle.placement.specs.Profile.{heldAfter}
 use Rattle.placement.specs.Part.{wordOf, IsPart}
 use Rattle.memory.specs.Entries.{set-at, last-at, end-at, entry-at}
 use Rattle.search.specs.declared.Best.{Best}
+use Rattle.search.specs.declared.Choice.{Choice}
 
 -- ---- figures of a part-plan
 
 -- the longest chain that begins with each job
 abbrev pub Tails : Sheet → List ℕ → Type 0
 Tails S tails = (j : ℕ) → j < S .jobs → getD tails j 0 ≡ chain S (S .jobs) j
+
+-- the longest chains of at most k jobs
+pub record ChainsOf (need minutes earlier : List ℕ) (jobs modules : ℕ) (tails : List ℕ) (k : ℕ) : Type 0 where
+  pub size : length tails ≡ 20
+  pub each : (j : ℕ) → j < jobs → getD tails j 0 ≡ chain (sheetOf need minutes earlier jobs modules) k j
 
 -- s is the start of job j, or 65535 where it may not come next
 pub record StartOr (S : Sheet) (P : PartPlan) (j s : ℕ) : Type 0 where
@@ -119,9 +125,21 @@ pub record Visited (need minutes earlier tails : List ℕ) (jobs modules : ℕ) 
   pub state : State need minutes earlier tails jobs modules X r memory
   pub limit : r .limit ≡ best .limit
 
--- an end that some order reaches, or 65535
+-- ---- list heuristics
+
+-- r is the choice c, or job j with this start, whichever starts earlier
+abbrev pub Chosen : Choice → ℕ → ℕ → Choice → Type 0
+Chosen c j start r = (start ≤ 65535) × (((r ≡ c) × (c .start ≤ start)) ⊎ ((r .job ≡ j) × (r .start ≡ start) × (start ≤ c .start)))
+
+-- a choice among the first n jobs; none where none of them may come next
+pub record ChoiceOf (at : List ℕ) (jobs n : ℕ) (c : Choice) : Type 0 where
+  pub none : c .start ≡ 65535 → (k : ℕ) → k < n → getD at k 0 ≡ 65535
+  pub some : c .start < 65535 → (c .job < jobs) × (getD at (c .job) 0 ≡ c .start)
+  pub low : c .start ≤ 65535
+
+-- the end of some order's list plan, or 65535 where some job would have to end before itself
 abbrev pub Reached : Sheet → ℕ → Type 0
-Reached S e = (e ≡ 65535) ⊎ ((o : List ℕ) × Order S o × (endOf S o ≡ e))
+Reached S e = ((e ≡ 65535) × Circular S) ⊎ ((o : List ℕ) × Order S o × (endOf S o ≡ e) × (e < 65535))
 
 -- a limit that some order stays below, or 65535
 abbrev pub Limit : Sheet → ℕ → Type 0

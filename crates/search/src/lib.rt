@@ -4,10 +4,12 @@ ghost use mathlib.Core.Bool.{true};
 ghost use Prim.Native.Nat.{ℕ, _+_, _-_, _*_, _<_, _≤_, min};
 ghost use lib.ListN.{length, getD, take, replicate};
 ghost use Rattle.placement.specs.Profile.{heldAfter};
-ghost use Rattle.search.specs.Search.{Known, JobStart, JobStarts, HeldAfter, SomeTooLong, Hopeless, better-of, Visiting, Visited};
+ghost use Rattle.search.specs.Search.{Known, JobStart, JobStarts, HeldAfter, SomeTooLong, Hopeless, better-of, Visiting, Visited, ChainsOf, Chosen, ChoiceOf, Reached, Limit, Answer};
 ghost use Rattle.schedule.proofs.Places.{Before, Upto, Through};
 ghost use Rattle.placement.specs.Part.{wordOf};
-ghost use Rattle.counting.specs.Counting.{largest};
+ghost use Rattle.counting.specs.Counting.{only, largest};
+ghost use Rattle.bits.specs.Bits.{bit};
+ghost use Rattle.tables.specs.Tables.{sheetOf, Fit};
 use placement::Part;
 
 // The best order so far and its end; while nothing is found, the end is the limit that an order has to stay below.
@@ -301,4 +303,206 @@ fn try_children(
         best,
         memory,
     )
+}
+
+// The chain behind a job j that ends with a job of this set of earlier jobs: its minutes, where j is in the set.
+fn behind(tail: u16, set: u32, j: usize) -> u16
+    requires { ⌜ j < 20 ⌝ }
+    ensures { λ r. ⌜ r ≡ only (bit set j) tail ⌝ }
+{
+    if bits::test32(set, j) {
+        return tail;
+    }
+    0
+}
+
+// The longest chain behind job j.
+fn longest_behind<'a>(tails: &'a [u16; 20], earlier: &[u32; 20], jobs: usize, j: usize) -> u16
+    requires { ⌜ (jobs ≤ 20) × (j < 20) ⌝ }
+    ensures { λ r. ⌜ r ≡ largest jobs (λ i. only (bit (getD (now (earlier .entry)) i 0) j) (getD (now (tails .entry)) i 0)) ⌝ }
+{
+    let mut r: u16 = 0;
+    let mut i: usize = 0;
+    while i < jobs {
+        r = placement::later(r, behind(tails[i], earlier[i], j));
+        i += 1;
+    }
+    r
+}
+
+// The longest chain that begins with each job.
+pub struct Tails {
+    pub at: [u16; 20],
+}
+
+// The longest chains of k + 1 jobs, from those of k.
+fn lengthen(
+    need: &[u16; 20],
+    minutes: &[u16; 20],
+    earlier: &[u32; 20],
+    jobs: usize,
+    modules: u16,
+    tails: Tails,
+    k: usize,
+) -> Tails
+    requires { ⌜ (Fit (now need) (now minutes) jobs modules) × ((ChainsOf (now need) (now minutes) (now earlier) jobs modules (tails .at) k) × (k < 20)) ⌝ }
+    ensures { λ r. ⌜ ChainsOf (now (need .entry)) (now (minutes .entry)) (now (earlier .entry)) jobs modules (r .at) (k + 1) ⌝ }
+{
+    let mut next = [0u16; 20];
+    let mut j: usize = 0;
+    while j < jobs {
+        next[j] = minutes[j] + longest_behind(&tails.at, earlier, jobs, j);
+        j += 1;
+    }
+    Tails { at: next }
+}
+
+// The longest chain that begins with each job.
+fn chains(
+    need: &[u16; 20],
+    minutes: &[u16; 20],
+    earlier: &[u32; 20],
+    jobs: usize,
+    modules: u16,
+) -> Tails
+    requires { ⌜ Fit (now need) (now minutes) jobs modules ⌝ }
+    ensures { λ r. ⌜ ChainsOf (now (need .entry)) (now (minutes .entry)) (now (earlier .entry)) jobs modules (r .at) jobs ⌝ }
+{
+    let mut tails = Tails { at: [0u16; 20] };
+    let mut k: usize = 0;
+    while k < jobs {
+        tails = lengthen(need, minutes, earlier, jobs, modules, tails, k);
+        k += 1;
+    }
+    tails
+}
+
+// A job that may come next, its start and its weight; the start 65535 stands for none.
+pub struct Choice {
+    pub job: usize,
+    pub start: u16,
+    pub weight: u16,
+}
+
+// The choice so far, or job j where it starts earlier or, at the same minute, has more weight.
+fn choose(c: Choice, j: usize, start: u16, weight: u16) -> Choice
+    ensures { λ r. ⌜ Chosen c j start r ⌝ }
+{
+    if c.start < start {
+        return c;
+    }
+    if start == c.start {
+        if weight <= c.weight {
+            return c;
+        }
+    }
+    Choice {
+        job: j,
+        start,
+        weight,
+    }
+}
+
+// The job to come next by the least start and, of those, the greatest weight.
+fn next_choice<'a>(at: &'a [u16; 20], weights: &'a [u16; 20], jobs: usize) -> Choice
+    requires { ⌜ jobs ≤ 20 ⌝ }
+    ensures { λ r. ⌜ ChoiceOf (now (at .entry)) jobs jobs r ⌝ }
+{
+    let mut c = Choice {
+        job: 0,
+        start: 65535,
+        weight: 65535,
+    };
+    let mut j: usize = 0;
+    while j < jobs {
+        c = choose(c, j, at[j], weights[j]);
+        j += 1;
+    }
+    c
+}
+
+// The end of the list plan that takes the heaviest of the jobs that start first, or 65535 where some job must end before itself.
+pub fn greedy(
+    need: &[u16; 20],
+    minutes: &[u16; 20],
+    earlier: &[u32; 20],
+    weights: &[u16; 20],
+    jobs: usize,
+    modules: u16,
+) -> u16
+    requires { ⌜ Fit (now need) (now minutes) jobs modules ⌝ }
+    ensures { λ r. ⌜ Reached (sheetOf (now (need .entry)) (now (minutes .entry)) (now (earlier .entry)) jobs modules) r ⌝ }
+{
+    let mut part = placement::first_part(need, minutes, jobs, modules);
+    while u32::count_ones(part.unplaced) != 0 {
+        let starts = ready_starts(need, minutes, earlier, jobs, modules, part);
+        let at = starts.at;
+        let c = next_choice(&at, weights, jobs);
+        if c.start == 65535 {
+            return 65535;
+        }
+        let j = c.job;
+        part = placement::place(part, j, c.start, need[j], minutes[j], modules);
+    }
+    last_end(&part.ends, jobs)
+}
+
+// One more than the best end of three list heuristics: an order has to stay below it.
+fn limit_of(
+    need: &[u16; 20],
+    minutes: &[u16; 20],
+    earlier: &[u32; 20],
+    tails: &[u16; 20],
+    jobs: usize,
+    modules: u16,
+) -> u16
+    requires { ⌜ Fit (now need) (now minutes) jobs modules ⌝ }
+    ensures { λ r. ⌜ Limit (sheetOf (now (need .entry)) (now (minutes .entry)) (now (earlier .entry)) jobs modules) r ⌝ }
+{
+    let by_tail = greedy(need, minutes, earlier, tails, jobs, modules);
+    let by_minutes = greedy(need, minutes, earlier, minutes, jobs, modules);
+    let by_need = greedy(need, minutes, earlier, need, jobs, modules);
+    let e = sooner(by_tail, sooner(by_minutes, by_need));
+    if e == 65535 {
+        return 65535;
+    }
+    e + 1
+}
+
+// The tie rule's order and its list plan's end, wherever there is an order. What the memory held changes nothing, and it is left all zero.
+pub fn run(
+    need: &[u16; 20],
+    minutes: &[u16; 20],
+    earlier: &[u32; 20],
+    jobs: usize,
+    modules: u16,
+    memory: &mut [u8],
+) -> Best
+    requires { ⌜ Fit (now need) (now minutes) jobs modules ⌝ }
+    ensures answer { λ r. ⌜ Answer (sheetOf (now (need .entry)) (now (minutes .entry)) (now (earlier .entry)) jobs modules) r ⌝ }
+    ensures cleared { λ _. ⌜ now (memory .exit) ≡ replicate (length (now (memory .entry))) 0 ⌝ }
+{
+    memory::clear(memory);
+    let chains = chains(need, minutes, earlier, jobs, modules);
+    let tails = chains.at;
+    let limit = limit_of(need, minutes, earlier, &tails, jobs, modules);
+    let part = placement::first_part(need, minutes, jobs, modules);
+    let best = Best {
+        end: limit,
+        limit,
+        order: [0u8; 20],
+    };
+    let found = visit(
+        need,
+        minutes,
+        earlier,
+        &tails,
+        jobs,
+        modules,
+        part,
+        best,
+        memory,
+    );
+    memory::clear(memory);
+    found
 }

@@ -1,0 +1,77 @@
+-- `search::longest_behind` meets its contract.
+use Prim.Native.Nat.{_-_, _≤_}
+use mathlib.Core.Path.{_≡_, refl}
+use native.Mathlib.Omega.{arith}
+use native.Mathlib.Numerals.{add-one}
+use lib.ListN.{getD}
+use Rattle.counting.specs.Counting.{only, largest}
+use Rattle.bits.specs.Bits.{bit}
+use borrow.Author.Needs.{needs}
+use Rattle.search.proofs.longest_behind.Statement.{statement}
+use Rattle.search.proofs.longest_behind.Tie as tie
+
+abbrev Inv-loop : tie.InvT-loop
+Inv-loop tails earlier jobs j r₀ i₀ r i = (i ≤ jobs) × (r ≡ largest i (λ k. only (bit (getD earlier k 0) j) (getD tails k 0)))
+
+abbrev μ-loop : tie.MeasureT-loop
+μ-loop tails earlier jobs j r₀ i₀ r i = jobs - i
+
+loop-holds : tie.Need-loop-holds Inv-loop μ-loop
+unfolding largest
+loop-holds c = (search needs, refl)
+
+mul-behind : tie.Need-mul-behind Inv-loop μ-loop
+mul-behind c = search needs
+
+element-copy-out-behind : tie.Need-element-copy-out-behind Inv-loop μ-loop
+element-copy-out-behind c = search needs
+
+mul-behind-2 : tie.Need-mul-behind-2 Inv-loop μ-loop
+mul-behind-2 c = search needs
+
+element-copy-out-behind-2 : tie.Need-element-copy-out-behind-2 Inv-loop μ-loop
+element-copy-out-behind-2 c = search needs
+
+behind-requires : tie.Need-behind-requires Inv-loop μ-loop
+behind-requires c κs = search needs
+
+later-requires : tie.Need-later-requires Inv-loop μ-loop
+later-requires c κs = search needs
+
+add-i : tie.Need-add-i Inv-loop μ-loop
+add-i c = search needs
+
+loop-less : tie.Need-loop-less Inv-loop μ-loop
+loop-less c = search needs
+
+loop-again : tie.Need-loop-again Inv-loop μ-loop
+unfolding largest
+loop-again c =
+    let behind = c .before .behind in
+    let loop = c .before .before .before .before .before .loop in
+    (search needs, rw (add-one, c .later .ensures, behind .ensures, loop .inv .1))
+
+returns : tie.Need-returns Inv-loop μ-loop
+returns c =
+    let loop = c .before .loop in
+    let args = c .before .before .args in
+    let e : loop .i ≡ args .jobs = omega (arith, loop .inv .0, c .loop-test .left) in
+    rw e at (loop .inv .1)
+
+pub longest-behind-spec : {M : Type 1} → statement M
+longest-behind-spec =
+    tie.close
+    (tie.spec
+    Inv-loop
+    μ-loop
+    loop-holds
+    mul-behind
+    element-copy-out-behind
+    mul-behind-2
+    element-copy-out-behind-2
+    behind-requires
+    later-requires
+    add-i
+    loop-less
+    loop-again
+    returns)
