@@ -1,0 +1,82 @@
+-- What reading answers in each case, and what an answer says of the sheet.
+use mathlib.Core.Path.{_≡_, refl, sym, ap, ap₂, _∙_}
+use mathlib.Core.Bool.{Bool, true, false, not, cond}
+use mathlib.Core.List.{List, [], _∷_}
+use Prim.Native.Nat.{ℕ, _+_, _*_, _≤_}
+use lib.Dec.{eqb}
+use lib.ListN.{length, take}
+use borrow.Author.Tests.{ltb-false, eqb-true, eq-eqb, ne-eqb, not-false}
+use Rattle.sheet.specs.declared.Job.{Job}
+use Rattle.sheet.specs.declared.Reading.{Reading}
+use Rattle.sheet.specs.Figures.{most-jobs, most-modules, longest-sheet, record-size, trailer-size}
+use Rattle.sheet.specs.Format.{job-from, job-of, labels-of, label-lengths, offset-of, count-of, modules-of}
+use Rattle.sheet.specs.Checks.{first-failing, some-faulty, wrong-bytes, content-checks}
+use Rattle.sheet.specs.Read.{trailer-checks, read-checks, read-refusal, places, answered, refused, reading}
+use Rattle.sheet.proofs.Bounds.{inside}
+use Rattle.sheet.proofs.Order.{all-passed, first-in-front, first-behind}
+
+-- what the checks 1 to 4 say where they pass
+pub record Trailer (s : List ℕ) : Type 0 where
+  pub long : trailer-size ≤ length s
+  pub short : length s ≤ longest-sheet
+  pub few : count-of s ≤ most-jobs
+  pub some : 1 ≤ modules-of s
+  pub most : modules-of s ≤ most-modules
+  pub whole : offset-of s + record-size * count-of s + trailer-size ≡ length s
+
+module _ (s : List ℕ) where
+  pub trailer : first-failing (trailer-checks s) ≡ 0 → Trailer s
+  trailer e =
+      let p = all-passed (trailer-checks s) refl e in
+      let l = inside trailer-size longest-sheet (length s) (p .0) in
+      let m = inside 1 most-modules (modules-of s) (p .1 .1 .0) in
+      record {
+        long = l .0;
+        short = l .1;
+        few = ltb-false most-jobs (count-of s) (p .1 .0);
+        some = m .0;
+        most = m .1;
+        whole = eqb-true (offset-of s + record-size * count-of s + trailer-size) (length s) (not-false _ (p .1 .1 .1 .0));
+      }
+
+  -- the checks 5 to 7, from what the pass over the records found
+  pub content-is : (n offset total k : ℕ) (found : Bool) → n ≡ count-of s → offset ≡ offset-of s
+      → found ≡ some-faulty n (job-from s offset) → total ≡ label-lengths n (job-from s offset)
+      → k ≡ first-failing ((5, found) ∷ (6, not (eqb total (length (take offset s)))) ∷ (7, wrong-bytes (take offset s)) ∷ [])
+      → k ≡ first-failing (content-checks (count-of s) (job-of s) (labels-of s))
+  content-is n offset total k found en eo ef et ek =
+      ek
+      ∙ ap₂
+      (λ (b : Bool) (x : ℕ). first-failing ((5, b) ∷ (6, not (eqb x (length (take offset s)))) ∷ (7, wrong-bytes (take offset s)) ∷ []))
+      ef et
+      ∙ ap₂ (λ (m o : ℕ). first-failing (content-checks m (job-from s o) (take o s))) en eo
+
+  -- the answer, from what was found
+  pub answer-is : (n offset N : ℕ) (jobs : List Job) → n ≡ count-of s → offset ≡ offset-of s → N ≡ modules-of s
+      → jobs ≡ places n (job-from s offset)
+      → _≡_ {A = Reading} (record { refusal = 0; jobs = jobs; count = n; modules = N }) (answered (count-of s) (job-of s) (modules-of s))
+  answer-is n offset N jobs en eo em ej =
+      ap (λ (js : List Job). record { refusal = 0; jobs = js; count = n; modules = N }) ej
+      ∙ ap (λ (m : ℕ). answered n (job-from s offset) m) em
+      ∙ ap₂ (λ (m o : ℕ). answered m (job-from s o) (modules-of s)) en eo
+
+  refused-is : (k : ℕ) → k ≡ read-refusal s → (k ≡ 0 → ⊥) → refused k ≡ reading s
+  unfolding reading
+  refused-is k e h = rw (← e, ne-eqb k 0 h)
+
+  pub refused-early : (k : ℕ) → k ≡ first-failing (trailer-checks s) → (k ≡ 0 → ⊥) → refused k ≡ reading s
+  refused-early k e h =
+      refused-is k (e ∙ sym (first-in-front (trailer-checks s) (content-checks (count-of s) (job-of s) (labels-of s)) (λ z. h (e ∙ z)))) h
+
+  module _ (passed : first-failing (trailer-checks s) ≡ 0) where
+    late : read-refusal s ≡ first-failing (content-checks (count-of s) (job-of s) (labels-of s))
+    late = first-behind (trailer-checks s) _ (all-passed (trailer-checks s) refl passed)
+
+    pub refused-late : (k : ℕ) → k ≡ first-failing (content-checks (count-of s) (job-of s) (labels-of s)) → (k ≡ 0 → ⊥)
+        → refused k ≡ reading s
+    refused-late k e h = refused-is k (e ∙ sym late) h
+
+    pub read-whole : first-failing (content-checks (count-of s) (job-of s) (labels-of s)) ≡ 0
+        → answered (count-of s) (job-of s) (modules-of s) ≡ reading s
+    unfolding reading
+    read-whole e = rw (late ∙ e)

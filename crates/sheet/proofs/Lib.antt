@@ -1,0 +1,5 @@
+-- Laws that the proofs share, and the theorems on job sheets.
+pub mod Bounds
+pub mod Order
+pub mod Lists
+pub mod Answers

@@ -1,0 +1,36 @@
+-- What writing answers and leaves in the lent buffer (document 01, 'The job sheet' and 'Checking order').
+use mathlib.Core.Bool.{cond}
+use mathlib.Core.List.{List, [], _∷_, _++_}
+use Prim.Native.Nat.{ℕ}
+use lib.Dec.{eqb}
+use lib.ListN.{length, getD, drop}
+use Rattle.sheet.specs.declared.Job.{Job}
+use Rattle.sheet.specs.declared.Written.{Written}
+use Rattle.sheet.specs.Format.{no-job, sheet-bytes}
+use Rattle.sheet.specs.Checks.{Check, first-failing, content-checks, too-many-jobs, wrong-modules, too-short}
+
+-- the jobs of a list, in order
+abbrev pub jobs-in : List Job → ℕ → Job
+jobs-in js i = getD js i no-job
+
+-- writing checks 2, 3, 5, 6, 7, 10; the last against the room in the lent buffer
+abbrev pub write-checks : (ℕ → Job) → ℕ → List ℕ → ℕ → ℕ → List Check
+write-checks jobs n labels N room =
+    (2, too-many-jobs n) ∷ (3, wrong-modules N) ∷ (content-checks n jobs labels ++ ((10, too-short n labels room) ∷ []))
+
+abbrev pub write-refusal : (ℕ → Job) → ℕ → List ℕ → ℕ → ℕ → ℕ
+write-refusal jobs n labels N room = first-failing (write-checks jobs n labels N room)
+
+-- the answer: the sheet's length; refused: the number, and the length 0
+unfoldable pub write-answer : (ℕ → Job) → ℕ → List ℕ → ℕ → List ℕ → Written
+write-answer jobs n labels N out =
+    cond (eqb (write-refusal jobs n labels N (length out)) 0)
+    (record { refusal = 0; length = length (sheet-bytes jobs n labels N) })
+    (record { refusal = write-refusal jobs n labels N (length out); length = 0 })
+
+-- the lent buffer afterwards: the sheet, and behind it what was there; refused: what was there
+unfoldable pub write-leaves : (ℕ → Job) → ℕ → List ℕ → ℕ → List ℕ → List ℕ
+write-leaves jobs n labels N out =
+    cond (eqb (write-refusal jobs n labels N (length out)) 0)
+    (sheet-bytes jobs n labels N ++ drop (length (sheet-bytes jobs n labels N)) out)
+    out
