@@ -37,6 +37,16 @@ le-sum (suc n) f i l = go (last-or-below n i l) (le-sum n f i)
     go (inl e) h = rw e (omega arith)
     go (inr k) h = omega (arith, h k)
 
+-- over fewer numbers
+pub sum-part : (n : ℕ) (f : ℕ → ℕ) (m : ℕ) → m ≤ n → sum m f ≤ sum n f
+unfolding sum
+sum-part zero f m l = let e : m ≡ 0 = omega arith in rw e (le-refl _)
+sum-part (suc n) f m l = go (last-or-below (suc n) m (omega arith)) (sum-part n f m)
+  where
+    go : (m ≡ suc n) ⊎ (m < suc n) → (m ≤ n → sum m f ≤ sum n f) → sum m f ≤ sum n f + f n
+    go (inl e) h = rw e (le-refl _)
+    go (inr k) h = omega (arith, h (omega arith))
+
 -- ---- of sums, multiples and constants
 
 pub sum-add : (n : ℕ) (f g : ℕ → ℕ) → sum n (λ i. f i + g i) ≡ sum n f + sum n g

@@ -2,18 +2,21 @@
 use mathlib.Core.Path.{_≡_, refl, sym, ap, ap₂, _∙_}
 use mathlib.Core.Bool.{Bool, true, false, not, cond}
 use mathlib.Core.List.{List, [], _∷_}
-use Prim.Native.Nat.{ℕ, _+_, _*_, _≤_}
+use Prim.Native.Nat.{ℕ, _+_, _*_, _≤_, _<_}
+use native.Mathlib.Omega.{arith}
 use lib.Dec.{eqb}
 use lib.ListN.{length, take}
+use lib.Seq.{length-take-le}
 use borrow.Author.Tests.{ltb-false, eqb-true, eq-eqb, ne-eqb, not-false}
+use Rattle.counting.proofs.Ranges.{any-none}
 use Rattle.sheet.specs.declared.Job.{Job}
 use Rattle.sheet.specs.declared.Reading.{Reading}
 use Rattle.sheet.specs.Figures.{most-jobs, most-modules, longest-sheet, record-size, trailer-size}
 use Rattle.sheet.specs.Format.{job-from, job-of, labels-of, label-lengths, offset-of, count-of, modules-of}
-use Rattle.sheet.specs.Checks.{first-failing, some-faulty, wrong-bytes, content-checks}
+use Rattle.sheet.specs.Checks.{first-failing, faulty, some-faulty, wrong-bytes, content-checks}
 use Rattle.sheet.specs.Read.{trailer-checks, read-checks, read-refusal, places, answered, refused, reading}
 use Rattle.sheet.proofs.Bounds.{inside}
-use Rattle.sheet.proofs.Order.{all-passed, first-in-front, first-behind}
+use Rattle.sheet.proofs.Order.{all-passed, none-failing, first-in-front, first-behind}
 
 -- what the checks 1 to 4 say where they pass
 pub record Trailer (s : List ℕ) : Type 0 where
@@ -23,6 +26,13 @@ pub record Trailer (s : List ℕ) : Type 0 where
   pub some : 1 ≤ modules-of s
   pub most : modules-of s ≤ most-modules
   pub whole : offset-of s + record-size * count-of s + trailer-size ≡ length s
+
+-- what the checks 1 to 7 say of a sheet that reads
+pub record Reads (s : List ℕ) : Type 0 where
+  pub trailer : Trailer s
+  pub sound : (i : ℕ) → i < count-of s → faulty (count-of s) (job-of s i) ≡ false
+  pub lengths : label-lengths (count-of s) (job-of s) ≡ offset-of s
+  pub printable : wrong-bytes (labels-of s) ≡ false
 
 module _ (s : List ℕ) where
   pub trailer : first-failing (trailer-checks s) ≡ 0 → Trailer s
@@ -80,3 +90,30 @@ module _ (s : List ℕ) where
         → answered (count-of s) (job-of s) (modules-of s) ≡ reading s
     unfolding reading
     read-whole e = rw (late ∙ e)
+
+  -- the number that reading gives is the first refusal's
+  pub read-number : reading s .refusal ≡ read-refusal s
+  unfolding reading
+  read-number = go (eqb (read-refusal s) 0) refl
+    where
+      go : (b : Bool) → eqb (read-refusal s) 0 ≡ b
+          → cond b (answered (count-of s) (job-of s) (modules-of s)) (refused (read-refusal s)) .refusal ≡ read-refusal s
+      go true e = sym (eqb-true (read-refusal s) 0 e)
+      go false e = refl
+
+  pub read-answer : read-refusal s ≡ 0 → reading s ≡ answered (count-of s) (job-of s) (modules-of s)
+  unfolding reading
+  read-answer e = rw e
+
+  pub reads : read-refusal s ≡ 0 → Reads s
+  reads e =
+      let p = all-passed (read-checks s) refl e in
+      let t = trailer (none-failing (trailer-checks s) (p .0, (p .1 .0, (p .1 .1 .0, (p .1 .1 .1 .0, tt))))) in
+      let c = p .1 .1 .1 .1 in
+      record {
+        trailer = t;
+        sound = any-none (count-of s) (λ i. faulty (count-of s) (job-of s i)) (c .0);
+        lengths = eqb-true (label-lengths (count-of s) (job-of s)) (length (labels-of s)) (not-false _ (c .1 .0))
+            ∙ length-take-le (offset-of s) s (omega (arith, t .whole));
+        printable = c .1 .1 .0;
+      }

@@ -23,3 +23,7 @@ label-start s job = label-lengths job (job-of s)
 unfoldable pub label-of : List ℕ → ℕ → List ℕ
 label-of s job =
     cond (eqb (label-refusal s job) 0) (take (label-length (job-of s job)) (drop (label-start s job) s)) []
+
+-- how far into the lent sheet the part begins; an empty part is at its front
+unfoldable pub label-at : List ℕ → ℕ → ℕ
+label-at s job = cond (eqb (label-refusal s job) 0) (label-start s job) 0

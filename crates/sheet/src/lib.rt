@@ -6,8 +6,11 @@ mod records;
 mod trailer;
 
 ghost use mathlib.Core.Path.{_≡_};
+ghost use Prim.Native.Nat.{_+_};
 ghost use Rattle.sheet.specs.Read.{refused, reading};
+ghost use Rattle.sheet.specs.Label.{label-refusal, label-of, label-at};
 use figures::MOST_JOBS;
+use figures::RECORD_SIZE;
 
 // A job, in the widths of its record.
 pub struct Job {
@@ -66,4 +69,33 @@ pub fn read(sheet: &[u8]) -> Reading
         count,
         modules: trailer::modules(sheet),
     }
+}
+
+// The number of a label call: the first refusal of 1 to 7, then 14, or 0 where there is a label.
+pub fn label_refusal(sheet: &[u8], job: usize) -> u32
+    ensures { λ r. ⌜ r ≡ label-refusal (now (sheet .entry)) job ⌝ }
+{
+    let found = read(sheet);
+    let refusal = found.refusal;
+    if refusal != 0 {
+        return refusal;
+    }
+    if found.count <= job {
+        return 14;
+    }
+    0
+}
+
+// The label of a job: that very part of the sheet, or an empty part where the call is refused.
+pub fn label(sheet: &[u8], job: usize) -> &[u8]
+    ensures { λ r. ⌜ (now r ≡ label-of (now (sheet .entry)) job)
+        × (r .ptr ≡ (sheet .entry .ptr .0, label-at (now (sheet .entry)) job + sheet .entry .ptr .1)) ⌝ }
+{
+    if label_refusal(sheet, job) != 0 {
+        return &sheet[..0];
+    }
+    let offset = trailer::offset(sheet) as usize;
+    let from = records::label_start(sheet, offset, job);
+    let to = from + sheet[offset + RECORD_SIZE * job] as usize;
+    &sheet[from..to]
 }

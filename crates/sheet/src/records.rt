@@ -85,3 +85,17 @@ pub fn read_all(sheet: &[u8], offset: usize, count: usize) -> Records
         faulty: found,
     }
 }
+
+// Where the label of a job begins: the lengths of the labels before it, summed.
+pub fn label_start(sheet: &[u8], offset: usize, job: usize) -> usize
+    requires { ⌜ (job ≤ most-jobs) × (offset + record-size * job ≤ length (now sheet)) ⌝ }
+    ensures { λ r. ⌜ (r ≡ label-lengths job (job-from (now (sheet .entry)) offset)) × (r ≤ 255 * job) ⌝ }
+{
+    let mut total: usize = 0;
+    let mut i = 0;
+    while i < job {
+        total += sheet[offset + RECORD_SIZE * i] as usize;
+        i += 1;
+    }
+    total
+}
