@@ -4,3 +4,5 @@ pub mod Order
 pub mod Lists
 pub mod Answers
 pub mod Labels
+pub mod Parts
+pub mod Writes

@@ -13,7 +13,7 @@ use Rattle.sheet.specs.Format.{joined, no-job}
 use Rattle.sheet.specs.Read.{places}
 
 -- n parts of k elements each
-pub length-joined : {A : Type 0} (k n : ℕ) (f : ℕ → List A) → ((i : ℕ) → length (f i) ≡ k) → length (joined n f) ≡ n * k
+pub length-joined : {A : Type 0} (k n : ℕ) (f : ℕ → List A) → ((i : ℕ) → length (f i) ≡ k) → length (joined n f) ≡ k * n
 unfolding joined
 length-joined k zero f h = omega arith
 length-joined k (suc n) f h = length-append (joined n f) (f n) ∙ omega (arith, length-joined k n f h, h n)

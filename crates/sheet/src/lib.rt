@@ -7,10 +7,14 @@ mod trailer;
 
 ghost use mathlib.Core.Path.{_≡_};
 ghost use Prim.Native.Nat.{_+_};
+ghost use lib.ListN.{length};
 ghost use Rattle.sheet.specs.Read.{refused, reading};
+ghost use Rattle.sheet.specs.Write.{jobs-in, write-refusal, write-answer, write-leaves};
 ghost use Rattle.sheet.specs.Label.{label-refusal, label-of, label-at};
 use figures::MOST_JOBS;
+use figures::MOST_MODULES;
 use figures::RECORD_SIZE;
+use figures::TRAILER_SIZE;
 
 // A job, in the widths of its record.
 pub struct Job {
@@ -98,4 +102,55 @@ pub fn label(sheet: &[u8], job: usize) -> &[u8]
     let from = records::label_start(sheet, offset, job);
     let to = from + sheet[offset + RECORD_SIZE * job] as usize;
     &sheet[from..to]
+}
+
+// The first refusal of 2, 3, 5, 6, 7 and 10, for a lent buffer of `room` bytes, or 0.
+fn write_refusal(
+    jobs: [Job; MOST_JOBS],
+    count: usize,
+    labels: &[u8],
+    modules: u16,
+    room: usize,
+) -> u32
+    ensures { λ r. ⌜ r ≡ write-refusal (jobs-in jobs) count (now (labels .entry)) modules room ⌝ }
+{
+    if MOST_JOBS < count {
+        return 2;
+    }
+    if checks::outside(1, MOST_MODULES, modules as usize) {
+        return 3;
+    }
+    let found = records::survey(jobs, count);
+    let refusal = checks::content_refusal(found.faulty, found.total, labels);
+    if refusal != 0 {
+        return refusal;
+    }
+    if room < labels.len() + RECORD_SIZE * count + TRAILER_SIZE {
+        return 10;
+    }
+    0
+}
+
+// Writes the sheet of the first `count` jobs into the front of the lent buffer, each part into its own bytes.
+pub fn write(
+    jobs: [Job; MOST_JOBS],
+    count: usize,
+    labels: &[u8],
+    modules: u16,
+    out: &mut [u8],
+) -> Written
+    ensures { λ r. ⌜ (r ≡ write-answer (jobs-in jobs) count (now (labels .entry)) modules (now (out .entry)))
+        × (now (out .exit) ≡ write-leaves (jobs-in jobs) count (now (labels .entry)) modules (now (out .entry))) ⌝ }
+{
+    let refusal = write_refusal(jobs, count, labels, modules, out.len());
+    if refusal != 0 {
+        return Written { refusal, length: 0 };
+    }
+    let offset = labels.len();
+    let end = offset + RECORD_SIZE * count;
+    let length = end + TRAILER_SIZE;
+    records::write_labels(&mut out[..offset], labels);
+    records::write_all(&mut out[offset..end], jobs, count);
+    trailer::write(&mut out[end..length], offset as u32, count as u16, modules);
+    Written { refusal: 0, length }
 }

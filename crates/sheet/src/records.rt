@@ -3,7 +3,8 @@ ghost use mathlib.Core.Path.{_≡_};
 ghost use Prim.Native.Nat.{_+_, _*_, _≤_};
 ghost use lib.ListN.{length};
 ghost use Rattle.sheet.specs.Figures.{most-jobs, record-size};
-ghost use Rattle.sheet.specs.Format.{no-job, record-at, job-from, label-length, label-lengths};
+ghost use Rattle.sheet.specs.Write.{jobs-in};
+ghost use Rattle.sheet.specs.Format.{joined, no-job, record-at, record-bytes, job-from, label-length, label-lengths};
 ghost use Rattle.sheet.specs.Checks.{some-faulty};
 ghost use Rattle.sheet.specs.Read.{places};
 use super::Job;
@@ -17,6 +18,12 @@ use super::numbers::read32;
 // What one pass over the records finds: the jobs, the sum of the label lengths, and whether check 5 fails.
 pub struct Records {
     pub jobs: [Job; MOST_JOBS],
+    pub total: usize,
+    pub faulty: bool,
+}
+
+// What the writer's pass over its jobs finds.
+pub struct Found {
     pub total: usize,
     pub faulty: bool,
 }
@@ -98,4 +105,71 @@ pub fn label_start(sheet: &[u8], offset: usize, job: usize) -> usize
         i += 1;
     }
     total
+}
+
+// The writer's pass over the first `count` jobs.
+pub fn survey(jobs: [Job; MOST_JOBS], count: usize) -> Found
+    requires { ⌜ count ≤ most-jobs ⌝ }
+    ensures { λ r. ⌜ (r .total ≡ label-lengths count (jobs-in jobs)) × (r .faulty ≡ some-faulty count (jobs-in jobs)) ⌝ }
+{
+    let mut total: usize = 0;
+    let mut found = false;
+    let mut i = 0;
+    while i < count {
+        let job = jobs[i];
+        total += label_length(job);
+        found = either(found, faulty(count, job));
+        i += 1;
+    }
+    Found {
+        total,
+        faulty: found,
+    }
+}
+
+// A record, into its own bytes.
+fn write_one(part: &mut [u8], job: Job)
+    requires { ⌜ length (now part) ≡ record-size ⌝ }
+    ensures { λ _. ⌜ now (part .exit) ≡ record-bytes job ⌝ }
+{
+    let minutes = job.minutes;
+    let low = job.earlier % 65536;
+    let high = job.earlier / 65536;
+    let departure = job.departure;
+    part[0] = job.label_len;
+    part[1] = job.modules;
+    part[2] = (minutes % 256) as u8;
+    part[3] = (minutes / 256) as u8;
+    part[4] = (low % 256) as u8;
+    part[5] = (low / 256) as u8;
+    part[6] = (high % 256) as u8;
+    part[7] = (high / 256) as u8;
+    part[8] = (departure % 256) as u8;
+    part[9] = (departure / 256) as u8;
+}
+
+// The records of the first `count` jobs, one behind another.
+pub fn write_all(part: &mut [u8], jobs: [Job; MOST_JOBS], count: usize)
+    requires { ⌜ (count ≤ most-jobs) × (length (now part) ≡ record-size * count) ⌝ }
+    ensures { λ _. ⌜ now (part .exit) ≡ joined count (λ i. record-bytes (jobs-in jobs i)) ⌝ }
+{
+    let mut i = 0;
+    while i < count {
+        let at = RECORD_SIZE * i;
+        let to = at + RECORD_SIZE;
+        write_one(&mut part[at..to], jobs[i]);
+        i += 1;
+    }
+}
+
+// The label bytes.
+pub fn write_labels(part: &mut [u8], labels: &[u8])
+    requires { ⌜ length (now part) ≡ length (now labels) ⌝ }
+    ensures { λ _. ⌜ now (part .exit) ≡ now (labels .entry) ⌝ }
+{
+    let mut i = 0;
+    while i < labels.len() {
+        part[i] = labels[i];
+        i += 1;
+    }
 }

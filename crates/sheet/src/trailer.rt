@@ -3,7 +3,7 @@ ghost use mathlib.Core.Path.{_≡_};
 ghost use Prim.Native.Nat.{_≤_};
 ghost use lib.ListN.{length};
 ghost use Rattle.sheet.specs.Figures.{trailer-size};
-ghost use Rattle.sheet.specs.Format.{offset-of, count-of, modules-of};
+ghost use Rattle.sheet.specs.Format.{trailer-bytes, offset-of, count-of, modules-of};
 ghost use Rattle.sheet.specs.Checks.{first-failing};
 ghost use Rattle.sheet.specs.Read.{trailer-checks};
 use super::checks::outside;
@@ -57,4 +57,21 @@ pub fn refusal(sheet: &[u8]) -> u32
         return 4;
     }
     0
+}
+
+// A trailer, into its own bytes.
+pub fn write(part: &mut [u8], offset: u32, count: u16, modules: u16)
+    requires { ⌜ length (now part) ≡ trailer-size ⌝ }
+    ensures { λ _. ⌜ now (part .exit) ≡ trailer-bytes offset count modules ⌝ }
+{
+    let low = offset % 65536;
+    let high = offset / 65536;
+    part[0] = (low % 256) as u8;
+    part[1] = (low / 256) as u8;
+    part[2] = (high % 256) as u8;
+    part[3] = (high / 256) as u8;
+    part[4] = (count % 256) as u8;
+    part[5] = (count / 256) as u8;
+    part[6] = (modules % 256) as u8;
+    part[7] = (modules / 256) as u8;
 }
