@@ -9,14 +9,16 @@ use lib.ListN.{length, take}
 use lib.Seq.{length-take-le}
 use borrow.Author.Tests.{ltb-false, eqb-true, eq-eqb, ne-eqb, not-false}
 use Rattle.counting.proofs.Ranges.{any-none}
-use Rattle.sheet.specs.declared.Job.{Job}
+use Rattle.sheet_format.specs.declared.Job.{Job}
 use Rattle.sheet.specs.declared.Reading.{Reading}
-use Rattle.sheet.specs.Figures.{most-jobs, most-modules, longest-sheet, record-size, trailer-size}
-use Rattle.sheet.specs.Format.{job-from, job-of, labels-of, label-lengths, offset-of, count-of, modules-of}
-use Rattle.sheet.specs.Checks.{first-failing, faulty, some-faulty, wrong-bytes, content-checks}
-use Rattle.sheet.specs.Read.{trailer-checks, read-checks, read-refusal, places, answered, refused, reading}
-use Rattle.sheet.proofs.Bounds.{inside}
-use Rattle.sheet.proofs.Order.{all-passed, none-failing, first-in-front, first-behind}
+use Rattle.sheet_format.specs.Figures.{most-jobs, most-modules, longest-sheet, record-size, trailer-size}
+use Rattle.sheet_format.specs.Format.{job-from, job-of, labels-of, label-lengths, offset-of, count-of, modules-of}
+use Rattle.sheet_format.specs.Checks.{first-failing, faulty, some-faulty, wrong-bytes, content-checks}
+use Rattle.sheet.specs.Read.{read-checks, read-refusal, answered, refused, reading}
+use Rattle.sheet_format.specs.Checks.{trailer-checks}
+use Rattle.sheet_format.specs.Format.{places}
+use Rattle.sheet_format.proofs.Bounds.{inside}
+use Rattle.sheet_format.proofs.Order.{all-passed, none-failing, first-in-front, first-behind}
 
 -- what the checks 1 to 4 say where they pass
 pub record Trailer (s : List ℕ) : Type 0 where
@@ -35,9 +37,9 @@ pub record Reads (s : List ℕ) : Type 0 where
   pub printable : wrong-bytes (labels-of s) ≡ false
 
 module _ (s : List ℕ) where
-  pub trailer : first-failing (trailer-checks s) ≡ 0 → Trailer s
-  trailer e =
-      let p = all-passed (trailer-checks s) refl e in
+  pub trailer : (k : ℕ) → k ≡ first-failing (trailer-checks s) → k ≡ 0 → Trailer s
+  trailer k e z =
+      let p = all-passed (trailer-checks s) refl (sym e ∙ z) in
       let l = inside trailer-size longest-sheet (length s) (p .0) in
       let m = inside 1 most-modules (modules-of s) (p .1 .1 .0) in
       record {
@@ -78,18 +80,18 @@ module _ (s : List ℕ) where
   refused-early k e h =
       refused-is k (e ∙ sym (first-in-front (trailer-checks s) (content-checks (count-of s) (job-of s) (labels-of s)) (λ z. h (e ∙ z)))) h
 
-  module _ (passed : first-failing (trailer-checks s) ≡ 0) where
+  module _ (early : ℕ) (is : early ≡ first-failing (trailer-checks s)) (passed : early ≡ 0) where
     late : read-refusal s ≡ first-failing (content-checks (count-of s) (job-of s) (labels-of s))
-    late = first-behind (trailer-checks s) _ (all-passed (trailer-checks s) refl passed)
+    late = first-behind (trailer-checks s) _ (all-passed (trailer-checks s) refl (sym is ∙ passed))
 
     pub refused-late : (k : ℕ) → k ≡ first-failing (content-checks (count-of s) (job-of s) (labels-of s)) → (k ≡ 0 → ⊥)
         → refused k ≡ reading s
     refused-late k e h = refused-is k (e ∙ sym late) h
 
-    pub read-whole : first-failing (content-checks (count-of s) (job-of s) (labels-of s)) ≡ 0
+    pub read-whole : (k : ℕ) → k ≡ first-failing (content-checks (count-of s) (job-of s) (labels-of s)) → k ≡ 0
         → answered (count-of s) (job-of s) (modules-of s) ≡ reading s
     unfolding reading
-    read-whole e = rw (late ∙ e)
+    read-whole k e z = rw (late ∙ sym e ∙ z)
 
   -- the number that reading gives is the first refusal's
   pub read-number : reading s .refusal ≡ read-refusal s
@@ -108,7 +110,7 @@ module _ (s : List ℕ) where
   pub reads : read-refusal s ≡ 0 → Reads s
   reads e =
       let p = all-passed (read-checks s) refl e in
-      let t = trailer (none-failing (trailer-checks s) (p .0, (p .1 .0, (p .1 .1 .0, (p .1 .1 .1 .0, tt))))) in
+      let t = trailer 0 (sym (none-failing (trailer-checks s) (p .0, (p .1 .0, (p .1 .1 .0, (p .1 .1 .1 .0, tt)))))) refl in
       let c = p .1 .1 .1 .1 in
       record {
         trailer = t;

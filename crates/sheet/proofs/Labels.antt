@@ -9,12 +9,12 @@ use lib.ListN.{length, getD, take, drop}
 use borrow.Author.Tests.{leb-false, le-leb, lt-leb, ne-eqb}
 use Rattle.counting.specs.Counting.{sum}
 use Rattle.counting.proofs.Sums.{sum-part}
-use Rattle.sheet.specs.Figures.{most-jobs, record-size}
-use Rattle.sheet.specs.Format.{record-at, label-length, label-lengths, job-from, job-of, offset-of, count-of}
-use Rattle.sheet.specs.Checks.{first-failing, no-such-job}
+use Rattle.sheet_format.specs.Figures.{most-jobs, record-size}
+use Rattle.sheet_format.specs.Format.{record-at, label-length, label-lengths, job-from, job-of, offset-of, count-of}
+use Rattle.sheet_format.specs.Checks.{first-failing, no-such-job}
 use Rattle.sheet.specs.Read.{read-checks, read-refusal}
 use Rattle.sheet.specs.Label.{label-checks, label-refusal, label-start, label-of, label-at}
-use Rattle.sheet.proofs.Order.{all-passed, none-failing, first-in-front, first-behind}
+use Rattle.sheet_format.proofs.Order.{all-passed, none-failing, first-in-front, first-behind}
 use Rattle.sheet.proofs.Answers.{Reads, reads}
 
 module _ (s : List ℕ) (job : ℕ) where
@@ -38,10 +38,10 @@ module _ (s : List ℕ) (job : ℕ) where
     pub below : job < count-of s
     pub within : label-start s job + label-length (job-of s job) ≤ offset-of s
 
-  pub there : label-refusal s job ≡ 0 → There
+  pub there : (k : ℕ) → k ≡ label-refusal s job → k ≡ 0 → There
   unfolding sum
-  there e =
-      let p = all-passed (label-checks s job) refl e in
+  there k e z =
+      let p = all-passed (label-checks s job) refl (sym e ∙ z) in
       let r = reads s (none-failing (read-checks s)
       (p .0, (p .1 .0, (p .1 .1 .0, (p .1 .1 .1 .0, (p .1 .1 .1 .1 .0, (p .1 .1 .1 .1 .1 .0, (p .1 .1 .1 .1 .1 .1 .0, tt)))))))) in
       let l = leb-false (count-of s) job (p .1 .1 .1 .1 .1 .1 .1 .0) in
@@ -56,29 +56,30 @@ module _ (s : List ℕ) (job : ℕ) where
   unfolding record-at
   length-byte offset e = ap (λ (o : ℕ). getD s (o + record-size * job) 0) e
 
-  pub empty-label : (label-refusal s job ≡ 0 → ⊥) → [] ≡ label-of s job
-  unfolding label-of
-  empty-label h = rw (ne-eqb (label-refusal s job) 0 h)
+  module _ (k : ℕ) (e : k ≡ label-refusal s job) (h : k ≡ 0 → ⊥) where
+    pub empty-label : [] ≡ label-of s job
+    unfolding label-of
+    empty-label = rw (← e, ne-eqb k 0 h)
 
-  pub empty-at : (label-refusal s job ≡ 0 → ⊥) → 0 ≡ label-at s job
-  unfolding label-at
-  empty-at h = rw (ne-eqb (label-refusal s job) 0 h)
+    pub empty-at : 0 ≡ label-at s job
+    unfolding label-at
+    empty-at = rw (← e, ne-eqb k 0 h)
 
-  module _ (e : label-refusal s job ≡ 0) (offset from : ℕ) (o : offset ≡ offset-of s)
+  module _ (k : ℕ) (e : k ≡ label-refusal s job) (z : k ≡ 0) (offset from : ℕ) (o : offset ≡ offset-of s)
       (f : from ≡ label-lengths job (job-from s offset)) where
     begins : from ≡ label-start s job
     begins = f ∙ ap (λ (x : ℕ). label-lengths job (job-from s x)) o
 
     pub label-ends : from + getD s (offset + record-size * job) 0 ≤ length s
-    label-ends = let t = there e in omega (arith, t .within, t .sheet .trailer .whole, length-byte offset o, begins)
+    label-ends = let t = there k e z in omega (arith, t .within, t .sheet .trailer .whole, length-byte offset o, begins)
 
     pub whole-label : take (from + getD s (offset + record-size * job) 0 - from) (drop from s) ≡ label-of s job
     unfolding label-of
     whole-label =
-        let k : from + getD s (offset + record-size * job) 0 - from ≡ label-length (job-of s job) =
+        let m : from + getD s (offset + record-size * job) 0 - from ≡ label-length (job-of s job) =
         omega (arith, length-byte offset o) in
-        rw (e, k, begins)
+        rw (sym e ∙ z, m, begins)
 
     pub whole-at : from ≡ label-at s job
     unfolding label-at
-    whole-at = rw e begins
+    whole-at = rw (sym e ∙ z) begins

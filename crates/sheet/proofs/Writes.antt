@@ -11,22 +11,17 @@ use borrow.Author.Tests.{ltb-false, lt-ltb, le-ltb, eqb-true, ne-eqb, not-false}
 use borrow.Rule.Slice.PartMut.{putMid}
 use Rattle.counting.proofs.Ranges.{any-none}
 use Rattle.counting.proofs.Sums.{sum-most}
-use Rattle.sheet.specs.declared.Job.{Job}
+use Rattle.sheet_format.specs.declared.Job.{Job}
 use Rattle.sheet.specs.declared.Written.{Written}
-use Rattle.sheet.specs.Figures.{most-jobs, most-modules, record-size, trailer-size, longest-label}
-use Rattle.sheet.specs.Format.{joined, record-bytes, trailer-bytes, sheet-bytes, label-length, label-lengths}
-use Rattle.sheet.specs.Checks.{first-failing, faulty, some-faulty, wrong-modules, wrong-bytes, too-short, content-checks}
-use Rattle.sheet.specs.Write.{write-checks, write-refusal, write-answer, write-leaves}
-use Rattle.sheet.proofs.Bounds.{inside, legal}
-use Rattle.sheet.proofs.Order.{all-passed, first-in-front, first-behind}
-use Rattle.sheet.proofs.Lists.{length-joined}
-use Rattle.sheet.proofs.Parts.{part-more}
+use Rattle.sheet_format.specs.Figures.{most-jobs, most-modules, record-size, trailer-size, longest-label}
+use Rattle.sheet_format.specs.Format.{joined, record-bytes, trailer-bytes, sheet-bytes, label-length, label-lengths}
+use Rattle.sheet_format.specs.Checks.{first-failing, faulty, some-faulty, wrong-modules, wrong-bytes, too-short, content-checks}
+use Rattle.sheet.specs.Write.{over, write-checks, write-refusal, write-answer, write-leaves}
+use Rattle.sheet_format.proofs.Bounds.{inside, legal}
+use Rattle.sheet_format.proofs.Order.{all-passed, first-in-front, first-behind}
+use Rattle.sheet_format.proofs.Parts.{part-more, length-records}
 
 -- ---- lengths
-
-pub length-records : (n : ℕ) (jobs : ℕ → Job) → length (joined n (λ i. record-bytes (jobs i))) ≡ record-size * n
-unfolding record-bytes
-length-records n jobs = length-joined record-size n (λ i. record-bytes (jobs i)) (λ i. refl)
 
 pub length-sheet : (jobs : ℕ → Job) (n : ℕ) (labels : List ℕ) (N : ℕ)
     → length (sheet-bytes jobs n labels N) ≡ length labels + record-size * n + trailer-size
@@ -35,26 +30,6 @@ length-sheet jobs n labels N =
     let records = joined n (λ i. record-bytes (jobs i)) in
     length-append labels (records ++ trailer-bytes (length labels) n N)
     ∙ omega (arith, length-append records (trailer-bytes (length labels) n N), length-records n jobs)
-
--- ---- one record more
-
-module _ (jobs : ℕ → Job) (l : List ℕ) where
-  pub records-more : (i : ℕ) (part ys : List ℕ) → part ≡ joined i (λ k. record-bytes (jobs k)) ++ drop (record-size * i) l
-      → ys ≡ record-bytes (jobs i)
-      → putMid (record-size * i) (record-size * i + record-size - record-size * i) part ys
-      ≡ joined (i + 1) (λ k. record-bytes (jobs k)) ++ drop (record-size * (i + 1)) l
-  unfolding joined record-bytes
-  records-more i part ys e f =
-      let k : record-size * i + record-size - record-size * i ≡ record-size = omega arith in
-      let m : record-size * (i + 1) ≡ record-size * i + record-size = omega arith in
-      let done : List ℕ = joined i (λ k. record-bytes (jobs k)) in
-      rw (k, m, add-one, e, f) (part-more l done (record-bytes (jobs i)) (record-size * i) record-size (length-records i jobs) refl)
-
-  pub records-length : (i : ℕ) → record-size * i ≤ length l
-      → length (joined i (λ k. record-bytes (jobs k)) ++ drop (record-size * i) l) ≡ length l
-  records-length i h =
-      length-append (joined i (λ k. record-bytes (jobs k))) (drop (record-size * i) l)
-      ∙ omega (arith, length-records i jobs, length-drop (record-size * i) l)
 
 -- ---- the cases of the answer
 
@@ -114,12 +89,14 @@ pub record Writes (jobs : ℕ → Job) (n : ℕ) (labels : List ℕ) (N room : �
   pub short : length labels ≤ n * longest-label
   pub fits : length labels + record-size * n + trailer-size ≤ room
 
-pub writes : (jobs : ℕ → Job) (n : ℕ) (labels : List ℕ) (N room : ℕ) → write-refusal jobs n labels N room ≡ 0 → Writes jobs n labels N room
-writes jobs n labels N room e =
-    let p = all-passed (write-checks jobs n labels N room) refl e in
+pub writes : (jobs : ℕ → Job) (n : ℕ) (labels : List ℕ) (N room k : ℕ) → k ≡ write-refusal jobs n labels N room → k ≡ 0
+    → Writes jobs n labels N room
+writes jobs n labels N room k e z =
+    let p = all-passed (write-checks jobs n labels N room) refl (sym e ∙ z) in
     let m = inside 1 most-modules N (p .1 .0) in
     let sound = any-none n (λ i. faulty n (jobs i)) (p .1 .1 .0) in
     let lengths = eqb-true (label-lengths n jobs) (length labels) (not-false _ (p .1 .1 .1 .0)) in
+    let each : (i : ℕ) → i < n → label-length (jobs i) ≤ longest-label = λ i l. legal n (jobs i) (sound i l) .label-most in
     record {
       few = ltb-false most-jobs n (p .0);
       some = m .0;
@@ -127,7 +104,7 @@ writes jobs n labels N room e =
       sound = sound;
       lengths = lengths;
       printable = p .1 .1 .1 .1 .0;
-      short = omega (arith, lengths, sum-most n (λ i. label-length (jobs i)) longest-label (λ i l. legal n (jobs i) (sound i l) .label-most));
+      short = omega (arith, lengths, sum-most n (λ i. label-length (jobs i)) longest-label each);
       fits = ltb-false room (length labels + record-size * n + trailer-size) (p .1 .1 .1 .1 .1 .0);
     }
 
@@ -143,28 +120,31 @@ module _ (jobs : ℕ → Job) (n : ℕ) (labels : List ℕ) (N : ℕ) (out : Lis
   unfolding write-leaves
   refused-leaves k e h = rw (← e, ne-eqb k 0 h)
 
-  module _ (e : write-refusal jobs n labels N (length out) ≡ 0) where
-    pub written-answer : _≡_ {A = Written}
-        (record { refusal = 0; length = length labels + record-size * n + trailer-size }) (write-answer jobs n labels N out)
+  module _ (k : ℕ) (e : k ≡ write-refusal jobs n labels N (length out)) (z : k ≡ 0) where
+    pub written-answer : (m : ℕ) → m ≡ length labels + record-size * n + trailer-size
+        → _≡_ {A = Written} (record { refusal = 0; length = m }) (write-answer jobs n labels N out)
     unfolding write-answer
-    written-answer = rw e (ap (λ (k : ℕ). record { refusal = 0; length = k }) (sym (length-sheet jobs n labels N)))
+    written-answer m l = rw (sym e ∙ z) (ap (λ (x : ℕ). record { refusal = 0; length = x }) (l ∙ sym (length-sheet jobs n labels N)))
 
-    -- the three parts, written one behind another
-    pub written-leaves : (ls rs ts : List ℕ) → ls ≡ labels → rs ≡ joined n (λ i. record-bytes (jobs i))
-        → ts ≡ trailer-bytes (length labels) n N
-        → putMid (length labels + record-size * n) (length labels + record-size * n + trailer-size - (length labels + record-size * n))
-        (putMid (length labels) (length labels + record-size * n - length labels) (ls ++ drop (length labels) out) rs) ts
-        ≡ write-leaves jobs n labels N out
-    unfolding write-leaves sheet-bytes trailer-bytes
-    written-leaves ls rs ts el er et =
-        let records : List ℕ = joined n (λ i. record-bytes (jobs i)) in
-        let trailer : List ℕ = trailer-bytes (length labels) n N in
-        let k : length labels + record-size * n + trailer-size - (length labels + record-size * n) ≡ trailer-size = omega arith in
-        let m : length labels + record-size * n - length labels ≡ record-size * n = omega arith in
-        let size : length (labels ++ records) ≡ length labels + record-size * n =
-        length-append labels records ∙ omega (arith, length-records n jobs) in
-        rw (e, el, er, et, k, m)
-        (ap (λ (x : List ℕ). putMid (length labels + record-size * n) trailer-size x trailer)
-        (part-more out labels records (length labels) (record-size * n) refl (length-records n jobs))
-        ∙ part-more out (labels ++ records) trailer (length labels + record-size * n) trailer-size size refl
-        ∙ ap₂ (λ (x : List ℕ) (k : ℕ). x ++ drop k out) (append-assoc labels records trailer) (sym (length-sheet jobs n labels N)))
+    pub written-leaves : (after : List ℕ) → after ≡ over (sheet-bytes jobs n labels N) out → after ≡ write-leaves jobs n labels N out
+    unfolding write-leaves
+    written-leaves after l = rw (sym e ∙ z) l
+
+  -- the three parts, written one behind another
+  pub parts-are : (ls rs ts : List ℕ) → ls ≡ labels → rs ≡ joined n (λ i. record-bytes (jobs i)) → ts ≡ trailer-bytes (length labels) n N
+      → putMid (length labels + record-size * n) (length labels + record-size * n + trailer-size - (length labels + record-size * n))
+      (putMid (length labels) (length labels + record-size * n - length labels) (ls ++ drop (length labels) out) rs) ts
+      ≡ over (sheet-bytes jobs n labels N) out
+  unfolding sheet-bytes trailer-bytes
+  parts-are ls rs ts el er et =
+      let records : List ℕ = joined n (λ i. record-bytes (jobs i)) in
+      let trailer : List ℕ = trailer-bytes (length labels) n N in
+      let k : length labels + record-size * n + trailer-size - (length labels + record-size * n) ≡ trailer-size = omega arith in
+      let m : length labels + record-size * n - length labels ≡ record-size * n = omega arith in
+      let size : length (labels ++ records) ≡ length labels + record-size * n =
+      length-append labels records ∙ omega (arith, length-records n jobs) in
+      rw (el, er, et, k, m)
+      (ap (λ (x : List ℕ). putMid (length labels + record-size * n) trailer-size x trailer)
+      (part-more out labels records (length labels) (record-size * n) refl (length-records n jobs))
+      ∙ part-more out (labels ++ records) trailer (length labels + record-size * n) trailer-size size refl
+      ∙ ap₂ (λ (x : List ℕ) (i : ℕ). x ++ drop i out) (append-assoc labels records trailer) (sym (length-sheet jobs n labels N)))

@@ -4,8 +4,8 @@ use mathlib.Core.List.{List, [], _∷_, _++_}
 use Prim.Native.Nat.{ℕ}
 use lib.Dec.{eqb}
 use lib.ListN.{take, drop}
-use Rattle.sheet.specs.Format.{label-length, label-lengths, job-of, count-of}
-use Rattle.sheet.specs.Checks.{Check, first-failing, no-such-job}
+use Rattle.sheet_format.specs.Format.{label-length, label-lengths, job-of, count-of}
+use Rattle.sheet_format.specs.Checks.{Check, first-failing, no-such-job}
 use Rattle.sheet.specs.Read.{read-checks}
 
 -- labels check 1 to 7, then 14

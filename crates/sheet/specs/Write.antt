@@ -4,14 +4,10 @@ use mathlib.Core.List.{List, [], _∷_, _++_}
 use Prim.Native.Nat.{ℕ}
 use lib.Dec.{eqb}
 use lib.ListN.{length, getD, drop}
-use Rattle.sheet.specs.declared.Job.{Job}
+use Rattle.sheet_format.specs.declared.Job.{Job}
 use Rattle.sheet.specs.declared.Written.{Written}
-use Rattle.sheet.specs.Format.{no-job, sheet-bytes}
-use Rattle.sheet.specs.Checks.{Check, first-failing, content-checks, too-many-jobs, wrong-modules, too-short}
-
--- the jobs of a list, in order
-abbrev pub jobs-in : List Job → ℕ → Job
-jobs-in js i = getD js i no-job
+use Rattle.sheet_format.specs.Format.{no-job, sheet-bytes}
+use Rattle.sheet_format.specs.Checks.{Check, first-failing, content-checks, too-many-jobs, wrong-modules, too-short}
 
 -- writing checks 2, 3, 5, 6, 7, 10; the last against the room in the lent buffer
 abbrev pub write-checks : (ℕ → Job) → ℕ → List ℕ → ℕ → ℕ → List Check
@@ -28,9 +24,13 @@ write-answer jobs n labels N out =
     (record { refusal = 0; length = length (sheet-bytes jobs n labels N) })
     (record { refusal = write-refusal jobs n labels N (length out); length = 0 })
 
--- the lent buffer afterwards: the sheet, and behind it what was there; refused: what was there
+-- bytes written over the front of a buffer: those behind them keep their contents
+abbrev pub over : List ℕ → List ℕ → List ℕ
+over bytes out = bytes ++ drop (length bytes) out
+
+-- the lent buffer afterwards: the sheet over its front; refused: no byte is written
 unfoldable pub write-leaves : (ℕ → Job) → ℕ → List ℕ → ℕ → List ℕ → List ℕ
 write-leaves jobs n labels N out =
     cond (eqb (write-refusal jobs n labels N (length out)) 0)
-    (sheet-bytes jobs n labels N ++ drop (length (sheet-bytes jobs n labels N)) out)
+    (over (sheet-bytes jobs n labels N) out)
     out

@@ -1,29 +1,17 @@
 // Job sheets: reading, the label of a job, writing.
-mod checks;
-mod figures;
-mod numbers;
-mod records;
-mod trailer;
-
 ghost use mathlib.Core.Path.{_≡_};
-ghost use Prim.Native.Nat.{_+_};
+ghost use Prim.Native.Nat.{_+_, _*_, _≤_};
 ghost use lib.ListN.{length};
+ghost use Rattle.sheet_format.specs.Figures.{most-jobs, record-size, trailer-size, longest-label};
+ghost use Rattle.sheet_format.specs.Format.{jobs-in, sheet-bytes};
 ghost use Rattle.sheet.specs.Read.{refused, reading};
-ghost use Rattle.sheet.specs.Write.{jobs-in, write-refusal, write-answer, write-leaves};
+ghost use Rattle.sheet.specs.Write.{over, write-refusal, write-answer, write-leaves};
 ghost use Rattle.sheet.specs.Label.{label-refusal, label-of, label-at};
-use figures::MOST_JOBS;
-use figures::MOST_MODULES;
-use figures::RECORD_SIZE;
-use figures::TRAILER_SIZE;
-
-// A job, in the widths of its record.
-pub struct Job {
-    pub label_len: u8,
-    pub modules: u8,
-    pub minutes: u16,
-    pub earlier: u32,
-    pub departure: u16,
-}
+pub use sheet_format::Job;
+use sheet_format::figures::MOST_JOBS;
+use sheet_format::figures::MOST_MODULES;
+use sheet_format::figures::RECORD_SIZE;
+use sheet_format::figures::TRAILER_SIZE;
 
 // What reading answers: refusal 0 with the jobs, n and N, or the number of the refusal with all else 0.
 pub struct Reading {
@@ -42,7 +30,7 @@ pub struct Written {
 fn refused(refusal: u32) -> Reading
     ensures { λ r. ⌜ r ≡ refused refusal ⌝ }
 {
-    let jobs = records::no_jobs();
+    let jobs = sheet_format::records::no_jobs();
     Reading {
         refusal,
         jobs,
@@ -55,14 +43,18 @@ fn refused(refusal: u32) -> Reading
 pub fn read(sheet: &[u8]) -> Reading
     ensures { λ r. ⌜ r ≡ reading (now (sheet .entry)) ⌝ }
 {
-    let early = trailer::refusal(sheet);
+    let early = sheet_format::trailer::refusal(sheet);
     if early != 0 {
         return refused(early);
     }
-    let offset = trailer::offset(sheet) as usize;
-    let count = trailer::count(sheet) as usize;
-    let found = records::read_all(sheet, offset, count);
-    let refusal = checks::content_refusal(found.faulty, found.total, &sheet[..offset]);
+    let offset = sheet_format::trailer::offset(sheet) as usize;
+    let count = sheet_format::trailer::count(sheet) as usize;
+    let found = sheet_format::records::read_all(sheet, offset, count);
+    let refusal = sheet_format::checks::content_refusal(
+        found.faulty,
+        found.total,
+        &sheet[..offset],
+    );
     if refusal != 0 {
         return refused(refusal);
     }
@@ -71,7 +63,7 @@ pub fn read(sheet: &[u8]) -> Reading
         refusal: 0,
         jobs,
         count,
-        modules: trailer::modules(sheet),
+        modules: sheet_format::trailer::modules(sheet),
     }
 }
 
@@ -98,8 +90,8 @@ pub fn label(sheet: &[u8], job: usize) -> &[u8]
     if label_refusal(sheet, job) != 0 {
         return &sheet[..0];
     }
-    let offset = trailer::offset(sheet) as usize;
-    let from = records::label_start(sheet, offset, job);
+    let offset = sheet_format::trailer::offset(sheet) as usize;
+    let from = sheet_format::records::label_start(sheet, offset, job);
     let to = from + sheet[offset + RECORD_SIZE * job] as usize;
     &sheet[from..to]
 }
@@ -117,11 +109,11 @@ fn write_refusal(
     if MOST_JOBS < count {
         return 2;
     }
-    if checks::outside(1, MOST_MODULES, modules as usize) {
+    if sheet_format::checks::outside(1, MOST_MODULES, modules as usize) {
         return 3;
     }
-    let found = records::survey(jobs, count);
-    let refusal = checks::content_refusal(found.faulty, found.total, labels);
+    let found = sheet_format::records::survey(jobs, count);
+    let refusal = sheet_format::checks::content_refusal(found.faulty, found.total, labels);
     if refusal != 0 {
         return refusal;
     }
@@ -131,7 +123,29 @@ fn write_refusal(
     0
 }
 
-// Writes the sheet of the first `count` jobs into the front of the lent buffer, each part into its own bytes.
+// Labels, records and trailer, each into its own part of the buffer, one behind another; the length of the three.
+fn write_parts(
+    jobs: [Job; MOST_JOBS],
+    count: usize,
+    labels: &[u8],
+    modules: u16,
+    out: &mut [u8],
+) -> usize
+    requires { ⌜ (count ≤ most-jobs) × (length (now labels) ≤ count * longest-label)
+        × (length (now labels) + record-size * count + trailer-size ≤ length (now out)) ⌝ }
+    ensures { λ r. ⌜ (r ≡ length (now (labels .entry)) + record-size * count + trailer-size)
+        × (now (out .exit) ≡ over (sheet-bytes (jobs-in jobs) count (now (labels .entry)) modules) (now (out .entry))) ⌝ }
+{
+    let offset = labels.len();
+    let end = offset + RECORD_SIZE * count;
+    let length = end + TRAILER_SIZE;
+    sheet_format::records::write_labels(&mut out[..offset], labels);
+    sheet_format::records::write_all(&mut out[offset..end], jobs, count);
+    sheet_format::trailer::write(&mut out[end..length], offset as u32, count as u16, modules);
+    length
+}
+
+// Writes the sheet of the first `count` jobs into the front of the lent buffer.
 pub fn write(
     jobs: [Job; MOST_JOBS],
     count: usize,
@@ -146,11 +160,8 @@ pub fn write(
     if refusal != 0 {
         return Written { refusal, length: 0 };
     }
-    let offset = labels.len();
-    let end = offset + RECORD_SIZE * count;
-    let length = end + TRAILER_SIZE;
-    records::write_labels(&mut out[..offset], labels);
-    records::write_all(&mut out[offset..end], jobs, count);
-    trailer::write(&mut out[end..length], offset as u32, count as u16, modules);
-    Written { refusal: 0, length }
+    Written {
+        refusal: 0,
+        length: write_parts(jobs, count, labels, modules, out),
+    }
 }

@@ -1,9 +1,8 @@
 -- `sheet::refused` meets its contract.
-use Rattle.sheet.specs.declared.Job.{Job}
 use mathlib.Core.Path.{ap}
 use mathlib.Core.List.{List}
-use Prim.Native.Nat.{_-_}
 use borrow.Author.Needs.{needs}
+use Rattle.sheet_format.specs.declared.Job.{Job}
 use Rattle.sheet.proofs.refused.Statement.{statement}
 use Rattle.sheet.proofs.refused.Tie as tie
 
@@ -11,7 +10,8 @@ no-jobs-requires : tie.Need-no-jobs-requires
 no-jobs-requires c κs = search needs
 
 returns : tie.Need-returns
-returns c = ap (λ (js : List Job). record { refusal = c .before .args .refusal; jobs = js; count = 0; modules = 0 }) (c .no-jobs .ensures)
+returns c =
+    ap (λ (js : List Job). record { refusal = c .before .args .refusal; jobs = js; count = 0; modules = 0 }) (c .no-jobs .ensures)
 
 pub refused-spec : {M : Type 1} → statement M
 refused-spec = tie.close (tie.spec no-jobs-requires returns)

@@ -1,9 +1,8 @@
 -- `sheet::write_refusal` meets its contract: each number stands behind the checks that passed.
-use Rattle.sheet.specs.Write.{jobs-in}
-use Rattle.sheet.proofs.Writes.{found-is, refused-count, refused-modules, refused-content, refused-room, not-refused}
 use mathlib.Core.Path.{sym, _∙_}
-use Prim.Native.Nat.{_-_}
 use borrow.Author.Needs.{needs}
+use Rattle.sheet_format.specs.Format.{jobs-in}
+use Rattle.sheet.proofs.Writes.{found-is, refused-count, refused-modules, refused-content, refused-room, not-refused}
 use Rattle.sheet.proofs.write_refusal.Statement.{statement}
 use Rattle.sheet.proofs.write_refusal.Tie as tie
 
@@ -18,7 +17,8 @@ outside-requires c κs = search needs
 returns-2 : tie.Need-returns-2
 returns-2 c =
     let a = c .before .before .before .before .args in
-    refused-modules (jobs-in (a .jobs)) (a .count) (a .labels .now) (a .modules) (a .room) (c .before .before .if1 .left) (sym (c .before .outside .ensures) ∙ c .if2 .taken)
+    refused-modules (jobs-in (a .jobs)) (a .count) (a .labels .now) (a .modules) (a .room) (c .before .before .if1 .left) (sym
+    (c .before .outside .ensures) ∙ c .if2 .taken)
 
 survey-requires : tie.Need-survey-requires
 survey-requires c κs = search needs
@@ -29,10 +29,14 @@ content-refusal-requires c κs = search needs
 returns-3 : tie.Need-returns-3
 returns-3 c =
     let a = c .before .before .before .before .before .before .before .args in
-    let k = found-is (jobs-in (a .jobs)) (a .count) (a .labels .now) (a .modules) (c .before .before .survey .result .total) (c .before .content-refusal .result)
-    (c .before .before .survey .result .faulty) (c .before .before .survey .ensures .1) (c .before .before .survey .ensures .0) (c .before .content-refusal .ensures) in
-    refused-content (jobs-in (a .jobs)) (a .count) (a .labels .now) (a .modules) (a .room) (c .before .before .before .before .before .if1 .left) (sym (c .before .before .before .before .outside .ensures) ∙ c .before .before .before .if2 .left)
-    (c .before .content-refusal .result) k (c .if3 .taken)
+    let s = c .before .before .survey in
+    let d = c .before .content-refusal in
+    let k = found-is (jobs-in (a .jobs)) (a .count) (a .labels .now) (a .modules) (s .result .total) (d .result)
+    (s .result .faulty) (s .ensures .1) (s .ensures .0) (d .ensures) in
+    let m = sym (c .before .before .before .before .outside .ensures) ∙ c .before .before .before .if2 .left in
+    refused-content (jobs-in (a .jobs)) (a .count) (a .labels .now) (a .modules) (a .room)
+    (c .before .before .before .before .before .if1 .left) m
+    (d .result) k (c .if3 .taken)
 
 mul-if4 : tie.Need-mul-if4
 mul-if4 c = search needs
@@ -46,17 +50,25 @@ add-if4-2 c = search needs
 returns-4 : tie.Need-returns-4
 returns-4 c =
     let a = c .before .before .before .before .before .before .before .before .args in
-    let k = found-is (jobs-in (a .jobs)) (a .count) (a .labels .now) (a .modules) (c .before .before .before .survey .result .total) (c .before .before .content-refusal .result)
-    (c .before .before .before .survey .result .faulty) (c .before .before .before .survey .ensures .1) (c .before .before .before .survey .ensures .0) (c .before .before .content-refusal .ensures) in
-    refused-room (jobs-in (a .jobs)) (a .count) (a .labels .now) (a .modules) (a .room) (c .before .before .before .before .before .before .if1 .left) (sym (c .before .before .before .before .before .outside .ensures) ∙ c .before .before .before .before .if2 .left)
+    let s = c .before .before .before .survey in
+    let d = c .before .before .content-refusal in
+    let k = found-is (jobs-in (a .jobs)) (a .count) (a .labels .now) (a .modules) (s .result .total) (d .result)
+    (s .result .faulty) (s .ensures .1) (s .ensures .0) (d .ensures) in
+    let m = sym (c .before .before .before .before .before .outside .ensures) ∙ c .before .before .before .before .if2 .left in
+    refused-room (jobs-in (a .jobs)) (a .count) (a .labels .now) (a .modules) (a .room)
+    (c .before .before .before .before .before .before .if1 .left) m
     (sym k ∙ c .before .if3 .left) (c .if4 .taken)
 
 returns-5 : tie.Need-returns-5
 returns-5 c =
     let a = c .before .before .before .before .before .before .before .before .args in
-    let k = found-is (jobs-in (a .jobs)) (a .count) (a .labels .now) (a .modules) (c .before .before .before .survey .result .total) (c .before .before .content-refusal .result)
-    (c .before .before .before .survey .result .faulty) (c .before .before .before .survey .ensures .1) (c .before .before .before .survey .ensures .0) (c .before .before .content-refusal .ensures) in
-    not-refused (jobs-in (a .jobs)) (a .count) (a .labels .now) (a .modules) (a .room) (c .before .before .before .before .before .before .if1 .left) (sym (c .before .before .before .before .before .outside .ensures) ∙ c .before .before .before .before .if2 .left)
+    let s = c .before .before .before .survey in
+    let d = c .before .before .content-refusal in
+    let k = found-is (jobs-in (a .jobs)) (a .count) (a .labels .now) (a .modules) (s .result .total) (d .result)
+    (s .result .faulty) (s .ensures .1) (s .ensures .0) (d .ensures) in
+    let m = sym (c .before .before .before .before .before .outside .ensures) ∙ c .before .before .before .before .if2 .left in
+    not-refused (jobs-in (a .jobs)) (a .count) (a .labels .now) (a .modules) (a .room)
+    (c .before .before .before .before .before .before .if1 .left) m
     (sym k ∙ c .before .if3 .left) (c .if4 .left)
 
 pub write-refusal-spec : {M : Type 1} → statement M
