@@ -1,15 +1,15 @@
 -- What the label calls answer in each case, and where a label lies.
 use mathlib.Core.Path.{_≡_, refl, sym, ap, _∙_}
-use mathlib.Core.Bool.{Bool, true, false, cond}
+use mathlib.Core.Bool.{cond}
 use mathlib.Core.List.{List, [], _∷_}
 use Prim.Native.Nat.{ℕ, suc, _+_, _-_, _*_, _≤_, _<_}
 use native.Mathlib.Omega.{arith}
-use lib.Dec.{leb, eqb}
+use lib.Dec.{leb}
 use lib.ListN.{length, getD, take, drop}
 use borrow.Author.Tests.{leb-false, le-leb, lt-leb, ne-eqb}
 use Rattle.counting.specs.Counting.{sum}
 use Rattle.counting.proofs.Sums.{sum-part}
-use Rattle.sheet_format.specs.Figures.{most-jobs, record-size}
+use Rattle.sheet_format.specs.Figures.{record-size}
 use Rattle.sheet_format.specs.Format.{record-at, label-length, label-lengths, job-from, job-of, offset-of, count-of}
 use Rattle.sheet_format.specs.Checks.{first-failing, no-such-job}
 use Rattle.sheet.specs.Read.{read-checks, read-refusal}

@@ -2,3 +2,7 @@
 pub mod Answers
 pub mod Labels
 pub mod Writes
+pub mod Refusals
+pub mod Layouts
+pub mod WrittenReads
+pub mod ReadIsWritten

@@ -2,11 +2,10 @@
 use mathlib.Core.Path.{_≡_, refl, sym, ap, ap₂, _∙_}
 use mathlib.Core.Bool.{Bool, true, false, not, cond}
 use mathlib.Core.List.{List, [], _∷_, _++_, append-assoc}
-use Prim.Native.Nat.{ℕ, suc, _+_, _-_, _*_, _≤_, _<_}
-use native.Mathlib.Numerals.{add-one}
+use Prim.Native.Nat.{ℕ, _+_, _-_, _*_, _≤_, _<_}
 use native.Mathlib.Omega.{arith}
-use lib.Dec.{ltb, eqb}
-use lib.ListN.{length, drop, length-append, length-drop}
+use lib.Dec.{eqb}
+use lib.ListN.{length, drop, length-append}
 use borrow.Author.Tests.{ltb-false, lt-ltb, le-ltb, eqb-true, ne-eqb, not-false}
 use borrow.Rule.Slice.PartMut.{putMid}
 use Rattle.counting.proofs.Ranges.{any-none}

@@ -3,10 +3,10 @@ use mathlib.Core.Bool.{cond}
 use mathlib.Core.List.{List, [], _∷_, _++_}
 use Prim.Native.Nat.{ℕ}
 use lib.Dec.{eqb}
-use lib.ListN.{length, getD, drop}
+use lib.ListN.{length, drop}
 use Rattle.sheet_format.specs.declared.Job.{Job}
 use Rattle.sheet.specs.declared.Written.{Written}
-use Rattle.sheet_format.specs.Format.{no-job, sheet-bytes}
+use Rattle.sheet_format.specs.Format.{sheet-bytes}
 use Rattle.sheet_format.specs.Checks.{Check, first-failing, content-checks, too-many-jobs, wrong-modules, too-short}
 
 -- writing checks 2, 3, 5, 6, 7, 10; the last against the room in the lent buffer

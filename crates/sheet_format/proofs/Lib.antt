@@ -3,3 +3,4 @@ pub mod Bounds
 pub mod Order
 pub mod Lists
 pub mod Parts
+pub mod Digits

@@ -1,9 +1,10 @@
 -- The checks of reading, labels and writing (document 01, 'Checking order'), each a test that is true where the check fails.
-use mathlib.Core.Bool.{Bool, cond, not, _||_}
+use mathlib.Core.Path.{_≡_}
+use mathlib.Core.Bool.{Bool, true, false, cond, not, _||_}
 use mathlib.Core.List.{List, [], _∷_}
-use Prim.Native.Nat.{ℕ, _+_, _*_, _^_}
+use Prim.Native.Nat.{ℕ, _+_, _*_, _^_, _<_}
 use lib.Dec.{ltb, leb, eqb}
-use lib.ListN.{length}
+use lib.ListN.{length, getD}
 use Rattle.counting.specs.Counting.{any}
 use Rattle.sheet_format.specs.declared.Job.{Job}
 use Rattle.sheet_format.specs.Figures.{most-jobs, most-modules, longest-sheet, record-size, trailer-size, longest-label}
@@ -69,6 +70,13 @@ Check = ℕ × Bool
 unfoldable pub first-failing : List Check → ℕ
 first-failing [] = 0
 first-failing (c ∷ cs) = cond (c .1) (c .0) (first-failing cs)
+
+-- check k of the list fails, and none that stands before it does
+pub record FirstFails (cs : List Check) (k : ℕ) : Type 0 where
+  pub place : ℕ
+  pub listed : place < length cs
+  pub fails : getD cs place (0, false) ≡ (k, true)
+  pub earlier : (i : ℕ) → i < place → getD cs i (0, false) .1 ≡ false
 
 -- 5 to 7, of n jobs and the label bytes there are
 abbrev pub content-checks : ℕ → (ℕ → Job) → List ℕ → List Check
