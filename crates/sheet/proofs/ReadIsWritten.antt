@@ -12,8 +12,8 @@ use Rattle.counting.proofs.Sums.{sum-same}
 use Rattle.counting.proofs.Ranges.{none-any}
 use Rattle.sheet_format.specs.declared.Job.{Job}
 use Rattle.sheet_format.specs.Figures.{most-jobs, most-modules, record-size, trailer-size}
-use Rattle.sheet_format.specs.Format.{byte-at, record-bytes, trailer-bytes, joined, label-length, label-lengths, sheet-bytes, jobs-in, places}
-use Rattle.sheet_format.specs.Format.{trailer-at, offset-of, count-of, modules-of, job-of, labels-of}
+use Rattle.sheet_format.specs.Format.{byte-at, record-bytes, trailer-bytes, joined, label-length, label-lengths, sheet-bytes}
+use Rattle.sheet_format.specs.Format.{jobs-in, places, trailer-at, offset-of, count-of, modules-of, job-of, labels-of}
 use Rattle.sheet_format.specs.Checks.{faulty}
 use Rattle.sheet_format.proofs.Bounds.{not-outside}
 use Rattle.sheet_format.proofs.Order.{none-failing}
@@ -139,12 +139,14 @@ module _ (s : List ℕ) (bytes : (i : ℕ) → byte-at s i < 256) (answered-0 : 
   pub read-is-written : rewrite-answer s (reading s) out ≡ record { refusal = 0; length = length s }
   read-is-written =
       ap (λ (r : Reading). rewrite-answer s r out) (read-answer s reads-0)
-      ∙ ap (λ (ls : List ℕ). write-answer (jobs-in (places (count-of s) (job-of s))) (count-of s) ls (modules-of s) out) (labels-are s reads-0)
+      ∙ ap (λ (ls : List ℕ). write-answer (jobs-in (places (count-of s) (job-of s))) (count-of s) ls (modules-of s) out)
+      (labels-are s reads-0)
       ∙ answer-again s reads-0 bytes out room (jobs-in (places (count-of s) (job-of s))) (job-in-place (count-of s) (job-of s))
 
   -- and the bytes are the sheet, over what was in the buffer
   pub read-is-written-bytes : rewrite-leaves s (reading s) out ≡ over s out
   read-is-written-bytes =
       ap (λ (r : Reading). rewrite-leaves s r out) (read-answer s reads-0)
-      ∙ ap (λ (ls : List ℕ). write-leaves (jobs-in (places (count-of s) (job-of s))) (count-of s) ls (modules-of s) out) (labels-are s reads-0)
+      ∙ ap (λ (ls : List ℕ). write-leaves (jobs-in (places (count-of s) (job-of s))) (count-of s) ls (modules-of s) out)
+      (labels-are s reads-0)
       ∙ leaves-again s reads-0 bytes out room (jobs-in (places (count-of s) (job-of s))) (job-in-place (count-of s) (job-of s))

@@ -66,7 +66,8 @@ module _ (jobs : ℕ → Job) (n : ℕ) (labels : List ℕ) (N : ℕ) where
       unfolding first-failing
       behind-content e =
           behind-modules
-          ∙ first-behind (content-checks n jobs labels) ((10, too-short n labels room) ∷ []) (all-passed (content-checks n jobs labels) refl e)
+          ∙ first-behind (content-checks n jobs labels) ((10, too-short n labels room) ∷ [])
+          (all-passed (content-checks n jobs labels) refl e)
 
       pub refused-room : first-failing (content-checks n jobs labels) ≡ 0 → room < length labels + record-size * n + trailer-size
           → 10 ≡ write-refusal jobs n labels N room

@@ -93,12 +93,14 @@ module _ (jobs : ℕ → Job) (n : ℕ) (labels : List ℕ) (N room : ℕ) (w : 
       rw (length-drop (label-lengths i jobs) labels) (omega (arith, w .lengths)) in (
         there,
         rw there
-            (ap₂ (λ (k m : ℕ). take k (drop m sheet)) (ap (λ (j : Job). label-length j) (job-is jobs n labels N i l)) (lengths-is i (omega arith))
+            (ap₂ (λ (k m : ℕ). take k (drop m sheet)) (ap (λ (j : Job). label-length j) (job-is jobs n labels N i l))
+            (lengths-is i (omega arith))
             ∙ ap (take (label-length (jobs i))) (drop-append-le (label-lengths i jobs) labels rest start)
             ∙ take-append-le (label-length (jobs i)) (drop (label-lengths i jobs) labels) rest size),
       )
 
-module _ (jobs : ℕ → Job) (n : ℕ) (labels : List ℕ) (N : ℕ) (out : List ℕ) (answered-0 : write-answer jobs n labels N out .refusal ≡ 0) where
+module _ (jobs : ℕ → Job) (n : ℕ) (labels : List ℕ) (N : ℕ) (out : List ℕ)
+    (answered-0 : write-answer jobs n labels N out .refusal ≡ 0) where
   legal-jobs : Writes jobs n labels N (length out)
   legal-jobs = writes jobs n labels N (length out) 0 (sym (sym (write-number jobs n labels N out) ∙ answered-0)) refl
 

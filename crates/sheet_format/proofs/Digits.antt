@@ -69,7 +69,8 @@ module _ (s : List ℕ) (bytes : (i : ℕ) → byte-at s i < 256) where
   pub record-back : (at : ℕ) → at + record-size ≤ length s → record-bytes (record-at s at) ≡ take record-size (drop at s)
   unfolding record-bytes record-at joined
   record-back at h =
-      ap₂ (λ (x y : List ℕ). byte-at s at ∷ byte-at s (at + 1) ∷ (x ++ y)) (u16-back (at + 2)) (ap₂ _++_ (u32-back (at + 4)) (u16-back (at + 8)))
+      ap₂ (λ (x y : List ℕ). byte-at s at ∷ byte-at s (at + 1) ∷ (x ++ y)) (u16-back (at + 2))
+      (ap₂ _++_ (u32-back (at + 4)) (u16-back (at + 8)))
       ∙ rw (segment s at record-size h) (simp (add-assoc, add-zero))
 
   pub trailer-back : (at : ℕ) → at + trailer-size ≤ length s

@@ -1,4 +1,4 @@
--- `sheet_format::checks::faulty` meets its contract: the five tests, and what is left of the earlier jobs without their `count` lowest bits.
+-- `sheet_format::checks::faulty` meets its contract: five tests, the last on the earlier jobs without their `count` lowest bits.
 use borrow.Author.Needs.{needs}
 use Rattle.sheet_format.specs.Checks.{faulty}
 use Rattle.sheet_format.proofs.Bounds.{left-of}
@@ -50,7 +50,8 @@ either-requires-4 c κs = search needs
 returns : tie.Need-returns
 unfolding faulty
 returns c =
-    cc (left-of (c .before .before .before .before .before .before .before .before .before .before .before .before .before .args .count) (c .before .before .before .before .before .before .before .before .before .before .before .before .before .args .job .earlier))
+    let a = c .before .before .before .before .before .before .before .before .before .before .before .before .before .args in
+    cc (left-of (a .count) (a .job .earlier))
 
 pub faulty-spec : {M : Type 1} → statement M
 faulty-spec =

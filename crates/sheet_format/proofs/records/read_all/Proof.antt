@@ -1,5 +1,5 @@
--- `sheet_format::records::read_all` meets its contract: after i records, their jobs stand in their places, their label lengths are summed, and it is
--- known whether one of them is faulty.
+-- `sheet_format::records::read_all` meets its contract: after i records, their jobs stand in their places, their label lengths are
+-- summed, and it is known whether one of them is faulty.
 use mathlib.Core.Path.{_≡_, refl, ap, ap₂, _∙_}
 use mathlib.Core.List.{List}
 use Prim.Native.Nat.{_-_, _*_, _≤_}

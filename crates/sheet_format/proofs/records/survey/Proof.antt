@@ -1,4 +1,5 @@
--- `sheet_format::records::survey` meets its contract: after i jobs, their label lengths are summed, and it is known whether one of them is faulty.
+-- `sheet_format::records::survey` meets its contract: after i jobs, their label lengths are summed, and it is known whether one of
+-- them is faulty.
 use mathlib.Core.Path.{_≡_, refl, ap, _∙_}
 use Prim.Native.Nat.{_-_, _*_, _≤_}
 use native.Mathlib.Numerals.{add-one}
