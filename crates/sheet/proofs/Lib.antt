@@ -6,3 +6,4 @@ pub mod Refusals
 pub mod Layouts
 pub mod WrittenReads
 pub mod ReadIsWritten
+pub mod Examples

@@ -1,16 +1,17 @@
 -- What the tests of ranges and of earlier-job bits say of the numbers.
-use mathlib.Core.Path.{_≡_}
+use mathlib.Core.Path.{_≡_, refl, sym, ap, _∙_}
+use mathlib.Core.Logic.{_↔_, ⊎-elim}
 use mathlib.Core.Bool.{false, not}
-use Prim.Native.Nat.{ℕ, _*_, _/_, _^_, _≤_, _<_}
-use native.Mathlib.Nat.{div-eq-of-lt, le-div-iff-mul-le}
+use Prim.Native.Nat.{ℕ, zero, suc, _+_, _*_, _/_, _%_, _^_, _≤_, _<_}
+use native.Mathlib.Nat.{add-zero, lt-of-lt-of-le, div-eq-of-lt, div-eq-of-lt-le, le-div-iff-mul-le}
 use native.Mathlib.Omega.{arith}
 use lib.Dec.{ltb, leb, eqb}
-use lib.Pow.{pow-pos}
+use lib.Pow.{pow-pos, pow-mono, pow-add}
 use borrow.Author.Tests.{ltb-false, le-ltb, leb-true, leb-false, le-leb, eqb-false, ne-eqb, not-true}
 use Rattle.counting.proofs.Tests.{less-or-not, or-left, or-right, not-of-false, same-test}
-use mathlib.Core.Logic.{⊎-elim}
 use Rattle.sheet_format.specs.declared.Job.{Job}
-use Rattle.sheet_format.specs.Figures.{longest-label, widest-job, most-minutes, last-departure}
+use Rattle.sheet_format.specs.Figures.{most-jobs, longest-sheet, record-size, trailer-size, longest-label, widest-job, most-minutes}
+use Rattle.sheet_format.specs.Figures.{last-departure}
 use Rattle.sheet_format.specs.Format.{label-length}
 use Rattle.sheet_format.specs.Checks.{outside, faulty}
 
@@ -32,6 +33,34 @@ left-of n u =
     let one : 1 * 2 ^ n ≤ u = omega (arith, leb-true (2 ^ n) u e) in
     let d : 1 ≤ u / 2 ^ n = le-div-iff-mul-le (pow-pos n) .1 one in
     omega arith)))
+
+-- a bit at n or higher is set exactly where u is 2 ^ n or more
+top-bit : (n u k : ℕ) → u < 2 ^ (n + k) → 2 ^ n ≤ u → (i : ℕ) × (n ≤ i) × (u / 2 ^ i % 2 ≡ 1)
+top-bit n u zero l h = absurd (omega (arith, ap (λ (m : ℕ). 2 ^ m) (add-zero n)))
+top-bit n u (suc k) l h = ⊎-elim (λ low. top-bit n u k low h) here (less-or-not u (2 ^ (n + k)))
+  where
+    here : 2 ^ (n + k) ≤ u → (i : ℕ) × (n ≤ i) × (u / 2 ^ i % 2 ≡ 1)
+    here m =
+        let e : n + suc k ≡ n + k + 1 = omega arith in
+        let d : 2 ^ (n + suc k) ≡ 2 ^ (n + k) * 2 = ap (λ (x : ℕ). 2 ^ x) e ∙ pow-add 2 (n + k) 1 in
+        let one : u / 2 ^ (n + k) ≡ 1 = div-eq-of-lt-le (2 ^ (n + k)) (omega arith) (omega arith) in
+        (n + k, omega arith, ap (λ (x : ℕ). x % 2) one)
+
+pub high-bit : (n u : ℕ) → u < 2 ^ 32 → (2 ^ n ≤ u) ↔ ((i : ℕ) × (n ≤ i) × (u / 2 ^ i % 2 ≡ 1))
+high-bit n u f = (
+  top-bit n u 32 (lt-of-lt-of-le f (pow-mono {i = 32} {j = n + 32} (omega arith))),
+  λ b. ⊎-elim
+      (λ (l : u < 2 ^ n).
+      let z : u / 2 ^ (b .0) ≡ 0 = div-eq-of-lt (lt-of-lt-of-le l (pow-mono (b .1))) in
+      let c : 0 % 2 ≡ 1 = ap (λ (x : ℕ). x % 2) (sym z) ∙ b .2 in
+      absurd (omega arith))
+      (λ h. h)
+      (less-or-not u (2 ^ n)),
+)
+
+-- the longest sheet is that of the most jobs with the longest labels
+pub longest : longest-sheet ≡ most-jobs * (longest-label + record-size) + trailer-size
+longest = refl
 
 -- the ranges that a record's fields keep where it is not faulty
 pub record Legal (n : ℕ) (j : Job) : Type 0 where

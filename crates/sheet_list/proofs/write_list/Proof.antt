@@ -232,7 +232,7 @@ module _ {M : Type 1} (𝓤 : URA M) (H : Heap 𝓤) (A : Atoms 𝓤) (W : Given
         move ! (4 ∷ []) $ use1 W (‵ OwnL ⊛ ‵ OwnL) (shr-slice-copy 𝓤 H A W (named 1) κ₁ u8 .twice sl (vl ∷ [])) $ split ! $
         move ! (5 ∷ 6 ∷ 0 ∷ 7 ∷ []) $ join ! $
         use3 W (raw (Write 𝓤 H A mem run .pre (to-write d))) (goes-write d (list-is d _ is)) $
-        -- [`write_list`'s pre; labels; jobs's token; true; jobs; the locals from _8 down]
+        -- [`write_gathered`'s pre; labels; jobs's token; true; jobs; the locals from _8 down]
         calls-at ! fm (Write 𝓤 H A mem run) known-write (to-write d)
         (and-then ! (load ! (from ! (stop !)) (look ! 11 refl))
         (and-then ! (load ! (from ! (stop !)) (look ! 9 refl))
