@@ -37,7 +37,8 @@ module _ (f g : ℕ → Job) (n : ℕ) (same : (i : ℕ) → i < n → f i ≡ g
       (any-same n (λ i. faulty n (f i)) (λ i. faulty n (g i)) (λ i l. ap (faulty n) (same i l)))
       (sum-same n (λ i. label-length (f i)) (λ i. label-length (g i)) (λ i l. ap (λ (j : Job). label-length j) (same i l)))
 
-  answer-same : (out : List ℕ) → write-answer f n labels N out ≡ write-answer g n labels N out
+  -- the places past the first n are ignored
+  pub answer-same : (out : List ℕ) → write-answer f n labels N out ≡ write-answer g n labels N out
   unfolding write-answer
   answer-same out =
       ap₂
@@ -45,7 +46,7 @@ module _ (f g : ℕ → Job) (n : ℕ) (same : (i : ℕ) → i < n → f i ≡ g
       (record { refusal = k; length = 0 }))
       (refusal-same (length out)) sheet-same
 
-  leaves-same : (out : List ℕ) → write-leaves f n labels N out ≡ write-leaves g n labels N out
+  pub leaves-same : (out : List ℕ) → write-leaves f n labels N out ≡ write-leaves g n labels N out
   unfolding write-leaves
   leaves-same out = ap₂ (λ (k : ℕ) (s : List ℕ). cond (eqb k 0) (over s out) out) (refusal-same (length out)) sheet-same
 
