@@ -1,7 +1,7 @@
 -- Laws of the largest value, of tests of every and any number below n, and searches among them.
 use mathlib.Core.Path.{_≡_, refl, ap₂}
 use mathlib.Core.Logic.{_⊎_, inl, inr, ⊎-elim}
-use mathlib.Core.Bool.{Bool, true, false}
+use mathlib.Core.Bool.{Bool, true, false, _||_}
 use Prim.Native.Nat.{ℕ, zero, suc, _≤_, _<_, max, zero-le}
 use native.Mathlib.Omega.{arith}
 use native.Mathlib.Nat.{le-refl, not-suc-le-zero}
@@ -59,6 +59,11 @@ pub none-any : (n : ℕ) (p : ℕ → Bool) → ((i : ℕ) → i < n → p i ≡
 unfolding any
 none-any zero p h = refl
 none-any (suc n) p h = rw (none-any n p (below-suc n h)) (h n (le-refl _))
+
+pub any-same : (n : ℕ) (p q : ℕ → Bool) → ((i : ℕ) → i < n → p i ≡ q i) → any n p ≡ any n q
+unfolding any
+any-same zero p q h = refl
+any-same (suc n) p q h = ap₂ _||_ (any-same n p q (below-suc n h)) (h n (le-refl _))
 
 -- ---- searches
 

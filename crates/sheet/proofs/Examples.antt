@@ -1,0 +1,115 @@
+-- E1 of document 01 as a sheet, and one job whose record, lengths and label byte are wrong at once: what the definitions give.
+use mathlib.Core.Path.{_≡_, refl, ap}
+use mathlib.Core.Logic.{⊎-elim}
+use mathlib.Core.Bool.{false}
+use mathlib.Core.List.{List, [], _∷_, _++_}
+use Prim.Native.Nat.{ℕ, _≤_, _<_}
+use native.Mathlib.Omega.{arith}
+use lib.Dec.{leb, lit≤}
+use lib.ListN.{length, replicate, List·getD-eq-default}
+use borrow.Author.Tests.{leb-false}
+use Rattle.counting.specs.Counting.{sum, any}
+use Rattle.counting.proofs.Tests.{less-or-not}
+use Rattle.counting.proofs.Ranges.{any-none}
+use Rattle.sheet_format.specs.declared.Job.{Job}
+use Rattle.sheet_format.specs.Format.{byte-at, u16-at, u32-at, record-at, record-bytes, trailer-bytes, joined, sheet-bytes, jobs-in}
+use Rattle.sheet_format.specs.Format.{places}
+use Rattle.sheet_format.specs.Checks.{outside, faulty, first-failing}
+use Rattle.sheet.specs.declared.Reading.{Reading}
+use Rattle.sheet.specs.Read.{answered, reading}
+use Rattle.sheet.specs.Label.{label-refusal, label-of}
+use Rattle.sheet.specs.Write.{over, write-answer, write-leaves}
+use Rattle.sheet.proofs.WrittenReads.{written-sheet, written-reads}
+use Rattle.sheet.proofs.ReadIsWritten.{rewrite-leaves, read-is-written-bytes}
+
+-- ---- E1
+
+pub labels : List ℕ
+labels = 65 ∷ 66 ∷ 67 ∷ []
+
+pub job : ℕ → ℕ → ℕ → Job
+job modules minutes departure =
+    record { «label_len» = 1; modules = modules; minutes = minutes; earlier = 0; departure = departure }
+
+pub jobs : List Job
+jobs = job 1 10 30 ∷ job 2 20 25 ∷ job 1 10 30 ∷ []
+
+pub e1 : List ℕ
+e1 =
+    labels
+    ++ (1 ∷ 1 ∷ 10 ∷ 0 ∷ 0 ∷ 0 ∷ 0 ∷ 0 ∷ 30 ∷ 0 ∷ [])
+    ++ (1 ∷ 2 ∷ 20 ∷ 0 ∷ 0 ∷ 0 ∷ 0 ∷ 0 ∷ 25 ∷ 0 ∷ [])
+    ++ (1 ∷ 1 ∷ 10 ∷ 0 ∷ 0 ∷ 0 ∷ 0 ∷ 0 ∷ 30 ∷ 0 ∷ [])
+    ++ (3 ∷ 0 ∷ 0 ∷ 0 ∷ 3 ∷ 0 ∷ 2 ∷ 0 ∷ [])
+
+pub e1-reads : reading e1 ≡ answered 3 (jobs-in jobs) 2
+unfolding e1 labels jobs job reading first-failing outside faulty any sum places joined record-at u16-at u32-at
+e1-reads = refl
+
+pub e1-label : label-of e1 1 ≡ 66 ∷ []
+unfolding e1 labels label-of first-failing outside faulty any sum record-at u16-at u32-at
+e1-label = refl
+
+pub e1-no-label : label-refusal e1 3 ≡ 14
+unfolding e1 labels first-failing outside faulty any sum record-at u16-at u32-at
+e1-no-label = refl
+
+-- into a buffer that is longer than the sheet
+pub e1-written : write-leaves (jobs-in jobs) 3 labels 2 (replicate 45 7) ≡ e1 ++ (7 ∷ 7 ∷ 7 ∷ 7 ∷ [])
+unfolding e1 labels jobs job write-leaves first-failing outside faulty any sum sheet-bytes record-bytes trailer-bytes joined
+e1-written = refl
+
+-- the round trip's premise holds of it
+e1-answered : write-answer (jobs-in jobs) 3 labels 2 (replicate 45 7) .refusal ≡ 0
+unfolding labels jobs job write-answer first-failing outside faulty any sum sheet-bytes
+e1-answered = refl
+
+pub e1-back : reading (written-sheet (jobs-in jobs) 3 labels 2 (replicate 45 7)) ≡ answered 3 (jobs-in jobs) 2
+e1-back = written-reads (jobs-in jobs) 3 labels 2 (replicate 45 7) e1-answered
+
+-- ---- 5 before 6 before 7
+
+-- one job: a label byte, a label length, minutes
+pub one : ℕ → ℕ → ℕ → List ℕ
+one byte len minutes =
+    byte ∷ len ∷ 1 ∷ minutes ∷ 0 ∷ 0 ∷ 0 ∷ 0 ∷ 0 ∷ 0 ∷ 0 ∷ 1 ∷ 0 ∷ 0 ∷ 0 ∷ 1 ∷ 0 ∷ 1 ∷ 0 ∷ []
+
+pub all-wrong : reading (one 32 2 0) .refusal ≡ 5
+unfolding one reading first-failing outside faulty any sum places joined record-at u16-at u32-at
+all-wrong = refl
+
+pub lengths-wrong : reading (one 32 2 1) .refusal ≡ 6
+unfolding one reading first-failing outside faulty any sum places joined record-at u16-at u32-at
+lengths-wrong = refl
+
+pub byte-wrong : reading (one 32 1 1) .refusal ≡ 7
+unfolding one reading first-failing outside faulty any sum places joined record-at u16-at u32-at
+byte-wrong = refl
+
+pub none-wrong : reading (one 33 1 1) .refusal ≡ 0
+unfolding one reading first-failing outside faulty any sum places joined record-at u16-at u32-at
+none-wrong = refl
+
+-- ---- E1 read and written again
+
+-- a list whose bytes are below 256, by a test that computes
+bytes-by-test : (s : List ℕ) → any (length s) (λ i. leb 256 (byte-at s i)) ≡ false → (i : ℕ) → byte-at s i < 256
+bytes-by-test s e i =
+    ⊎-elim
+    (λ (l : i < length s). leb-false 256 (byte-at s i) (any-none (length s) (λ k. leb 256 (byte-at s k)) e i l))
+    (λ (l : length s ≤ i). rw (List·getD-eq-default s 0 l) (omega arith))
+    (less-or-not i (length s))
+
+e1-answers : reading e1 .refusal ≡ 0
+e1-answers = ap (λ (r : Reading). r .refusal) e1-reads
+
+e1-bytes : (i : ℕ) → byte-at e1 i < 256
+unfolding e1 labels any
+e1-bytes = bytes-by-test e1 refl
+
+e1-fits : length e1 ≤ length (replicate {A = ℕ} 45 7)
+unfolding e1 labels
+e1-fits = lit≤ tt
+
+pub e1-again : rewrite-leaves e1 (reading e1) (replicate 45 7) ≡ over e1 (replicate 45 7)
+e1-again = read-is-written-bytes e1 e1-bytes e1-answers (replicate 45 7) e1-fits

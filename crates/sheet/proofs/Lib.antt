@@ -1,0 +1,9 @@
+-- Laws that the proofs share, and the theorems on job sheets.
+pub mod Answers
+pub mod Labels
+pub mod Writes
+pub mod Refusals
+pub mod Layouts
+pub mod WrittenReads
+pub mod ReadIsWritten
+pub mod Examples

@@ -1,0 +1,167 @@
+// Job sheets: reading, the label of a job, writing.
+ghost use mathlib.Core.Path.{_≡_};
+ghost use Prim.Native.Nat.{_+_, _*_, _≤_};
+ghost use lib.ListN.{length};
+ghost use Rattle.sheet_format.specs.Figures.{most-jobs, record-size, trailer-size, longest-label};
+ghost use Rattle.sheet_format.specs.Format.{jobs-in, sheet-bytes};
+ghost use Rattle.sheet.specs.Read.{refused, reading};
+ghost use Rattle.sheet.specs.Write.{over, write-refusal, write-answer, write-leaves};
+ghost use Rattle.sheet.specs.Label.{label-refusal, label-of, label-at};
+pub use sheet_format::Job;
+use sheet_format::figures::MOST_JOBS;
+use sheet_format::figures::MOST_MODULES;
+use sheet_format::figures::RECORD_SIZE;
+use sheet_format::figures::TRAILER_SIZE;
+
+// What reading answers: refusal 0 with the jobs, n and N, or the number of the refusal with all else 0.
+pub struct Reading {
+    pub refusal: u32,
+    pub jobs: [Job; MOST_JOBS],
+    pub count: usize,
+    pub modules: u16,
+}
+
+// What writing answers: refusal 0 with the sheet's length, or the number of the refusal with 0.
+pub struct Written {
+    pub refusal: u32,
+    pub length: usize,
+}
+
+fn refused(refusal: u32) -> Reading
+    ensures { λ r. ⌜ r ≡ refused refusal ⌝ }
+{
+    let jobs = sheet_format::records::no_jobs();
+    Reading {
+        refusal,
+        jobs,
+        count: 0,
+        modules: 0,
+    }
+}
+
+// The jobs of a sheet, or the first refusal of 1 to 7.
+pub fn read(sheet: &[u8]) -> Reading
+    ensures { λ r. ⌜ r ≡ reading (now (sheet .entry)) ⌝ }
+{
+    let early = sheet_format::trailer::refusal(sheet);
+    if early != 0 {
+        return refused(early);
+    }
+    let offset = sheet_format::trailer::offset(sheet) as usize;
+    let count = sheet_format::trailer::count(sheet) as usize;
+    let found = sheet_format::records::read_all(sheet, offset, count);
+    let refusal = sheet_format::checks::content_refusal(
+        found.faulty,
+        found.total,
+        &sheet[..offset],
+    );
+    if refusal != 0 {
+        return refused(refusal);
+    }
+    let jobs = found.jobs;
+    Reading {
+        refusal: 0,
+        jobs,
+        count,
+        modules: sheet_format::trailer::modules(sheet),
+    }
+}
+
+// The number of a label call: the first refusal of 1 to 7, then 14, or 0 where there is a label.
+pub fn label_refusal(sheet: &[u8], job: usize) -> u32
+    ensures { λ r. ⌜ r ≡ label-refusal (now (sheet .entry)) job ⌝ }
+{
+    let found = read(sheet);
+    let refusal = found.refusal;
+    if refusal != 0 {
+        return refusal;
+    }
+    if found.count <= job {
+        return 14;
+    }
+    0
+}
+
+// The label of a job: that very part of the sheet, or an empty part where the call is refused.
+pub fn label(sheet: &[u8], job: usize) -> &[u8]
+    ensures { λ r. ⌜ (now r ≡ label-of (now (sheet .entry)) job)
+        × (r .ptr ≡ (sheet .entry .ptr .0, label-at (now (sheet .entry)) job + sheet .entry .ptr .1)) ⌝ }
+{
+    if label_refusal(sheet, job) != 0 {
+        return &sheet[..0];
+    }
+    let offset = sheet_format::trailer::offset(sheet) as usize;
+    let from = sheet_format::records::label_start(sheet, offset, job);
+    let to = from + sheet[offset + RECORD_SIZE * job] as usize;
+    &sheet[from..to]
+}
+
+// The first refusal of 2, 3, 5, 6, 7 and 10, for a lent buffer of `room` bytes, or 0.
+fn write_refusal(
+    jobs: [Job; MOST_JOBS],
+    count: usize,
+    labels: &[u8],
+    modules: u16,
+    room: usize,
+) -> u32
+    ensures { λ r. ⌜ r ≡ write-refusal (jobs-in jobs) count (now (labels .entry)) modules room ⌝ }
+{
+    if MOST_JOBS < count {
+        return 2;
+    }
+    if sheet_format::checks::outside(1, MOST_MODULES, modules as usize) {
+        return 3;
+    }
+    let found = sheet_format::records::survey(jobs, count);
+    let refusal = sheet_format::checks::content_refusal(found.faulty, found.total, labels);
+    if refusal != 0 {
+        return refusal;
+    }
+    if room < labels.len() + RECORD_SIZE * count + TRAILER_SIZE {
+        return 10;
+    }
+    0
+}
+
+// Labels, records and trailer, each into its own part of the buffer, one behind another; the length of the three.
+fn write_parts(
+    jobs: [Job; MOST_JOBS],
+    count: usize,
+    labels: &[u8],
+    modules: u16,
+    out: &mut [u8],
+) -> usize
+    requires { ⌜ (count ≤ most-jobs) × (length (now labels) ≤ count * longest-label)
+        × (length (now labels) + record-size * count + trailer-size ≤ length (now out)) ⌝ }
+    ensures { λ r. ⌜ (r ≡ length (now (labels .entry)) + record-size * count + trailer-size)
+        × (now (out .exit) ≡ over (sheet-bytes (jobs-in jobs) count (now (labels .entry)) modules) (now (out .entry))) ⌝ }
+{
+    let offset = labels.len();
+    let end = offset + RECORD_SIZE * count;
+    let length = end + TRAILER_SIZE;
+    sheet_format::records::write_labels(&mut out[..offset], labels);
+    sheet_format::records::write_all(&mut out[offset..end], jobs, count);
+    sheet_format::trailer::write(&mut out[end..length], offset as u32, count as u16, modules);
+    length
+}
+
+// Writes the sheet of the first `count` jobs into the front of the lent buffer.
+pub fn write(
+    jobs: [Job; MOST_JOBS],
+    count: usize,
+    labels: &[u8],
+    modules: u16,
+    out: &mut [u8],
+) -> Written
+    ensures { λ r. ⌜ (r ≡ write-answer (jobs-in jobs) count (now (labels .entry)) modules (now (out .entry)))
+        × (now (out .exit) ≡ write-leaves (jobs-in jobs) count (now (labels .entry)) modules (now (out .entry))) ⌝ }
+{
+    let refusal = write_refusal(jobs, count, labels, modules, out.len());
+    if refusal != 0 {
+        return Written { refusal, length: 0 };
+    }
+    Written {
+        refusal: 0,
+        length: write_parts(jobs, count, labels, modules, out),
+    }
+}

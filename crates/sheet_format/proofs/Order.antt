@@ -1,0 +1,105 @@
+-- The checking order: which number is given, and when none is (document 01, 'Checking order').
+use mathlib.Core.Path.{_≡_, refl, ap, ap₂}
+use mathlib.Core.Logic.{_↔_}
+use mathlib.Core.Bool.{Bool, true, false, _&&_}
+use mathlib.Core.List.{List, [], _∷_, _++_}
+use Prim.Native.Nat.{ℕ, zero, suc, _<_}
+use native.Mathlib.Nat.{not-suc-le-zero, le-of-suc-le-suc}
+use native.Mathlib.Omega.{arith}
+use lib.Dec.{ltb}
+use lib.ListN.{length, getD}
+use borrow.Author.Tests.{ltb-true}
+use Rattle.counting.proofs.Tests.{and-left, and-right}
+use Rattle.sheet_format.specs.Checks.{Check, first-failing, FirstFails}
+
+-- every check of the list passes
+abbrev pub Passed : List Check → Type 0
+Passed [] = Unit {0}
+Passed (c ∷ cs) = (c .1 ≡ false) × Passed cs
+
+-- no check has the number 0: it computes on a written list
+abbrev pub numbered : List Check → Bool
+numbered [] = true
+numbered (c ∷ cs) = ltb 0 (c .0) && numbered cs
+
+pub all-passed : (cs : List Check) → numbered cs ≡ true → first-failing cs ≡ 0 → Passed cs
+unfolding first-failing
+all-passed [] n e = tt
+all-passed (c ∷ cs) n e = go (c .1) refl (all-passed cs (and-right (ltb 0 (c .0)) (numbered cs) n))
+  where
+    go : (b : Bool) → c .1 ≡ b → (first-failing cs ≡ 0 → Passed cs) → Passed (c ∷ cs)
+    go true q h =
+        let z : c .0 ≡ 0 = rw q at e in
+        absurd (omega (arith, ltb-true 0 (c .0) (and-left (ltb 0 (c .0)) (numbered cs) n)))
+    go false q h = let z : first-failing cs ≡ 0 = rw q at e in (q, h z)
+
+pub none-failing : (cs : List Check) → Passed cs → first-failing cs ≡ 0
+unfolding first-failing
+none-failing [] p = refl
+none-failing (c ∷ cs) p = rw (p .0) (none-failing cs (p .1))
+
+-- a failing check in front decides, and passed ones in front do not count
+pub first-in-front : (a b : List Check) → (first-failing a ≡ 0 → ⊥) → first-failing (a ++ b) ≡ first-failing a
+unfolding first-failing
+first-in-front [] b h = absurd (h refl)
+first-in-front (c ∷ cs) b h = go (c .1) refl (first-in-front cs b)
+  where
+    go : (t : Bool) → c .1 ≡ t → ((first-failing cs ≡ 0 → ⊥) → first-failing (cs ++ b) ≡ first-failing cs)
+        → first-failing (c ∷ (cs ++ b)) ≡ first-failing (c ∷ cs)
+    go true q r = rw q
+    go false q r = rw q (r (λ z. h (rw q z)))
+
+pub first-behind : (a b : List Check) → Passed a → first-failing (a ++ b) ≡ first-failing b
+unfolding first-failing
+first-behind [] b p = refl
+first-behind (c ∷ cs) b p = rw (p .0) (first-behind cs b (p .1))
+
+-- ---- the number is k exactly when check k fails and no earlier one does
+
+refused-at : (cs : List Check) (k : ℕ) → 0 < k → first-failing cs ≡ k → FirstFails cs k
+unfolding first-failing
+refused-at [] k h e = absurd (omega arith)
+refused-at (c ∷ cs) k h e = go (c .1) refl (refused-at cs k h)
+  where
+    go : (b : Bool) → c .1 ≡ b → (first-failing cs ≡ k → FirstFails cs k) → FirstFails (c ∷ cs) k
+    go true q r =
+        let z : c .0 ≡ k = rw q at e in
+        record {
+          place = 0;
+          listed = omega arith;
+          fails = ap₂ (λ (n : ℕ) (b : Bool). (n, b)) z q;
+          earlier = λ i l. absurd (not-suc-le-zero l);
+        }
+    go false q r =
+        let z : first-failing cs ≡ k = rw q at e in
+        let f = r z in
+        record { place = suc (f .place); listed = omega arith; fails = f .fails; earlier = behind f }
+      where
+        behind : (f : FirstFails cs k) (i : ℕ) → i < suc (f .place) → getD (c ∷ cs) i (0, false) .1 ≡ false
+        behind f zero l = q
+        behind f (suc i) l = f .earlier i (le-of-suc-le-suc l)
+
+number-at : (cs : List Check) (k p : ℕ) → p < length cs → getD cs p (0, false) ≡ (k, true)
+    → ((i : ℕ) → i < p → getD cs i (0, false) .1 ≡ false) → first-failing cs ≡ k
+unfolding first-failing
+number-at [] k p l e h = absurd (not-suc-le-zero l)
+number-at (c ∷ cs) k zero l e h = rw (ap (λ (x : Check). x .1) e) (ap (λ (x : Check). x .0) e)
+number-at (c ∷ cs) k (suc p) l e h = rw (h 0 (omega arith)) (number-at cs k p (le-of-suc-le-suc l) e (λ i m. h (suc i) (omega arith)))
+
+pub refused-exactly : (cs : List Check) (k : ℕ) → 0 < k → (first-failing cs ≡ k) ↔ FirstFails cs k
+refused-exactly cs k h = (refused-at cs k h, λ f. number-at cs k (f .place) (f .listed) (f .fails) (f .earlier))
+
+-- ---- and 0 exactly when none fails
+
+pub passed-at : (cs : List Check) → Passed cs → (i : ℕ) → i < length cs → getD cs i (0, false) .1 ≡ false
+passed-at [] p i l = absurd (not-suc-le-zero l)
+passed-at (c ∷ cs) p zero l = p .0
+passed-at (c ∷ cs) p (suc i) l = passed-at cs (p .1) i (le-of-suc-le-suc l)
+
+at-passed : (cs : List Check) → ((i : ℕ) → i < length cs → getD cs i (0, false) .1 ≡ false) → Passed cs
+at-passed [] h = tt
+at-passed (c ∷ cs) h = (h 0 (omega arith), at-passed cs (λ i l. h (suc i) (omega arith)))
+
+pub answered-exactly : (cs : List Check) → numbered cs ≡ true
+    → (first-failing cs ≡ 0) ↔ ((i : ℕ) → i < length cs → getD cs i (0, false) .1 ≡ false)
+answered-exactly cs n = (λ e. passed-at cs (all-passed cs n e), λ h. none-failing cs (at-passed cs h))

@@ -1,0 +1,74 @@
+-- `sheet_format::checks::faulty` meets its contract: five tests, the last on the earlier jobs without their `count` lowest bits.
+use borrow.Author.Needs.{needs}
+use Rattle.sheet_format.specs.Checks.{faulty}
+use Rattle.sheet_format.proofs.Bounds.{left-of}
+use Rattle.sheet_format.proofs.checks.faulty.Statement.{statement}
+use Rattle.sheet_format.proofs.checks.faulty.Tie as tie
+
+cast-outside : tie.Need-cast-outside
+cast-outside c = search needs
+
+outside-requires : tie.Need-outside-requires
+outside-requires c κs = search needs
+
+cast-outside-2 : tie.Need-cast-outside-2
+cast-outside-2 c = search needs
+
+outside-requires-2 : tie.Need-outside-requires-2
+outside-requires-2 c κs = search needs
+
+cast-outside-3 : tie.Need-cast-outside-3
+cast-outside-3 c = search needs
+
+outside-requires-3 : tie.Need-outside-requires-3
+outside-requires-3 c κs = search needs
+
+cast-outside-4 : tie.Need-cast-outside-4
+cast-outside-4 c = search needs
+
+outside-requires-4 : tie.Need-outside-requires-4
+outside-requires-4 c κs = search needs
+
+cast-earlier : tie.Need-cast-earlier
+cast-earlier c = search needs
+
+shr-earlier : tie.Need-shr-earlier
+shr-earlier c = search needs
+
+either-requires : tie.Need-either-requires
+either-requires c κs = search needs
+
+either-requires-2 : tie.Need-either-requires-2
+either-requires-2 c κs = search needs
+
+either-requires-3 : tie.Need-either-requires-3
+either-requires-3 c κs = search needs
+
+either-requires-4 : tie.Need-either-requires-4
+either-requires-4 c κs = search needs
+
+returns : tie.Need-returns
+unfolding faulty
+returns c =
+    let a = c .before .before .before .before .before .before .before .before .before .before .before .before .before .args in
+    cc (left-of (a .count) (a .job .earlier))
+
+pub faulty-spec : {M : Type 1} → statement M
+faulty-spec =
+    tie.close
+    (tie.spec
+    cast-outside
+    outside-requires
+    cast-outside-2
+    outside-requires-2
+    cast-outside-3
+    outside-requires-3
+    cast-outside-4
+    outside-requires-4
+    cast-earlier
+    shr-earlier
+    either-requires
+    either-requires-2
+    either-requires-3
+    either-requires-4
+    returns)

@@ -1,0 +1,43 @@
+-- `sheet_format::numbers::read32` meets its contract.
+use borrow.Author.Needs.{needs}
+use Rattle.sheet_format.specs.Format.{u32-at}
+use Rattle.sheet_format.proofs.numbers.read32.Statement.{statement}
+use Rattle.sheet_format.proofs.numbers.read32.Tie as tie
+
+read16-requires : tie.Need-read16-requires
+read16-requires c κs = search needs
+
+cast-low : tie.Need-cast-low
+cast-low c = search needs
+
+add-read16 : tie.Need-add-read16
+add-read16 c = search needs
+
+read16-requires-2 : tie.Need-read16-requires-2
+read16-requires-2 c κs = search needs
+
+cast-high : tie.Need-cast-high
+cast-high c = search needs
+
+mul-result : tie.Need-mul-result
+mul-result c = search needs
+
+add-result : tie.Need-add-result
+add-result c = search needs
+
+returns : tie.Need-returns
+unfolding u32-at
+returns c = search needs
+
+pub read32-spec : {M : Type 1} → statement M
+read32-spec =
+    tie.close
+    (tie.spec
+    read16-requires
+    cast-low
+    add-read16
+    read16-requires-2
+    cast-high
+    mul-result
+    add-result
+    returns)

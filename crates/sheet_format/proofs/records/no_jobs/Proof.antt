@@ -1,0 +1,19 @@
+-- `sheet_format::records::no_jobs` meets its contract.
+use mathlib.Core.Path.{ap}
+use lib.ListN.{replicate}
+use borrow.Author.Needs.{needs}
+use Rattle.sheet_format.specs.declared.Job.{Job}
+use Rattle.sheet_format.specs.Figures.{most-jobs}
+use Rattle.sheet_format.specs.Format.{no-jobs}
+use Rattle.sheet_format.proofs.records.no_jobs.Statement.{statement}
+use Rattle.sheet_format.proofs.records.no_jobs.Tie as tie
+
+no-job-requires : tie.Need-no-job-requires
+no-job-requires c κs = search needs
+
+returns : tie.Need-returns
+unfolding no-jobs
+returns c = ap (λ (j : Job). replicate most-jobs j) (c .no-job .ensures)
+
+pub no-jobs-spec : {M : Type 1} → statement M
+no-jobs-spec = tie.close (tie.spec no-job-requires returns)

@@ -1,0 +1,174 @@
+// The records of a sheet.
+ghost use mathlib.Core.Path.{_≡_};
+ghost use Prim.Native.Nat.{_+_, _*_, _≤_};
+ghost use lib.ListN.{length};
+ghost use Rattle.sheet_format.specs.Figures.{most-jobs, record-size};
+ghost use Rattle.sheet_format.specs.Format.{joined, no-job, no-jobs, places, jobs-in, job-from, label-length, label-lengths};
+ghost use Rattle.sheet_format.specs.Format.{record-at, record-bytes};
+ghost use Rattle.sheet_format.specs.Checks.{some-faulty};
+use super::Job;
+use super::checks::either;
+use super::checks::faulty;
+use super::figures::MOST_JOBS;
+use super::figures::RECORD_SIZE;
+use super::numbers::read16;
+use super::numbers::read32;
+
+// What one pass over the records finds: the jobs, the sum of the label lengths, and whether check 5 fails.
+pub struct Records {
+    pub jobs: [Job; MOST_JOBS],
+    pub total: usize,
+    pub faulty: bool,
+}
+
+// What the writer's pass over its jobs finds.
+pub struct Found {
+    pub total: usize,
+    pub faulty: bool,
+}
+
+fn no_job() -> Job
+    ensures { λ r. ⌜ r ≡ no-job ⌝ }
+{
+    Job {
+        label_len: 0,
+        modules: 0,
+        minutes: 0,
+        earlier: 0,
+        departure: 0,
+    }
+}
+
+// The length of a job's label; the contract hands its bound to the callers.
+pub fn label_length(job: Job) -> usize
+    ensures { λ r. ⌜ (r ≡ label-length job) × (r ≤ 255) ⌝ }
+{
+    job.label_len as usize
+}
+
+// A list without jobs: every place 0.
+pub fn no_jobs() -> [Job; MOST_JOBS]
+    ensures { λ r. ⌜ r ≡ no-jobs ⌝ }
+{
+    [no_job(); MOST_JOBS]
+}
+
+// The job of the record that begins at `at`.
+pub fn read_one(s: &[u8], at: usize) -> Job
+    requires { ⌜ at + record-size ≤ length (now s) ⌝ }
+    ensures { λ r. ⌜ r ≡ record-at (now (s .entry)) at ⌝ }
+{
+    Job {
+        label_len: s[at],
+        modules: s[at + 1],
+        minutes: read16(s, at + 2),
+        earlier: read32(s, at + 4),
+        departure: read16(s, at + 8),
+    }
+}
+
+// One pass over the records.
+pub fn read_all(sheet: &[u8], offset: usize, count: usize) -> Records
+    requires { ⌜ (count ≤ most-jobs) × (offset + record-size * count ≤ length (now sheet)) ⌝ }
+    ensures { λ r. ⌜ (r .jobs ≡ places count (job-from (now (sheet .entry)) offset))
+        × (r .total ≡ label-lengths count (job-from (now (sheet .entry)) offset))
+        × (r .faulty ≡ some-faulty count (job-from (now (sheet .entry)) offset)) ⌝ }
+{
+    let mut jobs = no_jobs();
+    let mut total: usize = 0;
+    let mut found = false;
+    let mut i = 0;
+    while i < count {
+        let job = read_one(sheet, offset + RECORD_SIZE * i);
+        jobs[i] = job;
+        total += label_length(job);
+        found = either(found, faulty(count, job));
+        i += 1;
+    }
+    Records {
+        jobs,
+        total,
+        faulty: found,
+    }
+}
+
+// Where the label of a job begins: the lengths of the labels before it, summed.
+pub fn label_start(sheet: &[u8], offset: usize, job: usize) -> usize
+    requires { ⌜ (job ≤ most-jobs) × (offset + record-size * job ≤ length (now sheet)) ⌝ }
+    ensures { λ r. ⌜ (r ≡ label-lengths job (job-from (now (sheet .entry)) offset)) × (r ≤ 255 * job) ⌝ }
+{
+    let mut total: usize = 0;
+    let mut i = 0;
+    while i < job {
+        total += sheet[offset + RECORD_SIZE * i] as usize;
+        i += 1;
+    }
+    total
+}
+
+// The writer's pass over the first `count` jobs.
+pub fn survey(jobs: [Job; MOST_JOBS], count: usize) -> Found
+    requires { ⌜ count ≤ most-jobs ⌝ }
+    ensures { λ r. ⌜ (r .total ≡ label-lengths count (jobs-in jobs)) × (r .faulty ≡ some-faulty count (jobs-in jobs)) ⌝ }
+{
+    let mut total: usize = 0;
+    let mut found = false;
+    let mut i = 0;
+    while i < count {
+        let job = jobs[i];
+        total += label_length(job);
+        found = either(found, faulty(count, job));
+        i += 1;
+    }
+    Found {
+        total,
+        faulty: found,
+    }
+}
+
+// A record, into its own bytes.
+fn write_one(part: &mut [u8], job: Job)
+    requires { ⌜ length (now part) ≡ record-size ⌝ }
+    ensures { λ _. ⌜ now (part .exit) ≡ record-bytes job ⌝ }
+{
+    let minutes = job.minutes;
+    let low = job.earlier % 65536;
+    let high = job.earlier / 65536;
+    let departure = job.departure;
+    part[0] = job.label_len;
+    part[1] = job.modules;
+    part[2] = (minutes % 256) as u8;
+    part[3] = (minutes / 256) as u8;
+    part[4] = (low % 256) as u8;
+    part[5] = (low / 256) as u8;
+    part[6] = (high % 256) as u8;
+    part[7] = (high / 256) as u8;
+    part[8] = (departure % 256) as u8;
+    part[9] = (departure / 256) as u8;
+}
+
+// The records of the first `count` jobs, one behind another.
+pub fn write_all(part: &mut [u8], jobs: [Job; MOST_JOBS], count: usize)
+    requires { ⌜ (count ≤ most-jobs) × (length (now part) ≡ record-size * count) ⌝ }
+    ensures { λ _. ⌜ now (part .exit) ≡ joined count (λ i. record-bytes (jobs-in jobs i)) ⌝ }
+{
+    let mut i = 0;
+    while i < count {
+        let at = RECORD_SIZE * i;
+        let to = at + RECORD_SIZE;
+        write_one(&mut part[at..to], jobs[i]);
+        i += 1;
+    }
+}
+
+// The label bytes.
+pub fn write_labels(part: &mut [u8], labels: &[u8])
+    requires { ⌜ length (now part) ≡ length (now labels) ⌝ }
+    ensures { λ _. ⌜ now (part .exit) ≡ now (labels .entry) ⌝ }
+{
+    let mut i = 0;
+    while i < labels.len() {
+        part[i] = labels[i];
+        i += 1;
+    }
+}

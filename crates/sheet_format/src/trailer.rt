@@ -1,0 +1,77 @@
+// The trailer of a sheet, and the checks on it.
+ghost use mathlib.Core.Path.{_≡_};
+ghost use Prim.Native.Nat.{_≤_};
+ghost use lib.ListN.{length};
+ghost use Rattle.sheet_format.specs.Figures.{trailer-size};
+ghost use Rattle.sheet_format.specs.Format.{trailer-bytes, offset-of, count-of, modules-of};
+ghost use Rattle.sheet_format.specs.Checks.{first-failing};
+ghost use Rattle.sheet_format.specs.Checks.{trailer-checks};
+use super::checks::outside;
+use super::figures::LONGEST_SHEET;
+use super::figures::MOST_JOBS;
+use super::figures::MOST_MODULES;
+use super::figures::RECORD_SIZE;
+use super::figures::TRAILER_SIZE;
+use super::numbers::read16;
+use super::numbers::read32;
+
+// The offset of the first record.
+pub fn offset(sheet: &[u8]) -> u32
+    requires { ⌜ trailer-size ≤ length (now sheet) ⌝ }
+    ensures { λ r. ⌜ r ≡ offset-of (now (sheet .entry)) ⌝ }
+{
+    read32(sheet, sheet.len() - TRAILER_SIZE)
+}
+
+// n.
+pub fn count(sheet: &[u8]) -> u16
+    requires { ⌜ trailer-size ≤ length (now sheet) ⌝ }
+    ensures { λ r. ⌜ r ≡ count-of (now (sheet .entry)) ⌝ }
+{
+    read16(sheet, sheet.len() - TRAILER_SIZE + 4)
+}
+
+// N.
+pub fn modules(sheet: &[u8]) -> u16
+    requires { ⌜ trailer-size ≤ length (now sheet) ⌝ }
+    ensures { λ r. ⌜ r ≡ modules-of (now (sheet .entry)) ⌝ }
+{
+    read16(sheet, sheet.len() - TRAILER_SIZE + 6)
+}
+
+// The first of 1 to 4 that fails, or 0.
+pub fn refusal(sheet: &[u8]) -> u32
+    ensures { λ r. ⌜ r ≡ first-failing (trailer-checks (now (sheet .entry))) ⌝ }
+{
+    if outside(TRAILER_SIZE, LONGEST_SHEET, sheet.len()) {
+        return 1;
+    }
+    let n = count(sheet) as usize;
+    if MOST_JOBS < n {
+        return 2;
+    }
+    if outside(1, MOST_MODULES, modules(sheet) as usize) {
+        return 3;
+    }
+    if offset(sheet) as usize + RECORD_SIZE * n + TRAILER_SIZE != sheet.len() {
+        return 4;
+    }
+    0
+}
+
+// A trailer, into its own bytes.
+pub fn write(part: &mut [u8], offset: u32, count: u16, modules: u16)
+    requires { ⌜ length (now part) ≡ trailer-size ⌝ }
+    ensures { λ _. ⌜ now (part .exit) ≡ trailer-bytes offset count modules ⌝ }
+{
+    let low = offset % 65536;
+    let high = offset / 65536;
+    part[0] = (low % 256) as u8;
+    part[1] = (low / 256) as u8;
+    part[2] = (high % 256) as u8;
+    part[3] = (high / 256) as u8;
+    part[4] = (count % 256) as u8;
+    part[5] = (count / 256) as u8;
+    part[6] = (modules % 256) as u8;
+    part[7] = (modules / 256) as u8;
+}

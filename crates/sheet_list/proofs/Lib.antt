@@ -1,0 +1,2 @@
+-- What writing depends on.
+pub mod Same

@@ -1,0 +1,78 @@
+// Writing a sheet from a lent list of job records: the records are copied into a list of fixed length, which `sheet` writes.
+ghost use mathlib.Core.Path.{_≡_};
+ghost use Prim.Native.Nat.{_<_, min};
+ghost use lib.ListN.{length, set};
+ghost use Rattle.sheet_format.specs.Figures.{most-jobs};
+ghost use Rattle.sheet_format.specs.Format.{no-job, jobs-in};
+ghost use Rattle.sheet.specs.Write.{write-answer, write-leaves};
+ghost use Rattle.sheet_list.specs.Gather.{gathered, listed, placed};
+use sheet::Written;
+use sheet_format::Job;
+use sheet_format::figures::MOST_JOBS;
+
+// A list of fixed length, as a value.
+pub struct Jobs {
+    pub list: [Job; MOST_JOBS],
+}
+
+fn at_most(count: usize) -> usize
+    ensures { λ r. ⌜ r ≡ min count most-jobs ⌝ }
+{
+    if count < MOST_JOBS { count } else { MOST_JOBS }
+}
+
+fn no_jobs() -> Jobs
+    ensures { λ r. ⌜ r ≡ listed 0 (λ i. no-job) ⌝ }
+{
+    let list = sheet_format::records::no_jobs();
+    Jobs { list }
+}
+
+fn with_job(mut jobs: Jobs, i: usize, job: Job) -> Jobs
+    requires { ⌜ i < most-jobs ⌝ }
+    ensures { λ r. ⌜ r ≡ placed jobs i job ⌝ }
+{
+    jobs.list[i] = job;
+    jobs
+}
+
+// A record of the lent list.
+fn job_at(jobs: &[Job], i: usize) -> Job
+    requires { ⌜ i < length (now jobs) ⌝ }
+    ensures { λ r. ⌜ r ≡ jobs-in (now (jobs .entry)) i ⌝ }
+{
+    jobs[i]
+}
+
+// The records of the lent list, as many as there are places.
+fn gather(jobs: &[Job]) -> Jobs
+    ensures { λ r. ⌜ r ≡ gathered (now (jobs .entry)) ⌝ }
+{
+    let count = at_most(jobs.len());
+    let mut all = no_jobs();
+    let mut i: usize = 0;
+    while i < count {
+        let job = job_at(jobs, i);
+        all = with_job(all, i, job);
+        i += 1;
+    }
+    all
+}
+
+fn write_gathered(all: Jobs, count: usize, labels: &[u8], modules: u16, out: &mut [u8]) -> Written
+    ensures { λ r. ⌜ (r ≡ write-answer (jobs-in (all .list)) count (now (labels .entry)) modules (now (out .entry)))
+        × (now (out .exit) ≡ write-leaves (jobs-in (all .list)) count (now (labels .entry)) modules (now (out .entry))) ⌝ }
+{
+    let list = all.list;
+    sheet::write(list, count, labels, modules, out)
+}
+
+// Writes the sheet of a lent list of jobs into the front of the lent buffer; more jobs than there are places: refusal 2.
+pub fn write_list(jobs: &[Job], labels: &[u8], modules: u16, out: &mut [u8]) -> Written
+    ensures { λ r. ⌜ (r ≡ write-answer (jobs-in (now (jobs .entry))) (length (now (jobs .entry))) (now (labels .entry)) modules
+        (now (out .entry)))
+        × (now (out .exit) ≡ write-leaves (jobs-in (now (jobs .entry))) (length (now (jobs .entry))) (now (labels .entry)) modules
+        (now (out .entry))) ⌝ }
+{
+    write_gathered(gather(jobs), jobs.len(), labels, modules, out)
+}
