@@ -1,0 +1,2 @@
+-- The laws of the desk, for the crates above.
+pub mod Samples
