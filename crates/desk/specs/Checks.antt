@@ -23,16 +23,28 @@ wrongLengths assured ceilings =
 abbrev pub wrongPair : ℕ → ℕ → ℕ → Bool
 wrongPair limit assured ceiling = ltb ceiling assured || ltb limit ceiling
 
+abbrev pub somePairWrong : ℕ → List ℕ → List ℕ → Bool
+somePairWrong limit assured ceilings = any (length assured) (λ i. wrongPair limit (getD assured i 0) (getD ceilings i 0))
+
 -- 12. "L is 0 or above 4096, an assured share exceeds its ceiling, or a ceiling exceeds L."
 unfoldable pub wrongFigures : ℕ → List ℕ → List ℕ → Bool
-wrongFigures limit assured ceilings =
-    not (inRange 1 mostModules limit) || any (length assured) (λ i. wrongPair limit (getD assured i 0) (getD ceilings i 0))
+wrongFigures limit assured ceilings = not (inRange 1 mostModules limit) || somePairWrong limit assured ceilings
+
+abbrev pub sharesInAll : List ℕ → ℕ
+sharesInAll assured = sum (length assured) (λ i. getD assured i 0)
 
 -- 13. "The assured shares add up to more than L."
 unfoldable pub sharesExceed : ℕ → List ℕ → Bool
-sharesExceed limit assured = ltb limit (sum (length assured) (λ i. getD assured i 0))
+sharesExceed limit assured = ltb limit (sharesInAll assured)
 
 -- ---- claims, hand-backs and looks: the desk, the controller's number and the modules
+
+-- The three lists have a place for each controller that there may be, as those of every desk in memory have.
+abbrev pub fullLists : Desk → Bool
+fullLists d =
+    eqb (length (d .held)) mostControllers
+    && eqb (length (d .assured)) mostControllers
+    && eqb (length (d .ceiling)) mostControllers
 
 -- A place of the desk: share and holding are within the ceiling, and the ceiling within L, or 0 past the last controller.
 abbrev pub ceilingBound : ℕ → ℕ → ℕ → ℕ
@@ -48,7 +60,8 @@ placeOkAt d i = placeOk (holding d i) (assuredShare d i) (ceilingOf d i) (ceilin
 -- that the test is true of these and of no others is the theorem `reachable-when`.
 unfoldable pub deskOk : Desk → Bool
 deskOk d =
-    inRange fewestControllers mostControllers (d .count)
+    fullLists d
+    && inRange fewestControllers mostControllers (d .count)
     && inRange 1 mostModules (d .limit)
     && every mostControllers (placeOkAt d)
     && leb (sum (d .count) (reserved d)) (d .limit)
