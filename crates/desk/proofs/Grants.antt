@@ -14,7 +14,7 @@ use Rattle.desk.specs.Desk.{mostModules, fewestControllers, mostControll
 use Rattle.desk.specs.Checks.{inRange, wrongLengths, wrongPair, somePairWrong, wrongFigures, sharesInAll, sharesExceed}
 use Rattle.desk.specs.Checks.{notOfDesk, passesCeiling, doesNotFit, exceedsHolding, Check, check, firstFailing, bookingChecks, returnChecks}
 use Rattle.desk.specs.Calls.{openRefusal, opened, claimRefusal, handBackRefusal}
-use Rattle.desk.proofs.Refusals.{none-fails, booking-numbered, return-numbered, open-answered}
+use Rattle.desk.proofs.Refusals.{none-fails, booking-numbers, return-numbers, open-answered}
 use Rattle.desk.proofs.Sound.{InRange, range-says, in-range, Sound, Here, of-desk-says, of-desk}
 
 -- ---- opening
@@ -89,7 +89,7 @@ pub record Holds (d : Desk) (c k : ℕ) : Type 0 where
 module _ (d : Desk) (c k : ℕ) where
   pub booking-says : firstFailing (bookingChecks d c k) ≡ 0 → Fits d c k
   booking-says e =
-      let p = none-fails (bookingChecks d c k) (booking-numbered d c k) e in
+      let p = none-fails (bookingChecks d c k) (booking-numbers 0 (omega arith) d c k) e in
       let some : k ≡ 0 → ⊥ = eqb-false k 0 (p .0) in
       record { one = omega arith; under = ltb-false _ _ (p .1 .0); beside = ltb-false _ _ (p .1 .1 .0) }
 
@@ -98,7 +98,7 @@ module _ (d : Desk) (c k : ℕ) where
 
   pub return-says : firstFailing (returnChecks d c k) ≡ 0 → Holds d c k
   return-says e =
-      let p = none-fails (returnChecks d c k) (return-numbered d c k) e in
+      let p = none-fails (returnChecks d c k) (return-numbers 0 (omega arith) d c k) e in
       let some : k ≡ 0 → ⊥ = eqb-false k 0 (p .0) in
       record { one = omega arith; within = ltb-false _ _ (p .1 .0) }
 

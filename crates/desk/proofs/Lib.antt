@@ -3,4 +3,9 @@ pub mod Sound
 pub mod Loops
 pub mod Refusals
 pub mod Grants
+pub mod Keeps
+pub mod Reaches
+pub mod Claims
+pub mod Lists
+pub mod Holdings
 pub mod Samples

@@ -69,7 +69,7 @@ shares-in-all-requires c κs =
     let three = c .before .before in
     let two = three .before .before in
     let a = two .before .before .before .before .before .args in
-    let most : a .limit ≤ mostModules = range-says _ _ _ (limit (three .before) true (not-false _ (three .if3 .left))) .most in
+    let most : a .limit ≤ mostModules = range-says 1 mostModules (a .limit) (limit (three .before) true (not-false _ (three .if3 .left))) .most in
     let right = pairs-say (a .limit) (a .assured .now) (a .ceilings .now) (pair (c .before) false (c .if4 .left)) in
     (range-says _ _ _ (controllers (two .before) true (not-false _ (two .if2 .left))) .most,
     λ i l. omega (arith, right i l .share, right i l .top))
