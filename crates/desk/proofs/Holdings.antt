@@ -35,7 +35,7 @@ module _ (d : Desk) (c b h : ℕ) where
   held-else e = held-other d b h c (λ q. eqb-false b c e (sym q))
 
 module _ (d : Desk) (r : Reachable d) (c : ℕ) where
-  claim-adds : (b k : ℕ) → holding (deskAfter d (claim b k)) c ≡ holding d c + only (granted d (claim b k)) (only (eqb b c) k)
+  pub claim-adds : (b k : ℕ) → holding (deskAfter d (claim b k)) c ≡ holding d c + only (granted d (claim b k)) (only (eqb b c) k)
   unfolding claimed
   claim-adds b k = go (eqb (claimRefusal d b k) 0) refl (eqb b c) refl
     where
@@ -48,7 +48,7 @@ module _ (d : Desk) (r : Reachable d) (c : ℕ) where
           let h = held-own d c b (holding d b + k) (omega (arith, reached-sound r .lists .held)) e in
           omega (arith, ap (holding d) (eqb-true b c e))
 
-  hand-back-takes : (b k : ℕ)
+  pub hand-back-takes : (b k : ℕ)
       → holding (deskAfter d (handBack b k)) c + only (granted d (handBack b k)) (only (eqb b c) k) ≡ holding d c
   unfolding handedBack
   hand-back-takes b k = go (eqb (handBackRefusal d b k) 0) refl (eqb b c) refl
@@ -97,7 +97,7 @@ booked-only : (t : Bool) (d : Desk) (b h : ℕ) → OnlyHoldings (cond t (withHo
 booked-only true d b h = record { count = refl; limit = refl; assured = refl; ceiling = refl }
 booked-only false d b h = record { count = refl; limit = refl; assured = refl; ceiling = refl }
 
-one-only : (d : Desk) (x : Call) → OnlyHoldings (deskAfter d x) d
+pub one-only : (d : Desk) (x : Call) → OnlyHoldings (deskAfter d x) d
 unfolding claimed handedBack looked
 one-only d (claim b k) = booked-only (eqb (claimRefusal d b k) 0) d b (holding d b + k)
 one-only d (handBack b k) = booked-only (eqb (handBackRefusal d b k) 0) d b (holding d b - k)
