@@ -3,3 +3,5 @@ pub mod Turns
 pub mod Course
 pub mod Shares
 pub mod Assured
+pub mod Once
+pub mod Yard
