@@ -1,12 +1,10 @@
 -- The second half of demand 3: a controller that follows a valid plan within its assured share is granted every call of it.
 use mathlib.Core.Path.{_≡_, refl, sym, _∙_, subst}
-use mathlib.Core.Logic.{_⊎_, inl, inr}
 use mathlib.Core.Bool.{Bool, true, false}
 use mathlib.Core.List.{List, [], _∷_, map}
 use Prim.Native.Nat.{ℕ, _-_, _≤_, _<_}
 use native.Mathlib.Omega.{arith}
-use lib.Dec.{eqb}
-use Rattle.counting.proofs.Tests.{true-or-false, clash}
+use Rattle.counting.proofs.Tests.{clash}
 use Rattle.counting.proofs.Sums.{sum-zero}
 use Rattle.schedule.specs.Plan.{Sheet, Plan, Valid}
 use Rattle.schedule.specs.ListPlan.{noJobs, placing}
@@ -14,9 +12,9 @@ use Rattle.schedule.proofs.Earliest.{Lasting}
 use Rattle.desk.specs.declared.Desk.{Desk}
 use Rattle.desk.specs.Desk.{holding, assuredShare}
 use Rattle.desk.specs.Reachable.{Reachable}
-use Rattle.desk.specs.Calls.{Call, claim, handBack, look, refusalOf, deskAfter}
+use Rattle.desk.specs.Calls.{Call, claim, handBack, refusalOf, deskAfter}
 use Rattle.assurance.specs.Following.{Event, begin, end, callOf, bears, ownCalls, FollowsPlan, AllGranted}
-use Rattle.assurance.proofs.Turns.{due, Left, first-of-left, begins-job, begins-new, after-begin, ends-job, ends-new, after-end}
+use Rattle.assurance.proofs.Turns.{Left, first-of-left, begins-job, begins-new, after-begin, ends-job, ends-new, after-end}
 use Rattle.assurance.proofs.Course.{needed, Course, begin-fits, begin-needed, begin-course, end-begun, end-needed, end-course}
 use Rattle.assurance.proofs.Shares.{Ready, other-call, own-claim, own-hand-back}
 
@@ -44,7 +42,8 @@ module _ (S : Sheet) (P : Plan) (v : Valid S P) (w : Lasting S) (some : Needing 
         let new = begins-new S P b e j l m in
         let first = first-of-left S P b e (begin j) l m in
         let g = own-claim r (S .need j) (some j job) (begin-fits S P v w b e h j job new first) in
-        let f = subst (λ n. Ready (S .modules) c n (deskAfter d (claim c (S .need j)))) (sym (begin-needed S P v w b e h j job new)) (g .1) in
+        let n = begin-needed S P v w b e h j job new in
+        let f = subst (λ n. Ready (S .modules) c n (deskAfter d (claim c (S .need j)))) (sym n) (g .1) in
         subst (λ y. (refusalOf d y ≡ 0) × AllGranted c (deskAfter d y) calls) ex
         (g .0, rest _ (placing b j) e l f (begin-course S P v w b e h j job new first) (after-begin S P b e j l m) el)
     own-call x (end j ∷ l) m eq =

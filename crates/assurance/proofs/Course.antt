@@ -5,7 +5,7 @@ use mathlib.Core.Bool.{Bool, true, false, not, _&&_, _||_}
 use Prim.Native.Nat.{ℕ, _+_, _≤_, _<_, zero-le}
 use native.Mathlib.Omega.{arith}
 use native.Mathlib.Nat.{le-refl}
-use lib.Dec.{ltb, leb, eqb}
+use lib.Dec.{eqb}
 use borrow.Author.Tests.{eqb-true, lt-ltb, le-leb, ne-eqb, not-true}
 use Rattle.counting.specs.Counting.{only, sum}
 use Rattle.counting.proofs.Tests.{true-or-false, clash, and-left, and-right, and-both, or-right}
@@ -43,8 +43,12 @@ module _ (S : Sheet) (P : Plan) (v : Valid S P) (w : Lasting S) (b e : ℕ → B
         let n = S .jobs in
         let each = sum-le n (λ i. only (b i && not (e i)) (S .need i) + only (eqb i j) (S .need i)) (λ i. only (runs S P t i) (S .need i))
         (λ i k. one i k (true-or-false (b i && not (e i))) (eqb i j) refl) in
-        omega (arith, load-le S P v t, sum-single n (S .need) j l,
-        sum-add n (λ i. only (b i && not (e i)) (S .need i)) (λ i. only (eqb i j) (S .need i)))
+        omega (
+          arith,
+          load-le S P v t,
+          sum-single n (S .need) j l,
+          sum-add n (λ i. only (b i && not (e i)) (S .need i)) (λ i. only (eqb i j) (S .need i)),
+        )
       where
         running : (i : ℕ) → P .start i ≤ P .start j → P .start j < finish S P i + S .rest → runs S P (P .start j) i ≡ true
         running i p q = and-both _ _ (le-leb _ _ p) (lt-ltb _ _ q)
@@ -86,7 +90,8 @@ module _ (S : Sheet) (P : Plan) (v : Valid S P) (w : Lasting S) (b e : ℕ → B
         or-true true = refl
         or-true false = refl
 
-        one : (i k : ℕ) → i < S .jobs → k < S .jobs → placing b j i ≡ true → b k ≡ false → (z : Bool) → eqb i j ≡ z → P .start i ≤ P .start k
+        one : (i k : ℕ) → i < S .jobs → k < S .jobs → placing b j i ≡ true → b k ≡ false
+            → (z : Bool) → eqb i j ≡ z → P .start i ≤ P .start k
         one i k c d p q true y = rw (eqb-true i j y) (omega (arith, x .begins k d q))
         one i k c d p q false y = h .sorted i k c d (rw y at p) q
 

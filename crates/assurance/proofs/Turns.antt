@@ -1,18 +1,18 @@
 -- The events of a plan in their order: when each is due, and what is left once the first is over.
-use mathlib.Core.Path.{_≡_, refl, sym, ap, _∙_}
+use mathlib.Core.Path.{_≡_, refl}
 use mathlib.Core.Logic.{_⊎_, inl, inr}
-use mathlib.Core.Bool.{Bool, true, false, not, _&&_, _||_}
+use mathlib.Core.Bool.{Bool, true, false, not, _&&_}
 use mathlib.Core.List.{List, [], _∷_}
 use Prim.Native.Nat.{ℕ, _+_, _*_, _≤_, _<_}
 use native.Mathlib.Omega.{arith}
-use native.Mathlib.Nat.{le-refl, le-trans}
+use native.Mathlib.Nat.{le-trans}
 use lib.Dec.{ltb, eqb}
 use borrow.Author.Tests.{ltb-true, lt-ltb, eqb-true, eq-eqb, not-true}
 use Rattle.counting.specs.Counting.{only}
 use Rattle.counting.proofs.Tests.{true-or-false, clash, and-left, and-right}
 use Rattle.schedule.specs.Plan.{Sheet, Plan, finish}
 use Rattle.schedule.specs.ListPlan.{placing}
-use Rattle.assurance.specs.Following.{Event, begin, end, minute, sameEvent, times, MayPrecede, InOrder}
+use Rattle.assurance.specs.Following.{Event, begin, end, sameEvent, times, MayPrecede, InOrder}
 
 -- ---- when an event is due
 

@@ -1,6 +1,6 @@
 -- An instance: on E9's desk controller 1 follows E1's plan, while controller 0 takes all it can get and others' calls are refused.
 use mathlib.Core.Path.{_≡_, refl}
-use mathlib.Core.Bool.{true, false}
+use mathlib.Core.Bool.{false}
 use mathlib.Core.List.{List, [], _∷_}
 use Prim.Native.Nat.{ℕ}
 use native.Mathlib.Omega.{arith}
@@ -72,12 +72,19 @@ yardEvents = begin 0 ∷ begin 2 ∷ end 0 ∷ end 2 ∷ begin 1 ∷ end 1 ∷ [
 -- at minute 10 the hand-backs of A and C come before the claim of B
 yard-in-order : InOrder yardSheet yardPlan yardEvents
 unfolding yardPlan sum largest every any firstMinute startOf placeAll
-yard-in-order =
-    (record { rising = omega arith; handBacksFirst = λ q z. clash false z refl },
-    (record { rising = omega arith; handBacksFirst = λ q z. absurd (omega arith) },
-    (record { rising = omega arith; handBacksFirst = λ q z. refl },
-    (record { rising = omega arith; handBacksFirst = λ q z. clash false z refl },
-    (record { rising = omega arith; handBacksFirst = λ q z. absurd (omega arith) }, tt)))))
+yard-in-order = (
+  record { rising = omega arith; handBacksFirst = λ q z. clash false z refl },
+  (
+    record { rising = omega arith; handBacksFirst = λ q z. absurd (omega arith) },
+    (
+      record { rising = omega arith; handBacksFirst = λ q z. refl },
+      (
+        record { rising = omega arith; handBacksFirst = λ q z. clash false z refl },
+        (record { rising = omega arith; handBacksFirst = λ q z. absurd (omega arith) }, tt),
+      ),
+    ),
+  ),
+)
 
 yard-follows : FollowsPlan yardSheet yardPlan 1 yardCalls
 unfolding eachOnce every

@@ -1,21 +1,21 @@
 -- What a single call guarantees: when it gives 14, when it is granted, and what a look says of claims.
-use mathlib.Core.Path.{_≡_, refl, sym, _∙_}
+use mathlib.Core.Path.{_≡_, refl}
 use mathlib.Core.Logic.{_⊎_, inl, inr, _↔_}
 use mathlib.Core.Bool.{Bool, true, false, not, _||_}
-use mathlib.Core.List.{List, []}
+use mathlib.Core.List.{[]}
 use Prim.Native.Nat.{ℕ, _+_, _≤_, _<_}
 use native.Mathlib.Omega.{arith}
 use lib.Dec.{ltb}
-use borrow.Author.Tests.{lt-ltb, le-ltb}
-use Rattle.counting.proofs.Tests.{true-or-false, clash, less-or-not}
+use borrow.Author.Tests.{le-ltb}
+use Rattle.counting.proofs.Tests.{clash, less-or-not}
 use Rattle.desk.specs.declared.Desk.{Desk}
-use Rattle.desk.specs.Desk.{holding, ceilingOf, reservedForOthers}
+use Rattle.desk.specs.Desk.{holding, ceilingOf, reservedForOthers, noDesk}
 use Rattle.desk.specs.Checks.{deskOk, notOfDesk, bookingChecks, returnChecks}
 use Rattle.desk.specs.Reachable.{Reachable}
 use Rattle.desk.specs.Calls.{claimRefusal, claimed, handBackRefusal, handedBack, lookRefusal, looked, room}
 use Rattle.desk.proofs.Sound.{here, of-desk}
 use Rattle.desk.proofs.Refusals.{first-when, booking-numbers, return-numbers}
-use Rattle.desk.proofs.Grants.{Fits, Holds, claim-says, claim-granted, hand-back-says, hand-back-granted}
+use Rattle.desk.proofs.Grants.{claim-says, claim-granted, hand-back-says, hand-back-granted}
 use Rattle.desk.proofs.Reaches.{reached-sound, reachable-when}
 
 -- ---- 14
@@ -64,6 +64,10 @@ module _ (d : Desk) (c : ℕ) where
   look-14 =
       let e = first-when 14 (omega arith) (notOfDesk d c) [] tt in
       ((λ q. fails-barred (e .0 q)), λ b. e .1 (barred-fails b))
+
+-- The desk of zeros that a refused opening answers cannot be, so every call on it gives 14.
+pub no-desk-unreachable : Reachable noDesk → ⊥
+no-desk-unreachable r = let s = reached-sound r .controllers in omega (arith, s .least)
 
 -- ---- by a controller of a desk that can be
 

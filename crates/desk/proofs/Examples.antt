@@ -1,6 +1,6 @@
 -- E9, E10 and E11 of document 01 as rows, and the law that gives what each row of a table says from one computed test.
-use mathlib.Core.Path.{_≡_, refl, ap, ap₂}
-use mathlib.Core.Bool.{Bool, true, false, _&&_}
+use mathlib.Core.Path.{_≡_, refl, ap₂}
+use mathlib.Core.Bool.{true, false, _&&_}
 use mathlib.Core.List.{List, [], _∷_}
 use Prim.Native.Nat.{ℕ}
 use lib.Dec.{eqb}
@@ -8,10 +8,9 @@ use borrow.Author.Tests.{eqb-true}
 use Rattle.counting.specs.Counting.{sum, every, any}
 use Rattle.counting.proofs.Tests.{clash, and-left, and-right}
 use Rattle.desk.specs.declared.Desk.{Desk}
-use Rattle.desk.specs.declared.Opened.{Opened}
 use Rattle.desk.specs.Desk.{noDesk}
 use Rattle.desk.specs.Checks.{wrongLengths, wrongFigures, sharesExceed, deskOk, notOfDesk}
-use Rattle.desk.specs.Calls.{Call, claim, handBack, look, refusalOf, deskAfter}
+use Rattle.desk.specs.Calls.{claim, handBack, look, refusalOf, deskAfter}
 use Rattle.desk.specs.Calls.{openRefusal, opened, claimRefusal, claimed, handBackRefusal, handedBack, lookRefusal, looked}
 use Rattle.desk.specs.Rows.{figureOf, desk, Step, step, Row, opens, runs, holdingOn, StepsSay, Says, AllSay}
 use Rattle.desk.specs.Rows.{sameList, sameDesk, stepsHold, holds, allHold}
@@ -49,11 +48,12 @@ steps-say d (s ∷ l) q =
     let a = eqb (refusalOf d (s .call)) (s .refusal) in
     let b = eqb (figureOf d (s .call)) (s .figure) in
     let c = sameDesk (deskAfter d (s .call)) e in
-    let abc = and-left (a && b && c) (stepsHold e l) q in
-    (eqb-true _ _ (and-left a b (and-left (a && b) c abc)),
-    eqb-true _ _ (and-right a b (and-left (a && b) c abc)),
-    same-desk (deskAfter d (s .call)) e (and-right (a && b) c abc),
-    steps-say e l (and-right (a && b && c) (stepsHold e l) q))
+    let abc = and-left (a && b && c) (stepsHold e l) q in (
+      eqb-true _ _ (and-left a b (and-left (a && b) c abc)),
+      eqb-true _ _ (and-right a b (and-left (a && b) c abc)),
+      same-desk (deskAfter d (s .call)) e (and-right (a && b) c abc),
+      steps-say e l (and-right (a && b && c) (stepsHold e l) q),
+    )
 
 row-says : (r : Row) → holds r ≡ true → Says r
 row-says (opens limit assured ceilings r d) q =

@@ -1,7 +1,7 @@
 -- What it takes for no check of a call to fail, and so what an answered opening and a granted claim or hand-back tell.
-use mathlib.Core.Path.{_≡_, refl, sym, _∙_}
-use mathlib.Core.Bool.{Bool, true, false, not, _||_}
-use mathlib.Core.List.{List, [], _∷_}
+use mathlib.Core.Path.{_≡_, refl}
+use mathlib.Core.Bool.{Bool, true, false, not}
+use mathlib.Core.List.{List}
 use Prim.Native.Nat.{ℕ, _+_, _≤_, _<_}
 use native.Mathlib.Omega.{arith}
 use lib.Dec.{ltb, eqb}
@@ -12,7 +12,7 @@ use Rattle.counting.proofs.Ranges.{any-none, none-any}
 use Rattle.desk.specs.declared.Desk.{Desk}
 use Rattle.desk.specs.Desk.{mostModules, fewestControllers, mostControllers, holding, ceilingOf, reservedForOthers}
 use Rattle.desk.specs.Checks.{inRange, wrongLengths, wrongPair, somePairWrong, wrongFigures, sharesInAll, sharesExceed}
-use Rattle.desk.specs.Checks.{notOfDesk, passesCeiling, doesNotFit, exceedsHolding, Check, check, firstFailing, bookingChecks, returnChecks}
+use Rattle.desk.specs.Checks.{notOfDesk, firstFailing, bookingChecks, returnChecks}
 use Rattle.desk.specs.Calls.{openRefusal, opened, claimRefusal, handBackRefusal}
 use Rattle.desk.proofs.Refusals.{none-fails, booking-numbers, return-numbers, open-answered}
 use Rattle.desk.proofs.Sound.{InRange, range-says, in-range, Sound, Here, of-desk-says, of-desk}
@@ -70,7 +70,7 @@ module _ (limit : ℕ) (assured ceilings : List ℕ) where
         in-range fewestControllers mostControllers _ (o .controllers .least) (o .controllers .most),
         in-range 1 mostModules _ (o .modules .least) (o .modules .most),
         right,
-        le-ltb _ _ (o .total)
+        le-ltb _ _ (o .total),
       ) refl
 
 -- ---- claims and hand-backs

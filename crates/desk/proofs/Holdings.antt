@@ -18,7 +18,7 @@ use Rattle.desk.specs.Reachable.{Reachable}
 use Rattle.desk.specs.Calls.{opened, claimRefusal, claimed, handBackRefusal, handedBack, looked}
 use Rattle.desk.specs.Calls.{Call, claim, handBack, look, deskAfter, deskAfterAll, granted, claims, handsBack}
 use Rattle.desk.specs.Calls.{grantedClaims, grantedHandBacks}
-use Rattle.desk.proofs.Sound.{Sound, bound-past}
+use Rattle.desk.proofs.Sound.{bound-past}
 use Rattle.desk.proofs.Grants.{claim-says, hand-back-says}
 use Rattle.desk.proofs.Keeps.{held-same, held-other}
 use Rattle.desk.proofs.Reaches.{zero-at, reached-sound}

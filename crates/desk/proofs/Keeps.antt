@@ -8,12 +8,12 @@ use lib.Dec.{eqb}
 use lib.ListN.{length, length-set}
 use lib.Seq.{getD-set-same, getD-set-other}
 use borrow.Author.Tests.{eqb-false}
-use Rattle.counting.specs.Counting.{only, sum}
+use Rattle.counting.specs.Counting.{only}
 use Rattle.counting.proofs.Tests.{same-or-not}
 use Rattle.counting.proofs.Sums.{sum-same}
 use Rattle.desk.specs.declared.Desk.{Desk}
 use Rattle.desk.specs.Desk.{mostControllers, holding, assuredShare, ceilingOf, reserved, reservedForOthers, withHolding}
-use Rattle.desk.proofs.Sound.{Place, Sound, Here, here, reserves-split}
+use Rattle.desk.proofs.Sound.{Place, Sound, here, reserves-split}
 use Rattle.desk.proofs.Grants.{Fits, Holds}
 
 pub held-same : (d : Desk) (c h : ℕ) → c < length (d .held) → holding (withHolding d c h) c ≡ h

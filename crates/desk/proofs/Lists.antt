@@ -1,24 +1,18 @@
 -- What a list of calls leaves, whatever calls stand in it and whether they are granted or refused.
-use mathlib.Core.Path.{_≡_, refl, sym, ap, _∙_, subst}
-use mathlib.Core.Logic.{_⊎_, inl, inr, _↔_, _≢_}
+use mathlib.Core.Path.{_≡_, refl, ap, _∙_, subst}
+use mathlib.Core.Logic.{_↔_, _≢_}
 use mathlib.Core.Bool.{Bool, true, false, cond}
 use mathlib.Core.List.{List, [], _∷_, _++_}
-use Prim.Native.Nat.{ℕ, _+_, _-_, _≤_, _<_}
-use native.Mathlib.Omega.{arith}
+use Prim.Native.Nat.{ℕ, _+_, _-_}
 use lib.Dec.{eqb}
-use lib.ListN.{length}
-use borrow.Author.Tests.{eqb-true, eqb-false, eq-eqb, ne-eqb}
-use Rattle.counting.specs.Counting.{only, sum}
-use Rattle.counting.proofs.Sums.{sum-le}
+use borrow.Author.Tests.{eqb-true, ne-eqb}
 use Rattle.desk.specs.declared.Desk.{Desk}
-use Rattle.desk.specs.Desk.{mostControllers, holding, assuredShare, ceilingOf, reserved, newDesk, withHolding}
+use Rattle.desk.specs.Desk.{holding, newDesk, noDesk, withHolding}
 use Rattle.desk.specs.Reachable.{Reachable, opening, claiming, handingBack}
 use Rattle.desk.specs.Calls.{openRefusal, opened, claimRefusal, claimed, handBackRefusal, handedBack, lookRefusal, looked}
-use Rattle.desk.specs.Calls.{Call, claim, handBack, look, refusalOf, deskAfter, deskAfterAll, granted, claims, handsBack}
-use Rattle.desk.specs.Calls.{grantedClaims, grantedHandBacks}
-use Rattle.desk.proofs.Sound.{Sound, Here, bound-past}
-use Rattle.desk.proofs.Grants.{booking-fits, return-holds, claim-says, claim-granted, hand-back-says, hand-back-granted, booking-says, return-says}
-use Rattle.desk.proofs.Keeps.{held-same, held-other}
+use Rattle.desk.specs.Calls.{Call, claim, handBack, look, refusalOf, deskAfter, deskAfterAll}
+use Rattle.desk.proofs.Grants.{booking-fits, return-holds, claim-says, claim-granted, hand-back-says, hand-back-granted}
+use Rattle.desk.proofs.Grants.{booking-says, return-says}
 use Rattle.desk.proofs.Reaches.{reached-sound}
 
 -- ---- one call
@@ -30,7 +24,17 @@ refused-leaves d (claim c k) n = rw (ne-eqb (claimRefusal d c k) 0 n) refl
 refused-leaves d (handBack c k) n = rw (ne-eqb (handBackRefusal d c k) 0 n) refl
 refused-leaves d (look c) n = refl
 
--- So does every look.
+-- Its other figures are 0: a refused opening's desk, and what a refused look shows.
+pub refused-opening : (limit : ℕ) (assured ceilings : List ℕ) → opened limit assured ceilings .refusal ≢ 0
+    → opened limit assured ceilings .desk ≡ noDesk
+unfolding opened
+refused-opening limit assured ceilings n = rw (ne-eqb (openRefusal limit assured ceilings) 0 n) refl
+
+pub refused-look : (d : Desk) (c : ℕ) → looked d c .refusal ≢ 0 → looked d c .modules ≡ 0
+unfolding looked
+refused-look d c n = rw (ne-eqb (lookRefusal d c) 0 n) refl
+
+-- Every look leaves the desk.
 pub look-leaves : (d : Desk) (c : ℕ) → deskAfter d (look c) ≡ d
 unfolding looked
 look-leaves d c = refl

@@ -1,21 +1,21 @@
 -- The test of a desk is true of the desks that an answered opening and later calls can leave, and of no others.
 use mathlib.Core.Path.{_≡_, refl, sym, ap, _∙_, subst}
-use mathlib.Core.Logic.{_⊎_, inl, inr, ⊎-elim, _↔_, _≢_}
+use mathlib.Core.Logic.{_⊎_, inl, inr, ⊎-elim, _↔_}
 use mathlib.Core.Bool.{Bool, true, false, not}
-use mathlib.Core.List.{List, [], _++_}
+use mathlib.Core.List.{List}
 use Prim.Native.Nat.{ℕ, zero, suc, _+_, _-_, _≤_, _<_}
 use native.Mathlib.Omega.{arith}
 use native.Mathlib.Nat.{zero-add}
 use lib.Dec.{eqb}
-use lib.ListN.{length, getD, set, take, drop, length-set, length-append, length-drop, getD-replicate, List·getD-append, List·getD-eq-default}
+use lib.ListN.{length, getD, set, take, drop, length-set, length-append, length-drop, getD-replicate, List·getD-append}
+use lib.ListN.{List·getD-eq-default}
 use lib.Seq.{getD-set-same, getD-set-other, set-getD, ext-getD, getD-take, getD-drop, getD-append-add, length-take-le}
-use borrow.Author.Tests.{eqb-false}
 use Rattle.counting.specs.Counting.{only, sum}
 use Rattle.counting.proofs.Tests.{less-or-not, same-or-not}
 use Rattle.counting.proofs.Sums.{sum-le, sum-same}
 use Rattle.desk.specs.declared.Desk.{Desk}
-use Rattle.desk.specs.Desk.{mostControllers, holding, assuredShare, ceilingOf, reserved, reservedForOthers, zeros, padded, newDesk, withHolding}
-use Rattle.desk.specs.Checks.{sharesInAll, deskOk, firstFailing, openChecks}
+use Rattle.desk.specs.Desk.{mostControllers, holding, assuredShare, ceilingOf, reserved, zeros, padded, newDesk, withHolding}
+use Rattle.desk.specs.Checks.{sharesInAll, deskOk}
 use Rattle.desk.specs.Reachable.{Reachable, opening, claiming, handingBack}
 use Rattle.desk.specs.Calls.{openRefusal, opened}
 use Rattle.desk.proofs.Sound.{Place, Sound, here, ok-says, sound-ok, bound-inside, bound-past}

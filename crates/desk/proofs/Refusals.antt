@@ -7,7 +7,8 @@ use Prim.Native.Nat.{ℕ, _<_}
 use native.Mathlib.Omega.{arith}
 use Rattle.counting.proofs.Tests.{clash}
 use Rattle.desk.specs.declared.Desk.{Desk}
-use Rattle.desk.specs.Checks.{Check, check, firstFailing, openChecks, bookingChecks, returnChecks, claimChecks, handBackChecks, lookChecks}
+use Rattle.desk.specs.Checks.{Check, check, firstFailing, openChecks, bookingChecks, returnChecks, claimChecks, handBackChecks}
+use Rattle.desk.specs.Checks.{lookChecks}
 use Rattle.desk.specs.Calls.{openRefusal, opened, claimRefusal, claimed, handBackRefusal, handedBack, lookRefusal, looked}
 
 -- ---- of any list of checks

@@ -5,7 +5,7 @@ use mathlib.Core.Bool.{true}
 use mathlib.Core.List.{List, [], _∷_}
 use Rattle.counting.specs.Counting.{sum, every, any}
 use Rattle.desk.specs.Checks.{wrongLengths, wrongFigures, sharesExceed, deskOk, notOfDesk}
-use Rattle.desk.specs.Calls.{Call, claim, handBack, look}
+use Rattle.desk.specs.Calls.{claim, handBack, look}
 use Rattle.desk.specs.Calls.{openRefusal, opened, claimRefusal, claimed, handBackRefusal, handedBack, lookRefusal, looked}
 use Rattle.desk.specs.Rows.{desk, step, Row, opens, runs, allHold}
 

@@ -1,6 +1,6 @@
 -- The test of a desk as facts: what holds of a desk that can be, and that the others' part and a controller's own add up.
-use mathlib.Core.Path.{_≡_, refl, ap, _∙_}
-use mathlib.Core.Bool.{Bool, true, false, not, _&&_, _||_}
+use mathlib.Core.Path.{_≡_, refl, _∙_}
+use mathlib.Core.Bool.{Bool, true, false, not, _&&_}
 use Prim.Native.Nat.{ℕ, _+_, _≤_, _<_, max}
 use native.Mathlib.Omega.{arith}
 use lib.Dec.{ltb, leb, eqb}
@@ -11,7 +11,8 @@ use Rattle.counting.proofs.Tests.{and-left, and-right, and-both, or-left, or-ri
 use Rattle.counting.proofs.Sums.{sum-same, sum-add, sum-single}
 use Rattle.counting.proofs.Ranges.{every-at, every-intro}
 use Rattle.desk.specs.declared.Desk.{Desk}
-use Rattle.desk.specs.Desk.{mostModules, fewestControllers, mostControllers, holding, assuredShare, ceilingOf, reserved, reservedForOthers}
+use Rattle.desk.specs.Desk.{mostModules, fewestControllers, mostControllers, holding, assuredShare, ceilingOf, reserved}
+use Rattle.desk.specs.Desk.{reservedForOthers}
 use Rattle.desk.specs.Checks.{inRange, fullLists, ceilingBound, placeOkAt, deskOk, notOfDesk}
 
 -- ---- the parts of the test

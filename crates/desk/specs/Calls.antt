@@ -1,5 +1,5 @@
 -- What the calls on a desk answer, and what a list of calls leaves: "each takes the desk that the one before it handed back".
-use mathlib.Core.Bool.{Bool, true, false, cond, _&&_}
+use mathlib.Core.Bool.{Bool, cond}
 use mathlib.Core.List.{List, [], _∷_}
 use Prim.Native.Nat.{ℕ, _+_, _-_, min}
 use lib.Dec.{eqb}

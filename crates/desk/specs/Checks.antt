@@ -6,7 +6,8 @@ use lib.Dec.{ltb, leb, eqb}
 use lib.ListN.{length, getD}
 use Rattle.counting.specs.Counting.{only, sum, every, any}
 use Rattle.desk.specs.declared.Desk.{Desk}
-use Rattle.desk.specs.Desk.{mostModules, fewestControllers, mostControllers, holding, assuredShare, ceilingOf, reserved, reservedForOthers}
+use Rattle.desk.specs.Desk.{mostModules, fewestControllers, mostControllers, holding, assuredShare, ceilingOf, reserved}
+use Rattle.desk.specs.Desk.{reservedForOthers}
 
 -- x is low to high
 abbrev pub inRange : ℕ → ℕ → ℕ → Bool
@@ -66,7 +67,8 @@ deskOk d =
     && every mostControllers (placeOkAt d)
     && leb (sum (d .count) (reserved d)) (d .limit)
 
--- 14. "The controller … number is not below the count of controllers …, or the desk is one that no answered opening and later calls can leave."
+-- 14. "The controller … number is not below the count of controllers …,
+-- or the desk is one that no answered opening and later calls can leave."
 unfoldable pub notOfDesk : Desk → ℕ → Bool
 notOfDesk d c = not (ltb c (d .count)) || not (deskOk d)
 

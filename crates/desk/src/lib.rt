@@ -1,11 +1,13 @@
-// The share desk: the power modules that 2 to 8 controllers hold on one feeder. A call takes the desk and hands back the desk as it then is.
+// The share desk: the power modules that 2 to 8 controllers hold on one feeder.
+// A call takes the desk and hands back the desk as it then is.
 ghost use mathlib.Core.Path.{_≡_};
 ghost use mathlib.Core.Bool.{true, false};
 ghost use Prim.Native.Nat.{ℕ, _≤_, _<_, max, min};
 ghost use lib.ListN.{length, getD};
 ghost use Rattle.counting.specs.Counting.{sum, every};
 ghost use Rattle.desk.specs.Desk.{mostModules, mostControllers, reserved, reservedForOthers, padded, noDesk};
-ghost use Rattle.desk.specs.Checks.{inRange, wrongPair, somePairWrong, sharesInAll, ceilingBound, placeOk, placeOkAt, deskOk, notOfDesk};
+ghost use Rattle.desk.specs.Checks.{inRange, wrongPair, somePairWrong, sharesInAll, ceilingBound, placeOk, placeOkAt, deskOk};
+ghost use Rattle.desk.specs.Checks.{notOfDesk};
 ghost use Rattle.desk.specs.Calls.{openRefusal, opened, claimRefusal, claimed, handBackRefusal, handedBack, looked};
 
 // Document 01: "a feeder limit L in modules (1 to 4096)", "2 to 8 controllers".
@@ -202,7 +204,12 @@ impl Desk {
         let ceiling = self.ceiling;
         let mut i: usize = 0;
         while i < MOST_CONTROLLERS {
-            if !place_ok(held[i], assured[i], ceiling[i], ceiling_bound(limit, count, i as u32)) {
+            if !place_ok(
+                held[i],
+                assured[i],
+                ceiling[i],
+                ceiling_bound(limit, count, i as u32),
+            ) {
                 return false;
             }
             i += 1;

@@ -1,4 +1,5 @@
-// The desk where firmware keeps it: thin calls that take the lent desk, make the call by value, and put the desk it hands back in its place.
+// The desk where firmware keeps it: thin calls that copy the lent desk, make the call by value,
+// and put the desk that it hands back in its place.
 use desk::Booked;
 use desk::Desk;
 ghost use mathlib.Core.Path.{_≡_};

@@ -1,21 +1,21 @@
 -- `desk::open` meets its contract: what the refusal says, and the new desk where there is none.
-use mathlib.Core.Path.{_≡_, refl, sym, ap, ap₂, _∙_}
+use mathlib.Core.Path.{_≡_, sym, ap, ap₂, _∙_}
 use mathlib.Core.List.{List}
-use Prim.Native.Nat.{ℕ, _≤_}
+use Prim.Native.Nat.{ℕ}
 use native.Mathlib.Omega.{arith}
 use borrow.Author.Needs.{needs}
 use borrow.Author.Tests.{ne-eqb}
 use lib.ListN.{length}
 use Rattle.desk.specs.declared.Desk.{Desk}
-use Rattle.desk.specs.declared.Opened.{Opened}
-use Rattle.desk.specs.Desk.{mostControllers, zeros}
+use Rattle.desk.specs.Desk.{zeros}
 use Rattle.desk.specs.Calls.{openRefusal, opened}
 use Rattle.desk.proofs.Grants.{Opens, open-says}
 use Rattle.desk.proofs.open.Statement.{statement}
 use Rattle.desk.proofs.open.Tie as tie
 
 -- no check fails
-answered : (c : tie.Else1) → let a = c .before .before .before .before .args in openRefusal (a .limit) (a .assured .now) (a .ceilings .now) ≡ 0
+answered : (c : tie.Else1) → let a = c .before .before .before .before .args in
+    openRefusal (a .limit) (a .assured .now) (a .ceilings .now) ≡ 0
 answered c = sym (c .before .open-refusal .ensures) ∙ c .if1 .left
 
 at : (c : tie.Else1) → let a = c .before .before .before .before .args in Opens (a .limit) (a .assured .now) (a .ceilings .now)

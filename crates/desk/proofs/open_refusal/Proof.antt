@@ -50,8 +50,11 @@ returns-3 : tie.Need-returns-3
 unfolding openRefusal wrongLengths wrongFigures
 returns-3 c =
     let two = c .before .before in
-    rw (eq-eqb _ _ (two .before .before .if1 .left), controllers (two .before) true (not-false _ (two .if2 .left)),
-    limit (c .before) false (not-true _ (c .if3 .taken))) refl
+    rw (
+      eq-eqb _ _ (two .before .before .if1 .left),
+      controllers (two .before) true (not-false _ (two .if2 .left)),
+      limit (c .before) false (not-true _ (c .if3 .taken)),
+    ) refl
 
 some-pair-wrong-requires : tie.Need-some-pair-wrong-requires
 some-pair-wrong-requires c κs = search needs
@@ -61,18 +64,24 @@ unfolding openRefusal wrongLengths wrongFigures
 returns-4 c =
     let three = c .before .before in
     let two = three .before .before in
-    rw (eq-eqb _ _ (two .before .before .if1 .left), controllers (two .before) true (not-false _ (two .if2 .left)),
-    limit (three .before) true (not-false _ (three .if3 .left)), pair (c .before) true (c .if4 .taken)) refl
+    rw (
+      eq-eqb _ _ (two .before .before .if1 .left),
+      controllers (two .before) true (not-false _ (two .if2 .left)),
+      limit (three .before) true (not-false _ (three .if3 .left)),
+      pair (c .before) true (c .if4 .taken),
+    ) refl
 
 shares-in-all-requires : tie.Need-shares-in-all-requires
 shares-in-all-requires c κs =
     let three = c .before .before in
     let two = three .before .before in
     let a = two .before .before .before .before .before .args in
-    let most : a .limit ≤ mostModules = range-says 1 mostModules (a .limit) (limit (three .before) true (not-false _ (three .if3 .left))) .most in
-    let right = pairs-say (a .limit) (a .assured .now) (a .ceilings .now) (pair (c .before) false (c .if4 .left)) in
-    (range-says _ _ _ (controllers (two .before) true (not-false _ (two .if2 .left))) .most,
-    λ i l. omega (arith, right i l .share, right i l .top))
+    let small = limit (three .before) true (not-false _ (three .if3 .left)) in
+    let most : a .limit ≤ mostModules = range-says 1 mostModules (a .limit) small .most in
+    let right = pairs-say (a .limit) (a .assured .now) (a .ceilings .now) (pair (c .before) false (c .if4 .left)) in (
+      range-says _ _ _ (controllers (two .before) true (not-false _ (two .if2 .left))) .most,
+      λ i l. omega (arith, right i l .share, right i l .top),
+    )
 
 returns-5 : tie.Need-returns-5
 unfolding openRefusal wrongLengths wrongFigures sharesExceed
@@ -80,9 +89,14 @@ returns-5 c =
     let four = c .before .before in
     let three = four .before .before in
     let two = three .before .before in
-    rw (eq-eqb _ _ (two .before .before .if1 .left), controllers (two .before) true (not-false _ (two .if2 .left)),
-    limit (three .before) true (not-false _ (three .if3 .left)), pair (four .before) false (four .if4 .left),
-    ← c .before .shares-in-all .ensures, lt-ltb _ _ (c .if5 .taken)) refl
+    rw (
+      eq-eqb _ _ (two .before .before .if1 .left),
+      controllers (two .before) true (not-false _ (two .if2 .left)),
+      limit (three .before) true (not-false _ (three .if3 .left)),
+      pair (four .before) false (four .if4 .left),
+      ← c .before .shares-in-all .ensures,
+      lt-ltb _ _ (c .if5 .taken),
+    ) refl
 
 returns-6 : tie.Need-returns-6
 unfolding openRefusal wrongLengths wrongFigures sharesExceed
@@ -90,9 +104,14 @@ returns-6 c =
     let four = c .before .before in
     let three = four .before .before in
     let two = three .before .before in
-    rw (eq-eqb _ _ (two .before .before .if1 .left), controllers (two .before) true (not-false _ (two .if2 .left)),
-    limit (three .before) true (not-false _ (three .if3 .left)), pair (four .before) false (four .if4 .left),
-    ← c .before .shares-in-all .ensures, le-ltb _ _ (c .if5 .left)) refl
+    rw (
+      eq-eqb _ _ (two .before .before .if1 .left),
+      controllers (two .before) true (not-false _ (two .if2 .left)),
+      limit (three .before) true (not-false _ (three .if3 .left)),
+      pair (four .before) false (four .if4 .left),
+      ← c .before .shares-in-all .ensures,
+      le-ltb _ _ (c .if5 .left),
+    ) refl
 
 pub open-refusal-spec : {M : Type 1} → statement M
 open-refusal-spec =

@@ -10,7 +10,7 @@ use Rattle.desk.proofs.Desk.claim.Statement.{statement}
 use Rattle.desk.proofs.Desk.claim.Tie as tie
 
 -- no check fails
-granted : (c : tie.Else1) → claimRefusal (c .before .before .args .t1) (c .before .before .args .controller) (c .before .before .args .modules) ≡ 0
+granted : (c : tie.Else1) → let a = c .before .before .args in claimRefusal (a .t1) (a .controller) (a .modules) ≡ 0
 granted c = sym (c .before .claim-refusal .ensures) ∙ c .if1 .left
 
 at : (c : tie.Else1) → let a = c .before .before .args in Here (a .t1) (a .controller) × Fits (a .t1) (a .controller) (a .modules)

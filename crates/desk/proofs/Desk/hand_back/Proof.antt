@@ -1,5 +1,6 @@
 -- `desk::Desk::hand_back` meets its contract: what the refusal says, and the holding where there is none.
 use mathlib.Core.Path.{_≡_, refl, sym, _∙_}
+use native.Mathlib.Omega.{arith}
 use borrow.Author.Needs.{needs}
 use borrow.Author.Tests.{ne-eqb}
 use Rattle.desk.specs.Calls.{handBackRefusal, handedBack}
@@ -9,7 +10,7 @@ use Rattle.desk.proofs.Desk.hand_back.Statement.{statement}
 use Rattle.desk.proofs.Desk.hand_back.Tie as tie
 
 -- no check fails
-granted : (c : tie.Else1) → handBackRefusal (c .before .before .args .t1) (c .before .before .args .controller) (c .before .before .args .modules) ≡ 0
+granted : (c : tie.Else1) → let a = c .before .before .args in handBackRefusal (a .t1) (a .controller) (a .modules) ≡ 0
 granted c = sym (c .before .hand-back-refusal .ensures) ∙ c .if1 .left
 
 at : (c : tie.Else1) → let a = c .before .before .args in Here (a .t1) (a .controller) × Holds (a .t1) (a .controller) (a .modules)
@@ -29,7 +30,7 @@ element-copy-out-self : tie.Need-element-copy-out-self
 element-copy-out-self c = at c .0 .inside
 
 sub-self : tie.Need-sub-self
-sub-self c = at (c .before) .1 .within
+sub-self c = omega (arith, at (c .before) .1 .within)
 
 mul-self-2 : tie.Need-mul-self-2
 mul-self-2 c = search needs

@@ -6,10 +6,9 @@ use borrow.Author.Needs.{needs}
 use borrow.Author.Tests.{not-true, not-false}
 use lib.Dec.{leb}
 use Rattle.counting.specs.Counting.{every}
-use Rattle.desk.specs.declared.Desk.{Desk}
 use Rattle.desk.specs.Desk.{mostModules, fewestControllers, mostControllers}
 use Rattle.desk.specs.Checks.{inRange, fullLists, placeOkAt, deskOk}
-use Rattle.desk.proofs.Sound.{Full, full, range-says}
+use Rattle.desk.proofs.Sound.{full, range-says}
 use Rattle.desk.proofs.Desk.ok.Statement.{statement}
 use Rattle.desk.proofs.Desk.ok.Tie as tie
 
@@ -52,8 +51,11 @@ returns-2 : tie.Need-returns-2
 unfolding deskOk
 returns-2 c =
     let one = c .before .before .before in
-    rw (lists (one .before .before .before), controllers (one .before) true (not-false _ (one .if1 .left)),
-    limit (c .before) false (not-true _ (c .if2 .taken))) refl
+    rw (
+      lists (one .before .before .before),
+      controllers (one .before) true (not-false _ (one .if1 .left)),
+      limit (c .before) false (not-true _ (c .if2 .taken)),
+    ) refl
 
 places-ok-requires : tie.Need-places-ok-requires
 places-ok-requires c κs = search needs
@@ -63,16 +65,21 @@ unfolding deskOk
 returns-3 c =
     let two = c .before .before in
     let one = two .before .before .before in
-    rw (lists (one .before .before .before), controllers (one .before) true (not-false _ (one .if1 .left)),
-    limit (two .before) true (not-false _ (two .if2 .left)), all (c .before) false (not-true _ (c .if3 .taken))) refl
+    rw (
+      lists (one .before .before .before),
+      controllers (one .before) true (not-false _ (one .if1 .left)),
+      limit (two .before) true (not-false _ (two .if2 .left)),
+      all (c .before) false (not-true _ (c .if3 .taken)),
+    ) refl
 
 reserved-in-all-requires : tie.Need-reserved-in-all-requires
 reserved-in-all-requires c κs =
     let two = c .before .before in
-    let one = two .before .before .before in
-    (range-says _ _ _ (controllers (one .before) true (not-false _ (one .if1 .left))) .most,
-    range-says _ _ _ (limit (two .before) true (not-false _ (two .if2 .left))) .most,
-    all (c .before) true (not-false _ (c .if3 .left)))
+    let one = two .before .before .before in (
+      range-says _ _ _ (controllers (one .before) true (not-false _ (one .if1 .left))) .most,
+      range-says _ _ _ (limit (two .before) true (not-false _ (two .if2 .left))) .most,
+      all (c .before) true (not-false _ (c .if3 .left)),
+    )
 
 returns-4 : tie.Need-returns-4
 unfolding deskOk
@@ -80,8 +87,12 @@ returns-4 c =
     let three = c .before .before in
     let two = three .before .before in
     let one = two .before .before .before in
-    rw (lists (one .before .before .before), controllers (one .before) true (not-false _ (one .if1 .left)),
-    limit (two .before) true (not-false _ (two .if2 .left)), all (three .before) true (not-false _ (three .if3 .left)))
+    rw (
+      lists (one .before .before .before),
+      controllers (one .before) true (not-false _ (one .if1 .left)),
+      limit (two .before) true (not-false _ (two .if2 .left)),
+      all (three .before) true (not-false _ (three .if3 .left)),
+    )
     (ap (λ (t : ℕ). leb t (one .before .before .before .args .self .limit)) (c .before .reserved-in-all .ensures))
 
 pub ok-spec : {M : Type 1} → statement M

@@ -1,6 +1,4 @@
 -- `desk::Desk::reserved_for_others` meets its contract: all that is reserved, less the controller's own part.
-use mathlib.Core.Bool.{true}
-use Prim.Native.Nat.{ℕ}
 use native.Mathlib.Omega.{arith}
 use borrow.Author.Needs.{needs}
 use Rattle.counting.proofs.Ranges.{every-intro}

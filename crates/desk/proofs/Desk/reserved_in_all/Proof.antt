@@ -75,9 +75,11 @@ loop-less c = omega arith
 
 loop-again : tie.Need-loop-again Inv-loop μ-loop
 loop-again c =
-    let l = c .before .before in
-    (omega arith, ap (λ (r : ℕ). l .loop .total + r) (c .larger .ensures)
-    ∙ sum-more (reserved (lent l)) (l .loop .i) (l .loop .total) (l .loop .inv .1))
+    let l = c .before .before in (
+      omega arith,
+      ap (λ (r : ℕ). l .loop .total + r) (c .larger .ensures)
+          ∙ sum-more (reserved (lent l)) (l .loop .i) (l .loop .total) (l .loop .inv .1),
+    )
 
 returns : tie.Need-returns Inv-loop μ-loop
 returns c =
