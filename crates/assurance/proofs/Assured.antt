@@ -70,16 +70,16 @@ module _ (S : Sheet) (P : Plan) (v : Valid S P) (w : Lasting S) (some : Needing 
   all-granted [] = λ d b e l r h m eq. tt
   all-granted (x ∷ calls) = λ d b e l r h m eq. call-step calls (all-granted calls) d b e r h x l m eq (bears c x) refl
 
--- For every list of calls on any desk that an answered opening and later calls can leave: a controller of the desk that holds nothing,
+-- For every list of calls on any desk that an answered opening and later calls can leave: a controller that holds nothing,
 -- is assured the sheet's modules and makes in the list exactly the plan's claims and hand-backs, minutes never falling and hand-backs
 -- first within a minute, is granted every one of these, whatever stands between them.
 pub plan-granted : (S : Sheet) (P : Plan) → Valid S P → Lasting S → Needing S
-    → (d : Desk) → Reachable d → (c : ℕ) → c < d .count → holding d c ≡ 0 → S .modules ≤ assuredShare d c
+    → (d : Desk) → Reachable d → (c : ℕ) → holding d c ≡ 0 → S .modules ≤ assuredShare d c
     → (calls : List Call) → FollowsPlan S P c calls → AllGranted c d calls
 unfolding Goal
-plan-granted S P v w some d r c l z n calls f =
+plan-granted S P v w some d r c z n calls f =
     all-granted S P v w some c calls d noJobs noJobs (f .events)
-    (record { reachable = r; counted = l; share = n; holds = z ∙ sym (sum-zero (S .jobs)) })
+    (record { reachable = r; share = n; holds = z ∙ sym (sum-zero (S .jobs)) })
     (record { sorted = λ i k p q e. clash false e refl; begun = λ i p e. e })
     (record { begins = λ j. f .once (begin j); ends = λ j. f .once (end j); order = f .order })
     (f .own)

@@ -94,7 +94,7 @@ yard-follows = record { events = yardEvents; once = once-says 3 yardEvents refl;
 
 pub yard-granted : AllGranted 1 yardDesk yardCalls
 yard-granted =
-    plan-granted yardSheet yardPlan yard-valid yard-lasting yard-needing yardDesk yard-opened 1 (omega arith) refl (omega arith)
+    plan-granted yardSheet yardPlan yard-valid yard-lasting yard-needing yardDesk yard-opened 1 refl (omega arith)
     yardCalls yard-follows
 
 -- what each call gives

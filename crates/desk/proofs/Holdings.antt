@@ -1,24 +1,22 @@
 -- The holdings after any list of calls: granted claims less granted hand-backs, within the limit, with every reserve kept.
 use mathlib.Core.Path.{_≡_, refl, sym, ap, _∙_}
-use mathlib.Core.Logic.{_⊎_, inl, inr}
 use mathlib.Core.Bool.{Bool, true, false, cond}
 use mathlib.Core.List.{List, [], _∷_}
 use Prim.Native.Nat.{ℕ, _+_, _-_, _≤_, _<_}
 use native.Mathlib.Omega.{arith}
 use native.Mathlib.Nat.{le-trans}
 use lib.Dec.{eqb}
-use lib.ListN.{length, List·getD-eq-default}
+use lib.ListN.{length}
 use borrow.Author.Tests.{eqb-true, eqb-false}
 use Rattle.counting.specs.Counting.{only, sum}
-use Rattle.counting.proofs.Tests.{less-or-not}
 use Rattle.counting.proofs.Sums.{sum-le}
 use Rattle.desk.specs.declared.Desk.{Desk}
-use Rattle.desk.specs.Desk.{mostControllers, holding, reserved, newDesk, withHolding}
+use Rattle.desk.specs.Desk.{holding, reserved, newDesk, withHolding}
 use Rattle.desk.specs.Reachable.{Reachable}
 use Rattle.desk.specs.Calls.{opened, claimRefusal, claimed, handBackRefusal, handedBack, looked}
 use Rattle.desk.specs.Calls.{Call, claim, handBack, look, deskAfter, deskAfterAll, granted, claims, handsBack}
 use Rattle.desk.specs.Calls.{grantedClaims, grantedHandBacks}
-use Rattle.desk.proofs.Sound.{bound-past}
+use Rattle.desk.proofs.Sound.{none-reserved}
 use Rattle.desk.proofs.Grants.{claim-says, hand-back-says}
 use Rattle.desk.proofs.Keeps.{held-same, held-other}
 use Rattle.desk.proofs.Reaches.{zero-at, reached-sound}
@@ -64,7 +62,7 @@ module _ (d : Desk) (r : Reachable d) (c : ℕ) where
           let h = held-own d c b (holding d b - k) (omega (arith, reached-sound r .lists .held)) e in
           omega (arith, ap (holding d) (eqb-true b c e))
 
-only-zero : (t : Bool) → only t 0 ≡ 0
+pub only-zero : (t : Bool) → only t 0 ≡ 0
 only-zero true = refl
 only-zero false = refl
 
@@ -144,16 +142,7 @@ module _ (limit : ℕ) (assured ceilings : List ℕ) (answered : opened limit as
 
   -- and a number that is no controller's holds nothing.
   pub no-controller-holds : (c : ℕ) → length assured ≤ c → holding left c ≡ 0
-  no-controller-holds c l = go (less-or-not c mostControllers)
-    where
-      go : (c < mostControllers) ⊎ (mostControllers ≤ c) → holding left c ≡ 0
-      go (inl k) =
-          let p = reached-sound left-reachable .places c k in
-          let e = bound-past (left .limit) (left .count) c (omega (arith, figures .count)) in
-          let a = p .hold in
-          let b = p .bound in
-          omega arith
-      go (inr k) = List·getD-eq-default (left .held) 0 (rw (reached-sound left-reachable .lists .held) k)
+  no-controller-holds c l = omega (arith, none-reserved left (reached-sound left-reachable) c (omega (arith, figures .count)))
 
   -- The holdings and the reserved rests of the assured shares, together, are never above the limit:
   pub reserves-within : sum (length assured) (reserved left) ≤ limit

@@ -1,13 +1,14 @@
 -- The test of a desk as facts: what holds of a desk that can be, and that the others' part and a controller's own add up.
 use mathlib.Core.Path.{_≡_, refl, _∙_}
+use mathlib.Core.Logic.{_⊎_, inl, inr, ⊎-elim}
 use mathlib.Core.Bool.{Bool, true, false, not, _&&_}
 use Prim.Native.Nat.{ℕ, _+_, _≤_, _<_, max}
 use native.Mathlib.Omega.{arith}
 use lib.Dec.{ltb, leb, eqb}
-use lib.ListN.{length}
+use lib.ListN.{length, List·getD-eq-default}
 use borrow.Author.Tests.{ltb-true, leb-true, eqb-true, lt-ltb, le-ltb, le-leb, eq-eqb, not-false}
 use Rattle.counting.specs.Counting.{only, sum, every}
-use Rattle.counting.proofs.Tests.{and-left, and-right, and-both, or-left, or-right, only-le}
+use Rattle.counting.proofs.Tests.{and-left, and-right, and-both, or-left, or-right, less-or-not, only-le}
 use Rattle.counting.proofs.Sums.{sum-same, sum-add, sum-single}
 use Rattle.counting.proofs.Ranges.{every-at, every-intro}
 use Rattle.desk.specs.declared.Desk.{Desk}
@@ -137,6 +138,28 @@ reserves-split d c l =
     one : (x : ℕ) (b : Bool) → x ≡ only b x + only (not b) x
     one x true = omega arith
     one x false = omega arith
+
+-- a number that is no controller's holds nothing and reserves nothing
+pub none-reserved : (d : Desk) → Sound d → (c : ℕ) → d .count ≤ c → reserved d c ≡ 0
+none-reserved d s c l = go (less-or-not c mostControllers)
+  where
+    go : (c < mostControllers) ⊎ (mostControllers ≤ c) → reserved d c ≡ 0
+    go (inl k) =
+        let p = s .places c k in
+        let e = bound-past (d .limit) (d .count) c l in
+        let share = p .share in
+        let hold = p .hold in
+        let bound = p .bound in
+        omega arith
+    go (inr k) =
+        let a : holding d c ≡ 0 = List·getD-eq-default (d .held) 0 (rw (s .lists .held) k) in
+        let b : assuredShare d c ≡ 0 = List·getD-eq-default (d .assured) 0 (rw (s .lists .assured) k) in
+        omega arith
+
+-- so whoever holds or is assured something is one of the controllers
+pub reserved-counted : (d : Desk) → Sound d → (c : ℕ) → 0 < reserved d c → c < d .count
+reserved-counted d s c p =
+    ⊎-elim (λ l. l) (λ l. absurd (omega (arith, none-reserved d s c l))) (less-or-not c (d .count))
 
 -- What the code knows of a controller's place, all its figures together.
 pub record Here (d : Desk) (c : ℕ) : Type 0 where
