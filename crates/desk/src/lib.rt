@@ -10,20 +10,27 @@ ghost use Rattle.desk.specs.Checks.{inRange, wrongPair, somePairWrong, s
 ghost use Rattle.desk.specs.Checks.{notOfDesk};
 ghost use Rattle.desk.specs.Calls.{openRefusal, opened, claimRefusal, claimed, handBackRefusal, handedBack, looked};
 
-// Document 01: "a feeder limit L in modules (1 to 4096)", "2 to 8 controllers".
+// The largest limit of a feeder, in modules.
 const MOST_MODULES: u32 = 4096;
 
+// The fewest controllers of a desk.
 const FEWEST_CONTROLLERS: usize = 2;
 
+// The most controllers of a desk.
 const MOST_CONTROLLERS: usize = 8;
 
 // The desk as firmware keeps it: a place for each controller, and 0 past the last.
 #[repr(C)]
 pub struct Desk {
+    // How many controllers there are.
     pub count: u32,
+    // The feeder's limit in modules.
     pub limit: u32,
+    // What each controller holds.
     pub held: [u32; MOST_CONTROLLERS],
+    // What each controller is assured of.
     pub assured: [u32; MOST_CONTROLLERS],
+    // What each controller may hold at most.
     pub ceiling: [u32; MOST_CONTROLLERS],
 }
 
@@ -46,20 +53,23 @@ pub struct Looked {
     pub modules: u32,
 }
 
-// ---- small tests
+// ---- numbers
 
+// The larger of two numbers.
 fn larger(a: u32, b: u32) -> u32
     ensures { λ r. ⌜ r ≡ max a b ⌝ }
 {
     if a < b { b } else { a }
 }
 
+// The smaller of two numbers.
 fn smaller(a: u32, b: u32) -> u32
     ensures { λ r. ⌜ r ≡ min a b ⌝ }
 {
     if a < b { a } else { b }
 }
 
+// Whether x is low to high.
 fn in_range(low: usize, high: usize, x: usize) -> bool
     ensures { λ r. ⌜ r ≡ inRange low high x ⌝ }
 {
@@ -75,6 +85,7 @@ fn wrong_pair(limit: u32, assured: u32, ceiling: u32) -> bool
     ceiling < assured || limit < ceiling
 }
 
+// Whether some share and ceiling of the two lists, which are of one length, are such a pair.
 fn some_pair_wrong(limit: u32, assured: &[u32], ceilings: &[u32]) -> bool
     requires { ⌜ length (now assured) ≡ length (now ceilings) ⌝ }
     ensures { λ r. ⌜ r ≡ somePairWrong limit (now (assured .entry)) (now (ceilings .entry)) ⌝ }
@@ -103,6 +114,7 @@ fn shares_in_all(assured: &[u32]) -> u32
     total
 }
 
+// The number of the first of checks 11 to 13 that fails, 0 where none does.
 fn open_refusal(limit: u32, assured: &[u32], ceilings: &[u32]) -> u32
     ensures { λ r. ⌜ r ≡ openRefusal limit (now (assured .entry)) (now (ceilings .entry)) ⌝ }
 {
@@ -138,6 +150,7 @@ fn places(list: &[u32]) -> [u32; MOST_CONTROLLERS]
     all
 }
 
+// The desk of zeros that a refused opening answers.
 fn no_desk() -> Desk
     ensures { λ r. ⌜ r ≡ noDesk ⌝ }
 {
@@ -184,6 +197,7 @@ fn ceiling_bound(limit: u32, count: u32, i: u32) -> u32
     if i < count { limit } else { 0 }
 }
 
+// Whether share and holding are within the ceiling, and the ceiling within its bound.
 fn place_ok(held: u32, assured: u32, ceiling: u32, bound: u32) -> bool
     ensures { λ r. ⌜ r ≡ placeOk held assured ceiling bound ⌝ }
 {
@@ -194,6 +208,7 @@ fn place_ok(held: u32, assured: u32, ceiling: u32, bound: u32) -> bool
 }
 
 impl Desk {
+    // Whether every place is so, those past the last controller too.
     fn places_ok(self) -> bool
         ensures { λ r. ⌜ r ≡ every mostControllers (placeOkAt self) ⌝ }
     {
@@ -217,7 +232,7 @@ impl Desk {
         true
     }
 
-    // All that is held or reserved.
+    // What is held or reserved, of a desk whose places are so: each place is within the limit, so that the sum fits.
     fn reserved_in_all(self) -> u32
         requires { ⌜ (self .count ≤ mostControllers) × (self .limit ≤ mostModules) × (every mostControllers (placeOkAt self) ≡ true) ⌝ }
         ensures { λ r. ⌜ r ≡ sum (self .count) (reserved self) ⌝ }
@@ -257,7 +272,7 @@ impl Desk {
         self.count <= controller || !self.ok()
     }
 
-    // What is held or reserved by the other controllers of a desk that can be.
+    // What the other controllers hold or have reserved, on a desk that can be.
     fn reserved_for_others(self, controller: u32) -> u32
         requires { ⌜ notOfDesk self controller ≡ false ⌝ }
         ensures { λ r. ⌜ r ≡ reservedForOthers self controller ⌝ }
@@ -268,6 +283,7 @@ impl Desk {
 
     // ---- claims, hand-backs and looks
 
+    // The number of the first of checks 14 to 17 that fails, 0 where none does.
     fn claim_refusal(self, controller: u32, modules: u32) -> u32
         ensures { λ r. ⌜ r ≡ claimRefusal self controller modules ⌝ }
     {
@@ -288,6 +304,7 @@ impl Desk {
         0
     }
 
+    // The number of the first of checks 14, 15 and 18 that fails, 0 where none does.
     fn hand_back_refusal(self, controller: u32, modules: u32) -> u32
         ensures { λ r. ⌜ r ≡ handBackRefusal self controller modules ⌝ }
     {
