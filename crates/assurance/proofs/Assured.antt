@@ -1,7 +1,7 @@
 -- The second half of demand 3: a controller that follows a valid plan within its assured share is granted every call of it.
 use mathlib.Core.Path.{_≡_, refl, sym, _∙_, subst}
 use mathlib.Core.Bool.{Bool, true, false}
-use mathlib.Core.List.{List, [], _∷_, map}
+use mathlib.Core.List.{List, [], _∷_, _++_, map}
 use Prim.Native.Nat.{ℕ, _-_, _≤_, _<_}
 use native.Mathlib.Omega.{arith}
 use Rattle.counting.proofs.Tests.{clash}
@@ -12,7 +12,7 @@ use Rattle.schedule.proofs.Earliest.{Lasting}
 use Rattle.desk.specs.declared.Desk.{Desk}
 use Rattle.desk.specs.Desk.{holding, assuredShare}
 use Rattle.desk.specs.Reachable.{Reachable}
-use Rattle.desk.specs.Calls.{Call, claim, handBack, refusalOf, deskAfter}
+use Rattle.desk.specs.Calls.{Call, claim, handBack, refusalOf, deskAfter, deskAfterAll}
 use Rattle.assurance.specs.Following.{Event, begin, end, callOf, bears, ownCalls, FollowsPlan, AllGranted}
 use Rattle.assurance.proofs.Turns.{Left, first-of-left, begins-job, begins-new, after-begin, ends-job, ends-new, after-end}
 use Rattle.assurance.proofs.Course.{needed, Course, begin-fits, begin-needed, begin-course, end-begun, end-needed, end-course}
@@ -83,3 +83,9 @@ plan-granted S P v w some d r c z n calls f =
     (record { sorted = λ i k p q e. clash false e refl; begun = λ i p e. e })
     (record { begins = λ j. f .once (begin j); ends = λ j. f .once (end j); order = f .order })
     (f .own)
+
+-- That is: where such a call stands behind the calls of a list, the desk that these leave grants it.
+pub granted-in-turn : (c : ℕ) (d : Desk) (before : List Call) (x : Call) (behind : List Call)
+    → AllGranted c d (before ++ (x ∷ behind)) → bears c x ≡ true → refusalOf (deskAfterAll d before) x ≡ 0
+granted-in-turn c d [] x behind g q = g .0 q
+granted-in-turn c d (y ∷ l) x behind g q = granted-in-turn c (deskAfter d y) l x behind (g .1) q
