@@ -1,0 +1,7 @@
+-- The theorem of demand 3 over the desk's calls, and an instance of it.
+pub mod Turns
+pub mod Course
+pub mod Shares
+pub mod Assured
+pub mod Once
+pub mod Yard

@@ -1,0 +1,2 @@
+-- What it is to follow a plan on a desk.
+pub mod Following

@@ -1,0 +1,112 @@
+-- `desk::Desk::claim_refusal` meets its contract: the checks in turn.
+use mathlib.Core.Path.{_≡_, refl, sym, _∙_}
+use mathlib.Core.Bool.{false}
+use Prim.Native.Nat.{_+_, _≤_, _<_}
+use native.Mathlib.Omega.{arith}
+use borrow.Author.Needs.{needs}
+use borrow.Author.Tests.{lt-ltb, le-ltb, eq-eqb, ne-eqb}
+use Rattle.desk.specs.Desk.{holding, ceilingOf, reservedForOthers}
+use Rattle.desk.specs.Checks.{notOfDesk}
+use Rattle.desk.specs.Calls.{claimRefusal}
+use Rattle.desk.proofs.Sound.{Here, of-desk-says}
+use Rattle.desk.proofs.Desk.claim_refusal.Statement.{statement}
+use Rattle.desk.proofs.Desk.claim_refusal.Tie as tie
+
+-- check 14 does not fail, so the figures of the controller's place are known
+passed : (c : tie.Else1) → notOfDesk (c .before .before .args .t1) (c .before .before .args .controller) ≡ false
+passed c = sym (c .before .not-of-desk .ensures) ∙ c .if1 .left
+
+at : (c : tie.Else1) → Here (c .before .before .args .t1) (c .before .before .args .controller)
+at c = of-desk-says _ _ (passed c)
+
+-- the claim is within the ceiling
+under : (c : tie.Else3) → let a = c .before .before .before .before .before .before .args in
+    holding (a .t1) (a .controller) + a .modules ≤ ceilingOf (a .t1) (a .controller)
+under c = let h = at (c .before .before .before .before) in let t = c .if3 .left in omega arith
+
+not-of-desk-requires : tie.Need-not-of-desk-requires
+not-of-desk-requires c κs = search needs
+
+returns : tie.Need-returns
+unfolding claimRefusal
+returns c = rw (← c .before .not-of-desk .ensures, c .if1 .taken) refl
+
+returns-2 : tie.Need-returns-2
+unfolding claimRefusal
+returns-2 c = rw (passed (c .before), eq-eqb _ _ (c .if2 .taken)) refl
+
+mul-held : tie.Need-mul-held
+mul-held c = search needs
+
+element-copy-out-held : tie.Need-element-copy-out-held
+element-copy-out-held c = at (c .before) .inside
+
+mul-if3 : tie.Need-mul-if3
+mul-if3 c = search needs
+
+element-copy-out-if3 : tie.Need-element-copy-out-if3
+element-copy-out-if3 c = at (c .before .before) .inside
+
+sub-if3 : tie.Need-sub-if3
+sub-if3 c = at (c .before .before .before) .hold
+
+returns-3 : tie.Need-returns-3
+unfolding claimRefusal
+returns-3 c =
+    let two = c .before .before .before in
+    let a = two .before .before .before .args in
+    let h = at (two .before) in
+    let t = c .if3 .taken in
+    let over : ceilingOf (a .t1) (a .controller) < holding (a .t1) (a .controller) + a .modules = omega arith in
+    rw (passed (two .before), ne-eqb _ _ (two .if2 .left), lt-ltb _ _ over) refl
+
+add-if4 : tie.Need-add-if4
+add-if4 c = let h = at (c .before .before .before .before) in omega (arith, under c)
+
+reserved-for-others-requires : tie.Need-reserved-for-others-requires
+reserved-for-others-requires c κs = passed (c .before .before .before .before)
+
+add-if4-2 : tie.Need-add-if4-2
+add-if4-2 c =
+    let h = at (c .before .before .before .before .before) in
+    let r = c .reserved-for-others .ensures in
+    omega (arith, under (c .before))
+
+returns-4 : tie.Need-returns-4
+unfolding claimRefusal
+returns-4 c =
+    let two = c .before .before .before .before .before in
+    let a = two .before .before .before .args in
+    let r = c .before .reserved-for-others .ensures in
+    let t = c .if4 .taken in
+    let full : a .t1 .limit < holding (a .t1) (a .controller) + a .modules + reservedForOthers (a .t1) (a .controller) = omega arith in
+    rw (passed (two .before), ne-eqb _ _ (two .if2 .left), le-ltb _ _ (under (c .before .before)), lt-ltb _ _ full) refl
+
+returns-5 : tie.Need-returns-5
+unfolding claimRefusal
+returns-5 c =
+    let two = c .before .before .before .before .before in
+    let a = two .before .before .before .args in
+    let r = c .before .reserved-for-others .ensures in
+    let t = c .if4 .left in
+    let fits : holding (a .t1) (a .controller) + a .modules + reservedForOthers (a .t1) (a .controller) ≤ a .t1 .limit = omega arith in
+    rw (passed (two .before), ne-eqb _ _ (two .if2 .left), le-ltb _ _ (under (c .before .before)), le-ltb _ _ fits) refl
+
+pub claim-refusal-spec : {M : Type 1} → statement M
+claim-refusal-spec =
+    tie.close
+    (tie.spec
+    not-of-desk-requires
+    returns
+    returns-2
+    mul-held
+    element-copy-out-held
+    mul-if3
+    element-copy-out-if3
+    sub-if3
+    returns-3
+    add-if4
+    reserved-for-others-requires
+    add-if4-2
+    returns-4
+    returns-5)

@@ -1,0 +1,12 @@
+-- The laws of the desk, for the crates above.
+pub mod Sound
+pub mod Loops
+pub mod Refusals
+pub mod Grants
+pub mod Keeps
+pub mod Reaches
+pub mod Claims
+pub mod Lists
+pub mod Holdings
+pub mod Examples
+pub mod Samples

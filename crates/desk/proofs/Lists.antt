@@ -1,0 +1,112 @@
+-- What a list of calls leaves, whatever calls stand in it and whether they are granted or refused.
+use mathlib.Core.Path.{_≡_, refl, ap, _∙_, subst}
+use mathlib.Core.Logic.{_↔_, _≢_}
+use mathlib.Core.Bool.{Bool, true, false, cond}
+use mathlib.Core.List.{List, [], _∷_, _++_}
+use Prim.Native.Nat.{ℕ, _+_, _-_}
+use lib.Dec.{eqb}
+use borrow.Author.Tests.{eqb-true, ne-eqb}
+use Rattle.desk.specs.declared.Desk.{Desk}
+use Rattle.desk.specs.Desk.{holding, newDesk, noDesk, withHolding}
+use Rattle.desk.specs.Reachable.{Reachable, opening, claiming, handingBack}
+use Rattle.desk.specs.Calls.{openRefusal, opened, claimRefusal, claimed, handBackRefusal, handedBack, lookRefusal, looked}
+use Rattle.desk.specs.Calls.{Call, claim, handBack, look, refusalOf, deskAfter, deskAfterAll}
+use Rattle.desk.proofs.Grants.{booking-fits, return-holds, claim-says, claim-granted, hand-back-says, hand-back-granted}
+use Rattle.desk.proofs.Grants.{booking-says, return-says}
+use Rattle.desk.proofs.Reaches.{reached-sound}
+
+-- ---- one call
+
+-- Every refused call leaves the desk.
+pub refused-leaves : (d : Desk) (x : Call) → refusalOf d x ≢ 0 → deskAfter d x ≡ d
+unfolding claimed handedBack looked
+refused-leaves d (claim c k) n = rw (ne-eqb (claimRefusal d c k) 0 n) refl
+refused-leaves d (handBack c k) n = rw (ne-eqb (handBackRefusal d c k) 0 n) refl
+refused-leaves d (look c) n = refl
+
+-- Its other figures are 0: a refused opening's desk, and what a refused look shows.
+pub refused-opening : (limit : ℕ) (assured ceilings : List ℕ) → opened limit assured ceilings .refusal ≢ 0
+    → opened limit assured ceilings .desk ≡ noDesk
+unfolding opened
+refused-opening limit assured ceilings n = rw (ne-eqb (openRefusal limit assured ceilings) 0 n) refl
+
+pub refused-look : (d : Desk) (c : ℕ) → looked d c .refusal ≢ 0 → looked d c .modules ≡ 0
+unfolding looked
+refused-look d c n = rw (ne-eqb (lookRefusal d c) 0 n) refl
+
+-- Every look leaves the desk.
+pub look-leaves : (d : Desk) (c : ℕ) → deskAfter d (look c) ≡ d
+unfolding looked
+look-leaves d c = refl
+
+-- a granted claim and a granted hand-back are booked
+pub claim-booked : (d : Desk) (c k : ℕ) → claimRefusal d c k ≡ 0 → deskAfter d (claim c k) ≡ withHolding d c (holding d c + k)
+unfolding claimed
+claim-booked d c k e = rw e refl
+
+pub hand-back-booked : (d : Desk) (c k : ℕ) → handBackRefusal d c k ≡ 0 → deskAfter d (handBack c k) ≡ withHolding d c (holding d c - k)
+unfolding handedBack
+hand-back-booked d c k e = rw e refl
+
+-- A call, granted or refused, leaves a desk that can be.
+pub reachable-after : {d : Desk} → Reachable d → (x : Call) → Reachable (deskAfter d x)
+unfolding claimed handedBack looked
+reachable-after {d} r (look c) = r
+reachable-after {d} r (claim c k) = go (eqb (claimRefusal d c k) 0) refl
+  where
+    go : (b : Bool) → eqb (claimRefusal d c k) 0 ≡ b → Reachable (cond b (withHolding d c (holding d c + k)) d)
+    go true q = let p = claim-says d c k (eqb-true _ 0 q) in claiming r c k (p .0 .counted) (booking-fits d c k (p .1))
+    go false q = r
+reachable-after {d} r (handBack c k) = go (eqb (handBackRefusal d c k) 0) refl
+  where
+    go : (b : Bool) → eqb (handBackRefusal d c k) 0 ≡ b → Reachable (cond b (withHolding d c (holding d c - k)) d)
+    go true q = let p = hand-back-says d c k (eqb-true _ 0 q) in handingBack r c k (p .0 .counted) (return-holds d c k (p .1))
+    go false q = r
+
+pub reachable-after-all : {d : Desk} → Reachable d → (l : List Call) → Reachable (deskAfterAll d l)
+reachable-after-all r [] = r
+reachable-after-all r (x ∷ l) = reachable-after-all (reachable-after r x) l
+
+-- ---- from an answered opening
+
+-- the desk as it is opened
+pub opened-new : (limit : ℕ) (assured ceilings : List ℕ) → opened limit assured ceilings .refusal ≡ 0
+    → opened limit assured ceilings .desk ≡ newDesk limit assured ceilings
+unfolding opened
+opened-new limit assured ceilings e = rw e refl
+
+pub opened-reachable : (limit : ℕ) (assured ceilings : List ℕ) → opened limit assured ceilings .refusal ≡ 0
+    → Reachable (opened limit assured ceilings .desk)
+unfolding opened openRefusal
+opened-reachable limit assured ceilings e = rw e (opening limit assured ceilings e)
+
+-- the desk that an answered opening and a list of calls leave, in the terms of the calls' own answers
+abbrev pub LeftByCalls : Desk → Type 0
+LeftByCalls d =
+    (limit : ℕ) × (assured : List ℕ) × (ceilings : List ℕ) × (calls : List Call)
+    × (opened limit assured ceilings .refusal ≡ 0) × (deskAfterAll (opened limit assured ceilings .desk) calls ≡ d)
+
+after-last : (d : Desk) (l : List Call) (x : Call) → deskAfterAll d (l ++ (x ∷ [])) ≡ deskAfter (deskAfterAll d l) x
+after-last d [] x = refl
+after-last d (y ∷ l) x = after-last (deskAfter d y) l x
+
+one-more : {d : Desk} → LeftByCalls d → (x : Call) → LeftByCalls (deskAfter d x)
+one-more (limit, assured, ceilings, calls, e, q) x =
+    (limit, assured, ceilings, calls ++ (x ∷ []), e, after-last _ calls x ∙ ap (λ (d : Desk). deskAfter d x) q)
+
+reachable-left : {d : Desk} → Reachable d → LeftByCalls d
+unfolding openRefusal opened
+reachable-left (opening limit assured ceilings e) = (limit, assured, ceilings, [], e, opened-new limit assured ceilings e)
+reachable-left (claiming {d = d} r c k l e) =
+    subst LeftByCalls (claim-booked d c k (claim-granted d c k (reached-sound r) l (booking-says d c k e)))
+    (one-more (reachable-left r) (claim c k))
+reachable-left (handingBack {d = d} r c k l e) =
+    subst LeftByCalls (hand-back-booked d c k (hand-back-granted d c k (reached-sound r) l (return-says d c k e)))
+    (one-more (reachable-left r) (handBack c k))
+
+-- The reachable desks are those that an answered opening and a list of calls leave.
+pub reachable-by-calls : (d : Desk) → Reachable d ↔ LeftByCalls d
+reachable-by-calls d = (
+  reachable-left,
+  λ (limit, assured, ceilings, calls, e, q). subst Reachable q (reachable-after-all (opened-reachable limit assured ceilings e) calls),
+)

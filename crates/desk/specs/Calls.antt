@@ -1,0 +1,107 @@
+-- What the calls on a desk answer, and what a list of calls leaves: "each takes the desk that the one before it handed back".
+use mathlib.Core.Bool.{Bool, cond}
+use mathlib.Core.List.{List, [], _∷_}
+use Prim.Native.Nat.{ℕ, _+_, _-_, min}
+use lib.Dec.{eqb}
+use Rattle.counting.specs.Counting.{only}
+use Rattle.desk.specs.declared.Desk.{Desk}
+use Rattle.desk.specs.declared.Opened.{Opened}
+use Rattle.desk.specs.declared.Booked.{Booked}
+use Rattle.desk.specs.declared.Looked.{Looked}
+use Rattle.desk.specs.Desk.{holding, ceilingOf, reservedForOthers, newDesk, noDesk, withHolding}
+use Rattle.desk.specs.Checks.{firstFailing, openChecks, claimChecks, handBackChecks, lookChecks}
+
+-- ---- one call
+
+unfoldable pub openRefusal : ℕ → List ℕ → List ℕ → ℕ
+openRefusal limit assured ceilings = firstFailing (openChecks limit assured ceilings)
+
+-- "It is opened with a feeder limit L … a list of assured shares and a list of ceilings."
+unfoldable pub opened : ℕ → List ℕ → List ℕ → Opened
+opened limit assured ceilings = record {
+  refusal = openRefusal limit assured ceilings;
+  desk = cond (eqb (openRefusal limit assured ceilings) 0) (newDesk limit assured ceilings) noDesk;
+}
+
+unfoldable pub claimRefusal : Desk → ℕ → ℕ → ℕ
+claimRefusal d c k = firstFailing (claimChecks d c k)
+
+-- A claim that is granted is booked; a refused one leaves the desk.
+unfoldable pub claimed : Desk → ℕ → ℕ → Booked
+claimed d c k = record {
+  refusal = claimRefusal d c k;
+  desk = cond (eqb (claimRefusal d c k) 0) (withHolding d c (holding d c + k)) d;
+}
+
+unfoldable pub handBackRefusal : Desk → ℕ → ℕ → ℕ
+handBackRefusal d c k = firstFailing (handBackChecks d c k)
+
+-- "A hand-back lowers the holding."
+unfoldable pub handedBack : Desk → ℕ → ℕ → Booked
+handedBack d c k = record {
+  refusal = handBackRefusal d c k;
+  desk = cond (eqb (handBackRefusal d c k) 0) (withHolding d c (holding d c - k)) d;
+}
+
+unfoldable pub lookRefusal : Desk → ℕ → ℕ
+lookRefusal d c = firstFailing (lookChecks d c)
+
+-- what is left below the ceiling, and below L beside the others: the smaller
+abbrev pub room : Desk → ℕ → ℕ
+room d c = min (ceilingOf d c - holding d c) (d .limit - (holding d c + reservedForOthers d c))
+
+-- "A look gives the largest k that a claim by this controller would be granted now, 0 if none": `look-exact` says that this is it.
+unfoldable pub looked : Desk → ℕ → Looked
+looked d c = record {
+  refusal = lookRefusal d c;
+  desk = d;
+  modules = only (eqb (lookRefusal d c) 0) (room d c);
+}
+
+-- ---- lists of calls
+
+-- a claim and a hand-back by the controller of that number, for so many modules; a look
+pub data Call : Type 0 where
+  claim handBack : ℕ → ℕ → Call
+  look : ℕ → Call
+
+-- the number that the call gives, 0 where it is granted
+abbrev pub refusalOf : Desk → Call → ℕ
+refusalOf d (claim c k) = claimed d c k .refusal
+refusalOf d (handBack c k) = handedBack d c k .refusal
+refusalOf d (look c) = looked d c .refusal
+
+-- "hands back the desk as it then is"
+abbrev pub deskAfter : Desk → Call → Desk
+deskAfter d (claim c k) = claimed d c k .desk
+deskAfter d (handBack c k) = handedBack d c k .desk
+deskAfter d (look c) = looked d c .desk
+
+-- the desk that a list of calls leaves
+abbrev pub deskAfterAll : Desk → List Call → Desk
+deskAfterAll d [] = d
+deskAfterAll d (x ∷ l) = deskAfterAll (deskAfter d x) l
+
+-- the call is granted, "which is to say not refused"
+abbrev pub granted : Desk → Call → Bool
+granted d x = eqb (refusalOf d x) 0
+
+-- what the call claims, or hands back, in controller c's name
+abbrev pub claims : ℕ → Call → ℕ
+claims c (claim b k) = only (eqb b c) k
+claims c (handBack b k) = 0
+claims c (look b) = 0
+
+abbrev pub handsBack : ℕ → Call → ℕ
+handsBack c (claim b k) = 0
+handsBack c (handBack b k) = only (eqb b c) k
+handsBack c (look b) = 0
+
+-- "granted claims" and "granted hand-backs" of controller c in a list of calls on the desk, added up
+abbrev pub grantedClaims : ℕ → Desk → List Call → ℕ
+grantedClaims c d [] = 0
+grantedClaims c d (x ∷ l) = only (granted d x) (claims c x) + grantedClaims c (deskAfter d x) l
+
+abbrev pub grantedHandBacks : ℕ → Desk → List Call → ℕ
+grantedHandBacks c d [] = 0
+grantedHandBacks c d (x ∷ l) = only (granted d x) (handsBack c x) + grantedHandBacks c (deskAfter d x) l

@@ -1,0 +1,6 @@
+-- The definitions of document 01's 'The desk' and checks 11 to 18, in the order in which they are read.
+pub mod Desk
+pub mod Checks
+pub mod Reachable
+pub mod Calls
+pub mod Rows

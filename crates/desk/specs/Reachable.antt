@@ -1,0 +1,17 @@
+-- The desks that an answered opening and later calls can leave.
+use mathlib.Core.Path.{_≡_}
+use mathlib.Core.List.{List}
+use Prim.Native.Nat.{ℕ, _+_, _-_, _<_}
+use Rattle.desk.specs.declared.Desk.{Desk}
+use Rattle.desk.specs.Desk.{holding, newDesk, withHolding}
+use Rattle.desk.specs.Checks.{firstFailing, openChecks, bookingChecks, returnChecks}
+
+-- An answered opening, then later calls by controllers of the desk: a claim or a hand-back of which no check fails.
+-- Refused calls and looks leave the desk, so they add none.
+pub data Reachable : Desk → Type 0 where
+  opening : (limit : ℕ) (assured ceilings : List ℕ) → firstFailing (openChecks limit assured ceilings) ≡ 0
+      → Reachable (newDesk limit assured ceilings)
+  claiming : {d : Desk} → Reachable d → (c k : ℕ) → c < d .count → firstFailing (bookingChecks d c k) ≡ 0
+      → Reachable (withHolding d c (holding d c + k))
+  handingBack : {d : Desk} → Reachable d → (c k : ℕ) → c < d .count → firstFailing (returnChecks d c k) ≡ 0
+      → Reachable (withHolding d c (holding d c - k))

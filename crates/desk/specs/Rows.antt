@@ -1,0 +1,88 @@
+-- Worked examples as rows: what is opened or called and the answer that is expected; what a row says, and the same as a test.
+use mathlib.Core.Path.{_≡_}
+use mathlib.Core.Bool.{Bool, true, false, _&&_}
+use mathlib.Core.List.{List, [], _∷_}
+use Prim.Native.Nat.{ℕ}
+use lib.Dec.{eqb}
+use Rattle.desk.specs.declared.Desk.{Desk}
+use Rattle.desk.specs.Calls.{Call, claim, handBack, look, opened, looked, refusalOf, deskAfter}
+
+-- the figure that a call shows: a look's modules, and 0 for a claim or a hand-back
+abbrev pub figureOf : Desk → Call → ℕ
+figureOf d (claim c k) = 0
+figureOf d (handBack c k) = 0
+figureOf d (look c) = looked d c .modules
+
+-- a desk written out
+abbrev pub desk : ℕ → ℕ → List ℕ → List ℕ → List ℕ → Desk
+desk n limit held assured ceiling = record { count = n; limit = limit; held = held; assured = assured; ceiling = ceiling }
+
+-- a call, the number and the figure that it gives, and the holdings on the desk that it hands back
+pub record Step : Type 0 where
+  pub call : Call
+  pub refusal : ℕ
+  pub figure : ℕ
+  pub held : List ℕ
+
+abbrev pub step : Call → ℕ → ℕ → List ℕ → Step
+step x r f h = record { call = x; refusal = r; figure = f; held = h }
+
+-- `opens`: opening with this limit, these shares and ceilings gives this number and this desk.
+-- `runs`: the calls on the desk, one after another, answer so, and alter nothing but the holdings.
+pub data Row : Type 0 where
+  opens : ℕ → List ℕ → List ℕ → ℕ → Desk → Row
+  runs : Desk → List Step → Row
+
+-- the desk d with these holdings
+abbrev pub holdingOn : Desk → List ℕ → Desk
+holdingOn d h = desk (d .count) (d .limit) h (d .assured) (d .ceiling)
+
+abbrev pub StepsSay : Desk → List Step → Type 0
+StepsSay d [] = Unit {0}
+StepsSay d (s ∷ l) =
+    (refusalOf d (s .call) ≡ s .refusal)
+    × (figureOf d (s .call) ≡ s .figure)
+    × (deskAfter d (s .call) ≡ holdingOn d (s .held))
+    × StepsSay (holdingOn d (s .held)) l
+
+-- what a row says of the definitions
+abbrev pub Says : Row → Type 0
+Says (opens limit assured ceilings r d) = opened limit assured ceilings ≡ record { refusal = r; desk = d }
+Says (runs d l) = StepsSay d l
+
+abbrev pub AllSay : List Row → Type 0
+AllSay [] = Unit {0}
+AllSay (r ∷ l) = Says r × AllSay l
+
+-- ---- the same as a test
+
+abbrev pub sameList : List ℕ → List ℕ → Bool
+sameList [] [] = true
+sameList [] (b ∷ m) = false
+sameList (a ∷ l) [] = false
+sameList (a ∷ l) (b ∷ m) = eqb a b && sameList l m
+
+abbrev pub sameDesk : Desk → Desk → Bool
+sameDesk d e =
+    eqb (d .count) (e .count)
+    && eqb (d .limit) (e .limit)
+    && sameList (d .held) (e .held)
+    && sameList (d .assured) (e .assured)
+    && sameList (d .ceiling) (e .ceiling)
+
+abbrev pub stepsHold : Desk → List Step → Bool
+stepsHold d [] = true
+stepsHold d (s ∷ l) =
+    eqb (refusalOf d (s .call)) (s .refusal)
+    && eqb (figureOf d (s .call)) (s .figure)
+    && sameDesk (deskAfter d (s .call)) (holdingOn d (s .held))
+    && stepsHold (holdingOn d (s .held)) l
+
+abbrev pub holds : Row → Bool
+holds (opens limit assured ceilings r d) =
+    eqb (opened limit assured ceilings .refusal) r && sameDesk (opened limit assured ceilings .desk) d
+holds (runs d l) = stepsHold d l
+
+abbrev pub allHold : List Row → Bool
+allHold [] = true
+allHold (r ∷ l) = holds r && allHold l

@@ -1,0 +1,2 @@
+-- What the thin calls leave in lent memory.
+pub mod Lent

@@ -1,0 +1,218 @@
+"""An independent model of document 01's desk, and the rows that the checker holds the definitions to.
+
+The model keeps a ledger of modules, one entry for each module that somebody holds, and finds the desks that can be by
+making every call from the opening on. It shares nothing with the definitions in crates/desk/specs. With a fixed seed it
+writes crates/desk/proofs/Samples.antt, whose rows the checker computes by those definitions.
+
+    python3 tests/desk_model.py            write the rows
+    python3 tests/desk_model.py --check    fail where the rows in the repository are not the model's
+"""
+import functools
+import pathlib
+import random
+import sys
+from collections import Counter, namedtuple
+
+SAMPLES = pathlib.Path(__file__).parent.parent / "crates/desk/proofs/Samples.antt"
+PLACES = 8
+
+# five figures as firmware sees them; the lists have eight places
+Desk = namedtuple("Desk", "count limit held assured ceiling")
+
+
+def fixed(figures):
+    return tuple(figures) + (0,) * (PLACES - len(figures))
+
+
+NO_DESK = Desk(0, 0, fixed(()), fixed(()), fixed(()))
+
+
+def open_desk(limit, assured, ceilings):
+    """The number, and the desk."""
+    if len(assured) != len(ceilings) or len(assured) not in range(2, 9):
+        return 11, NO_DESK
+    if limit not in range(1, 4097) or any(not share <= top <= limit for share, top in zip(assured, ceilings)):
+        return 12, NO_DESK
+    if sum(assured) > limit:
+        return 13, NO_DESK
+    return 0, Desk(len(assured), limit, fixed(()), fixed(assured), fixed(ceilings))
+
+
+def book(desk, controller, modules):
+    """The holdings after a claim (modules above 0) or a hand-back (below 0) that the sums allow, else the number."""
+    ledger = Counter({c: desk.held[c] for c in range(desk.count)})
+    if modules < 0:
+        if ledger[controller] + modules < 0:
+            return 18
+    else:
+        if ledger[controller] + modules > desk.ceiling[controller]:
+            return 16
+        kept = [max(ledger[c], desk.assured[c]) for c in range(desk.count) if c != controller]
+        if sum(kept) + ledger[controller] + modules > desk.limit:
+            return 17
+    ledger[controller] += modules
+    return fixed([ledger[c] for c in range(desk.count)])
+
+
+@functools.lru_cache(maxsize=None)
+def holdings_that_can_be(count, limit, assured, ceiling):
+    """Every list of holdings that calls leave on the desk opened with these figures; none where they do not open."""
+    number, first = open_desk(limit, assured[:count], ceiling[:count])
+    if number or (first.assured, first.ceiling) != (assured, ceiling):
+        return frozenset()
+    found, todo = {first.held}, [first]
+    while todo:
+        desk = todo.pop()
+        for controller in range(count):
+            for modules in range(-limit, limit + 1):
+                held = book(desk, controller, modules) if modules else desk.held
+                if not isinstance(held, int) and held not in found:
+                    found.add(held)
+                    todo.append(desk._replace(held=held))
+    return frozenset(found)
+
+
+def can_be(desk):
+    if desk.count > PLACES:
+        return False
+    return desk.held in holdings_that_can_be(desk.count, desk.limit, desk.assured, desk.ceiling)
+
+
+def call(desk, kind, controller, modules, known):
+    """The number, the figure that a look shows, and the holdings afterwards. `known`: the desk can be."""
+    if controller >= desk.count or not (known or can_be(desk)):
+        return 14, 0, desk.held
+    if kind == "look":
+        fit = [k for k in range(1, desk.limit + 1) if not isinstance(book(desk, controller, k), int)]
+        return 0, max(fit, default=0), desk.held
+    if modules == 0:
+        return 15, 0, desk.held
+    after = book(desk, controller, modules if kind == "claim" else -modules)
+    return (after, 0, desk.held) if isinstance(after, int) else (0, 0, after)
+
+
+# ---- random openings, lists of calls, and desks
+
+
+def random_opening(rng):
+    limit = rng.choice([0, 1, 4096, 4097] + [rng.randint(1, 40)] * 8)
+    count = rng.choice([0, 1, 8, 9] + [rng.randint(2, 8)] * 10)
+    ceilings = [rng.choice([limit, limit, rng.randint(0, limit)]) for _ in range(count)]
+    assured = [rng.randint(0, min(top, limit * 2 // count)) for top in ceilings]
+    if rng.random() < 0.1 and count:
+        rng.choice([assured, ceilings])[rng.randint(0, count - 1)] = limit + 1
+    if rng.random() < 0.1:
+        assured = assured[1:]
+    return limit, assured, ceilings
+
+
+def random_calls(rng, desk, length):
+    """Calls by controllers of the desk and by others; some too large, some for nothing."""
+    steps = []
+    for _ in range(length):
+        controller = rng.randint(0, desk.count - 1) if rng.random() < 0.93 else rng.choice([desk.count, 8, 4000000000])
+        kind = rng.choice(["claim", "claim", "claim", "handBack", "look"])
+        own = desk.held[controller] if controller < desk.count else 5
+        most = max(own, 1) if kind == "handBack" else max(desk.limit // desk.count, 2)
+        modules = rng.choice([0, 1, own, own + 1, desk.limit] + [rng.randint(1, most)] * 5)
+        number, figure, held = call(desk, kind, controller, modules, True)
+        steps.append((kind, controller, modules, number, figure, held))
+        desk = desk._replace(held=held)
+    return steps
+
+
+def random_desk(rng):
+    """A small desk: one that calls leave, or one figure off, or many."""
+    limit, count = rng.randint(1, 6), rng.randint(2, 3)
+    ceiling = [rng.randint(0, limit) for _ in range(count)]
+    assured = [rng.randint(0, max(0, min(top, limit // 2))) for top in ceiling]
+    held = [rng.randint(0, max(0, min(top, limit // 2 + 1))) for top in ceiling]
+    desk = Desk(count, limit, fixed(held), fixed(assured), fixed(ceiling))
+    if rng.random() < 0.35:
+        field = rng.choice(["held", "assured", "ceiling"])
+        place, value = rng.randint(0, 7), rng.randint(0, limit + 1)
+        figures = list(getattr(desk, field))
+        figures[place] = value
+        desk = desk._replace(**{field: tuple(figures)})
+    if rng.random() < 0.1:
+        desk = desk._replace(count=rng.choice([0, 1, 2, 3, 8, 9]))
+    if rng.random() < 0.05:
+        desk = desk._replace(limit=0)
+    return desk
+
+
+# ---- rows as antt text
+
+
+def numbers(values):
+    return "(" + " ∷ ".join([str(v) for v in values] + ["[]"]) + ")"
+
+
+def desk_text(desk):
+    return f"(desk {desk.count} {desk.limit} {numbers(desk.held)} {numbers(desk.assured)} {numbers(desk.ceiling)})"
+
+
+def step_text(step):
+    kind, controller, modules, number, figure, held = step
+    what = f"look {controller}" if kind == "look" else f"{kind} {controller} {modules}"
+    return f"step ({what}) {number} {figure} {numbers(held)}"
+
+
+def run_text(desk, steps):
+    return f"runs {desk_text(desk)}\n    (" + "\n    ∷ ".join([step_text(s) for s in steps] + ["[]"]) + ")"
+
+
+HEADER = """\
+-- Random openings, desks and lists of calls, and what tests/desk_model.py, which reads the document on its own, says of them.
+-- Written by that model: its rows are compared with these by the gate.
+use mathlib.Core.Path.{_≡_, refl}
+use mathlib.Core.Bool.{true}
+use mathlib.Core.List.{List, [], _∷_}
+use Rattle.counting.specs.Counting.{sum, every, any}
+use Rattle.desk.specs.Checks.{wrongLengths, wrongFigures, sharesExceed, deskOk, notOfDesk}
+use Rattle.desk.specs.Calls.{claim, handBack, look}
+use Rattle.desk.specs.Calls.{openRefusal, opened, claimRefusal, claimed, handBackRefusal, handedBack, lookRefusal, looked}
+use Rattle.desk.specs.Rows.{desk, step, Row, opens, runs, allHold}
+"""
+
+OPENED = """\
+unfolding sum every any wrongLengths wrongFigures sharesExceed deskOk notOfDesk openRefusal opened
+    claimRefusal claimed handBackRefusal handedBack lookRefusal looked
+"""
+
+
+def samples():
+    rng = random.Random(4096)
+    openings, runs, desks = [], [], []
+    for _ in range(40):
+        limit, assured, ceilings = random_opening(rng)
+        number, desk = open_desk(limit, assured, ceilings)
+        openings.append(f"opens {limit} {numbers(assured)} {numbers(ceilings)} {number} {desk_text(desk)}")
+    while len(runs) < 20:
+        number, desk = open_desk(*random_opening(rng))
+        if number == 0:
+            runs.append(run_text(desk, random_calls(rng, desk, 12)))
+    while len(desks) < 60:
+        desk = random_desk(rng)
+        kind, controller = rng.choice(["claim", "handBack", "look"]), rng.randint(0, 2)
+        modules = rng.randint(0, 3)
+        desks.append(run_text(desk, [(kind, controller, modules) + call(desk, kind, controller, modules, False)]))
+    text = HEADER
+    for name, rows in [("openings", openings), ("lists", runs), ("desks", desks)]:
+        text += f"\npub {name} : List Row\n{name} =\n    " + "\n    ∷ ".join(rows + ["[]"]) + "\n"
+        text += f"\npub {name}-right : allHold {name} ≡ true\n{OPENED.replace('unfolding sum', f'unfolding {name} sum')}{name}-right = refl\n"
+    return text
+
+
+def main():
+    text = samples()
+    if "--check" in sys.argv:
+        if SAMPLES.read_text() != text:
+            sys.exit(f"{SAMPLES} is not what the model writes")
+        print("1 passed, 0 failed")
+    else:
+        SAMPLES.write_text(text)
+
+
+if __name__ == "__main__":
+    main()
