@@ -1,7 +1,8 @@
 -- The difference of two minutes, as a signed number.
 use mathlib.Core.Path.{_≡_, refl, sym, ap₂, subst, _∙_}
 use mathlib.Core.Bool.{Bool, true, false}
-use Prim.Native.Nat.{ℕ, zero, suc, _-_, _^_, _≤_, _<_}
+use mathlib.Core.List.{List}
+use Prim.Native.Nat.{ℕ, zero, suc, _-_, _≤_, _<_}
 use native.Mathlib.Omega.{arith}
 use native.Mathlib.Nat.{le-trans}
 use lib.Dec.{ltb, lit≤, le→leb}
@@ -10,7 +11,10 @@ use lib.Signed.{mag, _≤ℤ_}
 use mir.Syntax.{w32}
 use mir.Val.{SFits, ofZ, toZ}
 use mir.ValLaws.{toZ-pos, toZ-ofZ}
-use borrow.Author.Tests.{ltb-true, ltb-false}
+use borrow.Author.Tests.{ltb-true}
+use Rattle.schedule.specs.Plan.{Sheet, finish}
+use Rattle.schedule.specs.ListPlan.{listPlan}
+use Rattle.tables.specs.Tables.{sheetOf, Fit}
 
 -- ---- in 32 bits
 
@@ -46,3 +50,12 @@ lateness-from end (suc d) l m = go (ltb end (suc d)) refl
     go : (t : Bool) → ltb end (suc d) ≡ t → negsuc 2878 ≤ℤ subℕ end (suc d)
     go true e = rw e (record { le = le→leb (suc d - suc end) 2878 (omega (arith, ltb-true end (suc d) e)) })
     go false e = rw e (record { le = tt })
+
+-- So it is for every job of a list plan.
+module _ (need minutes earlier : List ℕ) (jobs modules : ℕ) (fit : Fit need minutes jobs modules) where
+  abbrev S : Sheet
+  S = sheetOf need minutes earlier jobs modules
+
+  pub plan-lateness : (o : List ℕ) (j departure : ℕ) → j < jobs → departure ≤ 2880
+      → negsuc 2878 ≤ℤ (pos (finish S (listPlan S o) j) -ℤ pos departure)
+  plan-lateness o j departure l m = lateness-from _ departure (omega (arith, fit .lasting j l)) m

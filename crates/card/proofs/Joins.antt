@@ -1,16 +1,13 @@
 -- Lists of one length joined one behind another: their bytes, and numbers as bytes.
 use mathlib.Core.Path.{_≡_, refl, sym, ap, ap₂, _∙_}
-use mathlib.Core.Logic.{_⊎_, inl, inr}
-use mathlib.Core.List.{List, [], _∷_, _++_, append-assoc}
+use mathlib.Core.List.{List, [], _∷_, _++_}
 use Prim.Native.Nat.{ℕ, zero, suc, _+_, _-_, _*_, _/_, _%_, _^_, _≤_, _<_}
 use native.Mathlib.Omega.{arith}
-use native.Mathlib.Nat.{not-suc-le-zero}
 use native.Mathlib.Numerals.{add-one}
-use lib.ListN.{length, getD, length-append, List·getD-append}
-use lib.Seq.{getD-append-add}
+use lib.ListN.{length, length-append}
 use borrow.Rule.Slice.PartMut.{putMid}
-use Rattle.counting.proofs.Tests.{last-or-below, below-suc}
-use Rattle.card.specs.Card.{joined, bytesOf, rowBytes}
+use Rattle.counting.proofs.Tests.{below-suc}
+use Rattle.card.specs.Card.{joined, bytesOf, rowBytes, trailerBytes}
 use Rattle.card.proofs.Parts.{three-parts, whole}
 
 pub joined-length : (n w : ℕ) (f : ℕ → List ℕ) → ((i : ℕ) → i < n → length (f i) ≡ w) → length (joined n f) ≡ w * n
@@ -37,6 +34,12 @@ unfolding rowBytes
 row-length start end modules =
     length-append (bytesOf 2 start) _ ∙ ap₂ _+_ (bytes-length 2 start)
     (length-append (bytesOf 2 end) _ ∙ ap₂ _+_ (bytes-length 2 end) (bytes-length 8 modules))
+
+pub trailer-length : (n end : ℕ) → length (trailerBytes n end) ≡ 8
+unfolding trailerBytes
+trailer-length n end =
+    length-append (bytesOf 4 (12 * n)) _ ∙ ap₂ _+_ (bytes-length 4 (12 * n))
+    (length-append (bytesOf 2 end) _ ∙ ap₂ _+_ (bytes-length 2 end) (bytes-length 2 n))
 
 -- bytes of a length that is known by another number
 bytes-sized : (ys : List ℕ) (k n x : ℕ) → ys ≡ bytesOf k x → length ys ≡ n → ys ≡ bytesOf n x

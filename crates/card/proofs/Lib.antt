@@ -3,4 +3,7 @@ pub mod Parts
 pub mod Joins
 pub mod Modules
 pub mod Replays
+pub mod Numbers
+pub mod Readings
 pub mod Differences
+pub mod Samples

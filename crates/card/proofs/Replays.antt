@@ -1,6 +1,5 @@
 -- An order placed job by job: the slots are those of its list plan.
 use mathlib.Core.Path.{_≡_, refl, sym, ap, ap₂, _∙_, subst}
-use mathlib.Core.Logic.{_⊎_, inl, inr}
 use mathlib.Core.Bool.{Bool, true, false, cond, not, _&&_, _||_, and-false}
 use mathlib.Core.List.{List, [], _∷_, _++_}
 use Prim.Native.Nat.{ℕ, zero, suc, _+_, _≤_, _<_}
@@ -11,11 +10,10 @@ use lib.Dec.{ltb, eqb}
 use lib.ListN.{length, getD, take, drop, set, replicate, length-set, length-take, length-replicate}
 use lib.Seq.{getD-set-same, getD-set-other, getD-take, take-take, split-at, take-suc}
 use borrow.Author.Tests.{eqb-true, eqb-false}
-use Rattle.counting.specs.Counting.{only, any}
-use Rattle.counting.proofs.Tests.{clash}
+use Rattle.counting.specs.Counting.{only}
 use Rattle.bits.specs.Bits.{bit, setOf}
 use Rattle.bits.proofs.Digits.{bit-none}
-use Rattle.bits.proofs.Sets.{bit-setOf, setOf-same}
+use Rattle.bits.proofs.Sets.{bit-setOf}
 use Rattle.schedule.specs.Plan.{Sheet, finish}
 use Rattle.schedule.specs.ListPlan.{Order, PartPlan, Follows, ready, occupies, free, lowest, startOf, place, emptyPart, placeAll, partOf}
 use Rattle.schedule.specs.TieRule.{endOf}
@@ -114,10 +112,12 @@ module _ (need minutes earlier : List ℕ) (jobs modules : ℕ) where
         start = placed-more (s .start) j t (P .placed) (P .plan .start) (Q .plan .start) (omega (arith, is .start-length)) (is .start)
             (λ i e. rw e) (λ i e. rw e);
         end = placed-more (s .end) j (t + getD minutes j 0) (P .placed) (finish S (P .plan)) (finish S (Q .plan))
-            (omega (arith, is .end-length)) (is .end) (λ i e. rw e (ap (λ (k : ℕ). t + getD minutes k 0) (sym (eqb-true i j e)))) (λ i e. rw e);
+            (omega (arith, is .end-length)) (is .end)
+            (λ i e. rw e (ap (λ (k : ℕ). t + getD minutes k 0) (sym (eqb-true i j e)))) (λ i e. rw e);
         modules = placed-more (s .modules) j taken (P .placed) (λ i. setOf modules (P .plan .uses i)) (λ i. setOf modules (Q .plan .uses i))
             (omega (arith, is .modules-length)) (is .modules)
-            (λ i e. lowest-same modules (outside (busyAt s jobs t)) (free S P t) (getD need j 0) (free-is t) ∙ ap (uses-where i) (sym e))
+            (λ i e. lowest-same modules (outside (busyAt s jobs t)) (free S P t) (getD need j 0) (free-is t)
+            ∙ ap (uses-where i) (sym e))
             (λ i e. ap (uses-where i) (sym e));
         start-length = length-set (s .start) j t ∙ is .start-length;
         end-length = length-set (s .end) j (t + getD minutes j 0) ∙ is .end-length;

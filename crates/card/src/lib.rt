@@ -1,13 +1,13 @@
 // The plan card: the plan of an order, job by job, and its bytes in the lent card.
 ghost use mathlib.Core.Path.{_≡_};
 ghost use mathlib.Core.Bool.{cond, not, _&&_};
-ghost use mathlib.Core.List.{List, _++_};
-ghost use Prim.Native.Nat.{ℕ, _+_, _*_, _<_, _≤_};
+ghost use mathlib.Core.List.{_++_};
+ghost use Prim.Native.Nat.{_+_, _*_, _<_, _≤_};
 ghost use lib.Dec.{ltb};
 ghost use lib.Bits.{bitOr};
 ghost use lib.Count.{ones};
 ghost use lib.IntN.{pos, _-ℤ_};
-ghost use lib.ListN.{length, getD, take, drop};
+ghost use lib.ListN.{length, take, drop};
 ghost use Rattle.counting.specs.Counting.{only};
 ghost use Rattle.bits.specs.Bits.{bit, withBit};
 ghost use Rattle.schedule.specs.ListPlan.{Order};
@@ -91,7 +91,8 @@ fn lowest_free(busy: u64, modules: u16, want: u16) -> u64
 
 // The start of a job that waits for the jobs of the set and wants so many modules, behind the part-plan.
 fn next_start(part: placement::Part, jobs: usize, modules: u16, earlier: u32, want: u16) -> u16
-    requires { ⌜ (Profile (part .until) (part .held) (part .placed) (part .gone) (part .free) modules (part .last)) × ((want ≤ modules) × (jobs ≤ 20)) ⌝ }
+    requires { ⌜ (Profile (part .until) (part .held) (part .placed) (part .gone) (part .free) modules (part .last))
+        × ((want ≤ modules) × (jobs ≤ 20)) ⌝ }
     ensures { λ r. ⌜ StartFor (part .ends) (part .until) (part .held) (part .placed) modules (part .last) jobs earlier want r ⌝ }
 {
     placement::start_of(
@@ -126,7 +127,8 @@ pub fn replay(
 ) -> Slots
     requires { ⌜ (Fit (now need) (now minutes) jobs modules)
         × (Order (sheetOf (now need) (now minutes) (now earlier) jobs modules) (take jobs (now order))) ⌝ }
-    ensures { λ r. ⌜ Replayed (sheetOf (now (need .entry)) (now (minutes .entry)) (now (earlier .entry)) jobs modules) (take jobs (now (order .entry))) r ⌝ }
+    ensures { λ r. ⌜ Replayed (sheetOf (now (need .entry)) (now (minutes .entry)) (now (earlier .entry)) jobs modules)
+        (take jobs (now (order .entry))) r ⌝ }
 {
     let mut slots = Slots {
         start: [0u16; 20],
@@ -215,7 +217,8 @@ fn write_trailer(part: &mut [u8], jobs: usize, end: u16)
 // Writes the card at the front of the lent bytes: rows, order and trailer each in its own part.
 pub fn write_card(slots: Slots, order: &[u8; 20], jobs: usize, end: u16, card: &mut [u8])
     requires { ⌜ (jobs ≤ 20) × ((jobs ≤ length (now order)) × (13 * jobs + 8 ≤ length (now card))) ⌝ }
-    ensures { λ _. ⌜ now (card .exit) ≡ cardBytes jobs (slotRow slots) (take jobs (now (order .entry))) end ++ drop (13 * jobs + 8) (now (card .entry)) ⌝ }
+    ensures { λ _. ⌜ now (card .exit)
+        ≡ cardBytes jobs (slotRow slots) (take jobs (now (order .entry))) end ++ drop (13 * jobs + 8) (now (card .entry)) ⌝ }
 {
     let rows = 12 * jobs;
     let orders = 13 * jobs;

@@ -45,9 +45,8 @@ loop-less c = search needs
 
 loop-again : tie.Need-loop-again Inv-loop μ-loop
 loop-again c =
-    let args = c .before .before .before .before .before .args in
     let loop = c .before .before .before .before .loop in
-    let a = args in
+    let a = c .before .before .before .before .before .args in
     let i = loop .i in
     let f : ℕ → ℕ = λ i. only (ltb (a .t) (getD (a .t1 .end) i 0)) (getD (a .t1 .modules) i 0) in
     (search needs, c .joined-busy .ensures ∙ ap (λ (x : ℕ). bitOr x (f i)) (loop .inv .1) ∙ union-more i f)

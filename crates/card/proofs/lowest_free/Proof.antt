@@ -35,10 +35,9 @@ loop-less c = search needs
 
 loop-again : tie.Need-loop-again Inv-loop μ-loop
 loop-again c =
-    let args = c .before .before .before .args in
     let loop = c .before .before .loop in
     let loop-test = c .before .loop-test in
-    let a = args in
+    let a = c .before .before .before .args in
     let m = loop .m in (
       search needs,
       c .take-module .ensures

@@ -10,7 +10,8 @@ use Rattle.placement.specs.declared.Part.{Part}
 use Rattle.placement.specs.Part.{IsPart}
 use Rattle.placement.proofs.Parts.{first-is}
 use Rattle.card.specs.Slots.{noSlots, SlotsOf}
-use Rattle.card.proofs.Replays.{no-slots, Turn, next-job, next-low, next-short, next-placeable, next-part, next-slots, all-replayed}
+use Rattle.card.proofs.Replays.{no-slots, Turn, next-job, next-low, next-short, next-placeable, next-part, next-slots}
+use Rattle.card.proofs.Replays.{all-replayed}
 use borrow.Author.Needs.{needs}
 use Rattle.card.proofs.replay.Statement.{statement}
 use Rattle.card.proofs.replay.Tie as tie
@@ -42,8 +43,7 @@ first-part-requires c κs = c .pre .0
 loop-holds : tie.Need-loop-holds Inv-loop μ-loop
 unfolding noSlots
 loop-holds c =
-    let args = c .before .args in
-    let a = args in
+    let a = c .before .args in
     let S = sheetOf (a .need .now) (a .minutes .now) (a .earlier .now) (a .jobs) (a .modules) in (
       search needs,
       subst (λ (p : Part). IsPart S [] p) (sym (c .first-part .ensures))
@@ -125,18 +125,19 @@ loop-again c =
     let next-start = c .before .before .before .before .next-start in
     let busy-at = c .before .before .before .busy-at in
     let lowest-free = c .before .before .lowest-free in
-    let with-slot = c .before .with-slot in (
+    let with-slot = c .before .with-slot in
+    let now = turn (c .before .before .before .before .before .before .before .before) in (
       omega (arith, loop-test .taken),
-      next-part (turn (c .before .before .before .before .before .before .before .before)) (loop .inv .1) (next-start .ensures) (c .place .ensures),
-      next-slots (turn (c .before .before .before .before .before .before .before .before)) (loop .inv .1) (next-start .ensures) (loop .inv .2) (busy-at .ensures) (lowest-free .ensures) (with-slot .ensures),
+      next-part now (loop .inv .1) (next-start .ensures) (c .place .ensures),
+      next-slots now (loop .inv .1) (next-start .ensures) (loop .inv .2)
+          (busy-at .ensures) (lowest-free .ensures) (with-slot .ensures),
     )
 
 returns : tie.Need-returns Inv-loop μ-loop
 returns c =
-    let args = c .before .before .before .args in
     let loop = c .before .loop in
     let pre = c .before .before .before .pre in
-    let a = args in
+    let a = c .before .before .before .args in
     let S = sheetOf (a .need .now) (a .minutes .now) (a .earlier .now) (a .jobs) (a .modules) in
     let e : loop .k ≡ a .jobs = omega (arith, loop .inv .0, c .loop-test .left) in
     all-replayed S (take (a .jobs) (a .order .now)) (loop .slots) (pre .1)

@@ -1,5 +1,5 @@
 -- `card::write_card` meets its contract.
-use mathlib.Core.Path.{_≡_, ap, ap₂, _∙_}
+use mathlib.Core.Path.{ap, ap₂, _∙_}
 use mathlib.Core.List.{List, _++_}
 use Prim.Native.Nat.{ℕ, _+_, _*_}
 use native.Mathlib.Omega.{arith}
@@ -61,16 +61,12 @@ same-length c = search needs
 returns : tie.Need-returns
 unfolding cardBytes
 returns c =
-    let args = c .before .before .before .before .before .before .before .before .before .before .before .before .before .args in
-    let write-rows = c .before .before .before .before .before .before .before .before .before .before .write-rows in
-    let write-order = c .before .before .before .before .before .before .write-order in
-    let write-trailer = c .before .before .write-trailer in
-    let a = args in
+    let a = c .before .before .before .before .before .before .before .before .before .before .before .before .before .args in
     let s = a .card .now in
     let n = a .jobs in
-    let x = write-rows in
-    let y = write-order in
-    let z = write-trailer in
+    let x = c .before .before .before .before .before .before .before .before .before .before .write-rows in
+    let y = c .before .before .before .before .before .before .write-order in
+    let z = c .before .before .write-trailer in
     three-parts s (x .last .0) (y .last .0) (z .last .0) (12 * n) (13 * n) (13 * n + 8)
     (omega (arith, x .kept .0)) (omega (arith, y .kept .0)) (omega (arith, z .kept .0)) (omega arith) (omega arith)
     ∙ ap (λ (l : List ℕ). l ++ drop (13 * n + 8) s) (ap₂ _++_ (x .ensures) (ap₂ _++_ (y .ensures) (z .ensures)))

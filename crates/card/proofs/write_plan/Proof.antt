@@ -1,5 +1,5 @@
 -- `card::write_plan` meets its contract.
-use mathlib.Core.Path.{_≡_, sym, ap, ap₂, _∙_}
+use mathlib.Core.Path.{ap, _∙_}
 use mathlib.Core.List.{List, _++_}
 use Prim.Native.Nat.{ℕ, _+_, _*_}
 use native.Mathlib.Omega.{arith}
@@ -17,9 +17,8 @@ replay-requires c κs = search needs
 
 write-card-requires : tie.Need-write-card-requires
 write-card-requires c κs =
-    let args = c .before .before .before .args in
     let pre = c .before .before .before .pre in
-    let a = args in
+    let a = c .before .before .before .args in
     (pre .0 .0 .few, (omega (arith, pre .0 .1 .all, length-take (a .jobs) (a .order .now)), pre .1 .1))
 
 same-length : tie.Need-same-length
@@ -27,11 +26,10 @@ same-length c = search needs
 
 returns : tie.Need-returns
 returns c =
-    let args = c .before .before .before .before .before .before .args in
     let replay = c .before .before .before .before .replay in
     let write-card = c .before .before .write-card in
     let pre = c .before .before .before .before .before .before .pre in
-    let a = args in
+    let a = c .before .before .before .before .before .before .args in
     let n = a .jobs in
     let S = sheetOf (a .need .now) (a .minutes .now) (a .earlier .now) n (a .modules) in
     let o = take n (a .order .now) in

@@ -1,6 +1,4 @@
 -- `card::write_row` meets its contract.
-use mathlib.Core.List.{List}
-use Prim.Native.Nat.{ℕ}
 use native.Mathlib.Omega.{arith}
 use Rattle.card.specs.Card.{rowBytes}
 use Rattle.card.proofs.Joins.{three-numbers}
@@ -50,15 +48,11 @@ same-length c = search needs
 returns : tie.Need-returns
 unfolding rowBytes
 returns c =
-    let args = c .before .before .before .before .before .before .before .before .before .before .before .before .before .args in
-    let write-number = c .before .before .before .before .before .before .before .before .before .before .write-number in
-    let write-number2 = c .before .before .before .before .before .before .write-number2 in
-    let write-number3 = c .before .before .write-number3 in
     let pre = c .before .before .before .before .before .before .before .before .before .before .before .before .before .pre in
-    let a = args in
-    let x = write-number in
-    let y = write-number2 in
-    let z = write-number3 in
+    let a = c .before .before .before .before .before .before .before .before .before .before .before .before .before .args in
+    let x = c .before .before .before .before .before .before .before .before .before .before .write-number in
+    let y = c .before .before .before .before .before .before .write-number2 in
+    let z = c .before .before .write-number3 in
     three-numbers (a .part .now) (x .last .0) (y .last .0) (z .last .0) _ _ _ (a .start) (a .end) (a .modules) 2 4 12
     (x .ensures) (y .ensures) (z .ensures) (omega (arith, x .kept .0)) (omega (arith, y .kept .0)) (omega (arith, z .kept .0))
     (omega arith) (omega arith) (pre)

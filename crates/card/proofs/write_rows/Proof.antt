@@ -1,5 +1,5 @@
 -- `card::write_rows` meets its contract.
-use mathlib.Core.Path.{_≡_, refl, sym, ap, ap₂, _∙_}
+use mathlib.Core.Path.{_≡_, refl, ap, ap₂, _∙_}
 use mathlib.Core.List.{List, _++_}
 use Prim.Native.Nat.{ℕ, _+_, _-_, _*_, _≤_}
 use native.Mathlib.Omega.{arith}
@@ -69,11 +69,10 @@ loop-again : tie.Need-loop-again Inv-loop μ-loop
 loop-again c =
     let args = c .before .before .before .before .before .before .before .before .before .before .args in
     let loop = c .before .before .before .before .before .before .before .before .loop in
-    let write-row = c .before .before .write-row in
     let s = args .part .now in
     let f : ℕ → List ℕ = slotRow (args .t2) in
     let j = loop .j in
-    let w = write-row in
+    let w = c .before .before .write-row in
     let size = joined-length j 12 f (λ i l. row-length _ _ _) in
     let next : 12 * j + 12 ≡ 12 * (j + 1) = omega arith in (
       omega arith,

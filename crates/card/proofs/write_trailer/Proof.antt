@@ -52,15 +52,11 @@ same-length c = search needs
 returns : tie.Need-returns
 unfolding trailerBytes
 returns c =
-    let args = c .before .before .before .before .before .before .before .before .before .before .before .before .before .args in
-    let write-number = c .before .before .before .before .before .before .before .before .before .before .write-number in
-    let write-number2 = c .before .before .before .before .before .before .write-number2 in
-    let write-number3 = c .before .before .write-number3 in
     let pre = c .before .before .before .before .before .before .before .before .before .before .before .before .before .pre in
-    let a = args in
-    let x = write-number in
-    let y = write-number2 in
-    let z = write-number3 in
+    let a = c .before .before .before .before .before .before .before .before .before .before .before .before .before .args in
+    let x = c .before .before .before .before .before .before .before .before .before .before .write-number in
+    let y = c .before .before .before .before .before .before .write-number2 in
+    let z = c .before .before .write-number3 in
     three-numbers (a .part .now) (x .last .0) (y .last .0) (z .last .0) _ _ _ (12 * a .jobs) (a .end) (a .jobs) 4 6 8
     (x .ensures) (y .ensures) (z .ensures) (omega (arith, x .kept .0)) (omega (arith, y .kept .0)) (omega (arith, z .kept .0))
     (omega arith) (omega arith) (pre .1)
