@@ -15,6 +15,7 @@ use borrow.Author.Tests.{ltb-true}
 use Rattle.schedule.specs.Plan.{Sheet, finish}
 use Rattle.schedule.specs.ListPlan.{listPlan}
 use Rattle.tables.specs.Tables.{sheetOf, Fit}
+use Rattle.card.specs.Card.{latenessOf}
 
 -- ---- in 32 bits
 
@@ -43,7 +44,7 @@ module _ (a b : ℕ) (l : a < 65536) (m : b < 65536) where
 -- ---- its range
 
 -- The lateness of a job that ends after minute 0 and departs by minute 2880 is -2879 or more.
-pub lateness-from : (end departure : ℕ) → 0 < end → departure ≤ 2880 → negsuc 2878 ≤ℤ (pos end -ℤ pos departure)
+pub lateness-from : (end departure : ℕ) → 0 < end → departure ≤ 2880 → negsuc 2878 ≤ℤ latenessOf end departure
 lateness-from end zero l m = record { le = tt }
 lateness-from end (suc d) l m = go (ltb end (suc d)) refl
   where
@@ -57,5 +58,5 @@ module _ (need minutes earlier : List ℕ) (jobs modules : ℕ) (fit : Fit need 
   S = sheetOf need minutes earlier jobs modules
 
   pub plan-lateness : (o : List ℕ) (j departure : ℕ) → j < jobs → departure ≤ 2880
-      → negsuc 2878 ≤ℤ (pos (finish S (listPlan S o) j) -ℤ pos departure)
+      → negsuc 2878 ≤ℤ latenessOf (finish S (listPlan S o) j) departure
   plan-lateness o j departure l m = lateness-from _ departure (omega (arith, fit .lasting j l)) m

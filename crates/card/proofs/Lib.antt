@@ -2,6 +2,7 @@
 pub mod Parts
 pub mod Joins
 pub mod Modules
+pub mod PlacedSlots
 pub mod Replays
 pub mod Numbers
 pub mod Readings

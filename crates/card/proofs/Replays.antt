@@ -1,21 +1,18 @@
--- An order placed job by job: the slots are those of its list plan.
+-- An order placed job by job: its slots and its card are those of its list plan.
 use mathlib.Core.Path.{_≡_, refl, sym, ap, ap₂, _∙_, subst}
-use mathlib.Core.Bool.{Bool, true, false, cond, not, _&&_, _||_, and-false}
+use mathlib.Core.Bool.{Bool, true, false, _||_}
 use mathlib.Core.List.{List, [], _∷_, _++_}
-use Prim.Native.Nat.{ℕ, zero, suc, _+_, _≤_, _<_}
+use Prim.Native.Nat.{ℕ, suc, _+_, _≤_, _<_}
 use native.Mathlib.Omega.{arith}
-use native.Mathlib.Nat.{add-zero}
 use native.Mathlib.Numerals.{add-one}
-use lib.Dec.{ltb, eqb}
-use lib.ListN.{length, getD, take, drop, set, replicate, length-set, length-take, length-replicate}
-use lib.Seq.{getD-set-same, getD-set-other, getD-take, take-take, split-at, take-suc}
-use borrow.Author.Tests.{eqb-true, eqb-false}
+use lib.Dec.{eqb}
+use lib.ListN.{length, getD, take, drop, set, length-take}
+use lib.Seq.{getD-take, take-take, split-at, take-suc}
+use borrow.Author.Tests.{eqb-true}
 use Rattle.counting.specs.Counting.{only}
-use Rattle.bits.specs.Bits.{bit, setOf}
-use Rattle.bits.proofs.Digits.{bit-none}
-use Rattle.bits.proofs.Sets.{bit-setOf}
+use Rattle.bits.specs.Bits.{setOf}
 use Rattle.schedule.specs.Plan.{Sheet, finish}
-use Rattle.schedule.specs.ListPlan.{Order, PartPlan, Follows, ready, occupies, free, lowest, startOf, place, emptyPart, placeAll, partOf}
+use Rattle.schedule.specs.ListPlan.{Order, PartPlan, Follows, ready, startOf, place, emptyPart, placeAll, partOf}
 use Rattle.schedule.specs.TieRule.{endOf}
 use Rattle.schedule.proofs.Starts.{ready-says}
 use Rattle.schedule.proofs.Sound.{completes-all, order-completes}
@@ -26,103 +23,9 @@ use Rattle.placement.specs.Part.{StartFor, IsPart, Placeable, Placed}
 use Rattle.placement.proofs.Parts.{start-is, start-short, placeable, placed-part}
 use Rattle.card.specs.declared.Slots.{Slots}
 use Rattle.card.specs.Card.{trailerBytes, cardBytes, rowOf, cardOf}
-use Rattle.card.specs.Slots.{noSlots, withSlot, slotRow, busyAt, outside, lowestOutside, SlotsOf, Replayed}
+use Rattle.card.specs.Slots.{withSlot, slotRow, busyAt, lowestOutside, Replayed}
 use Rattle.card.proofs.Joins.{joined-same}
-use Rattle.card.proofs.Modules.{bit-union, any-same, only-bit, lowest-same}
-
--- ---- lists of numbers by job
-
-zeros : (n i : ℕ) → _≡_ {A = ℕ} (getD (replicate n 0) i 0) 0
-zeros zero i = refl
-zeros (suc n) zero = refl
-zeros (suc n) (suc i) = zeros n i
-
--- the place of one job more is written
-placed-more : (xs : List ℕ) (j v : ℕ) (d : ℕ → Bool) (f g : ℕ → ℕ) → j < length xs → ((i : ℕ) → getD xs i 0 ≡ only (d i) (f i))
-    → ((i : ℕ) → eqb i j ≡ true → v ≡ g i) → ((i : ℕ) → eqb i j ≡ false → f i ≡ g i)
-    → (i : ℕ) → getD (set xs j v) i 0 ≡ only (eqb i j || d i) (g i)
-placed-more xs j v d f g l h here other i = go (eqb i j) refl
-  where
-    go : (b : Bool) → eqb i j ≡ b → getD (set xs j v) i 0 ≡ only (eqb i j || d i) (g i)
-    go true e = rw e (ap (λ (k : ℕ). getD (set xs j v) k 0) (eqb-true i j e) ∙ getD-set-same xs j v 0 l ∙ here i e)
-    go false e = rw e (getD-set-other xs j i v 0 (eqb-false i j e) ∙ h i ∙ ap (λ (x : ℕ). only (d i) x) (other i e))
-
--- only jobs of the sheet are placed
-placed-jobs : (S : Sheet) (P : PartPlan) (o : List ℕ) → Follows S (P .placed) o → (i : ℕ) → S .jobs ≤ i → P .placed i ≡ false
-    → placeAll S P o .placed i ≡ false
-unfolding placeAll
-placed-jobs S P [] f i l e = e
-placed-jobs S P (j ∷ o) f i l e =
-    placed-jobs S (place S P j (startOf S P j)) o (f .1) i l (go (eqb i j) refl)
-  where
-    go : (b : Bool) → eqb i j ≡ b → (eqb i j || P .placed i) ≡ false
-    go true q = absurd (omega (arith, eqb-true i j q, ready-says S (P .placed) j (f .0) .job))
-    go false q = rw q e
-
-module _ (need minutes earlier : List ℕ) (jobs modules : ℕ) where
-  abbrev S : Sheet
-  S = sheetOf need minutes earlier jobs modules
-
-  pub no-slots : SlotsOf S (partOf S []) noSlots
-  unfolding noSlots placeAll
-  no-slots = record {
-    start = zeros 20;
-    end = zeros 20;
-    modules = zeros 20;
-    start-length = length-replicate {A = ℕ} 20 0;
-    end-length = length-replicate {A = ℕ} 20 0;
-    modules-length = length-replicate {A = ℕ} 20 0;
-  }
-
-  module _ (P : PartPlan) (s : Slots) (is : SlotsOf S P s) where
-    -- ---- the free modules
-
-    busy-is : (t m i : ℕ) → m < modules
-        → bit (only (ltb t (getD (s .end) i 0)) (getD (s .modules) i 0)) m ≡ (occupies S P t i && P .plan .uses i m)
-    busy-is t m i l =
-        only-bit (ltb t (getD (s .end) i 0)) (getD (s .modules) i 0) m
-        ∙ ap₂ (λ (x y : ℕ). ltb t x && bit y m) (is .end i) (is .modules i) ∙ go (P .placed i)
-      where
-        go : (b : Bool) → (ltb t (only b (finish S (P .plan) i)) && bit (only b (setOf modules (P .plan .uses i))) m)
-            ≡ ((b && ltb t (finish S (P .plan) i + 0)) && P .plan .uses i m)
-        go true = ap₂ (λ (x : ℕ) b. ltb t x && b) (sym (add-zero (finish S (P .plan) i))) (bit-setOf modules (P .plan .uses i) m l)
-        go false = ap (λ b. ltb t 0 && b) (bit-none m) ∙ and-false (ltb t 0)
-
-    free-is : (t m : ℕ) → m < modules → outside (busyAt s jobs t) m ≡ free S P t m
-    free-is t m l =
-        ap not (bit-union jobs (λ i. only (ltb t (getD (s .end) i 0)) (getD (s .modules) i 0)) m
-        ∙ any-same jobs _ (λ i. occupies S P t i && P .plan .uses i m) (λ i k. busy-is t m i l))
-
-    -- ---- one slot more
-
-    module _ (j t : ℕ) (l : j < 20) where
-      abbrev taken : ℕ
-      taken = lowestOutside (busyAt s jobs t) modules (getD need j 0)
-
-      abbrev Q : PartPlan
-      Q = place S P j t
-
-      -- the modules of job i, by whether it is job j
-      abbrev uses-where : ℕ → Bool → ℕ
-      uses-where i b = setOf modules (λ m. cond b (lowest modules (free S P t) (getD need j 0) m) (P .plan .uses i m))
-
-      slot-more : SlotsOf S Q (withSlot s j t (t + getD minutes j 0) taken)
-      unfolding withSlot
-      slot-more = record {
-        start = placed-more (s .start) j t (P .placed) (P .plan .start) (Q .plan .start) (omega (arith, is .start-length)) (is .start)
-            (λ i e. rw e) (λ i e. rw e);
-        end = placed-more (s .end) j (t + getD minutes j 0) (P .placed) (finish S (P .plan)) (finish S (Q .plan))
-            (omega (arith, is .end-length)) (is .end)
-            (λ i e. rw e (ap (λ (k : ℕ). t + getD minutes k 0) (sym (eqb-true i j e)))) (λ i e. rw e);
-        modules = placed-more (s .modules) j taken (P .placed) (λ i. setOf modules (P .plan .uses i)) (λ i. setOf modules (Q .plan .uses i))
-            (omega (arith, is .modules-length)) (is .modules)
-            (λ i e. lowest-same modules (outside (busyAt s jobs t)) (free S P t) (getD need j 0) (free-is t)
-            ∙ ap (uses-where i) (sym e))
-            (λ i e. ap (uses-where i) (sym e));
-        start-length = length-set (s .start) j t ∙ is .start-length;
-        end-length = length-set (s .end) j (t + getD minutes j 0) ∙ is .end-length;
-        modules-length = length-set (s .modules) j taken ∙ is .modules-length;
-      }
+use Rattle.card.proofs.PlacedSlots.{SlotsOf, slot-more}
 
 -- ---- one turn: the order's next job is placed
 
@@ -193,6 +96,18 @@ module _ {need minutes earlier order : List ℕ} {jobs modules k j : ℕ} (turn 
         (slot-more need minutes earlier jobs modules (partOf T w) s g j t next-low))
 
 -- ---- all turns
+
+-- only jobs of the sheet are placed
+placed-jobs : (S : Sheet) (P : PartPlan) (o : List ℕ) → Follows S (P .placed) o → (i : ℕ) → S .jobs ≤ i → P .placed i ≡ false
+    → placeAll S P o .placed i ≡ false
+unfolding placeAll
+placed-jobs S P [] f i l e = e
+placed-jobs S P (j ∷ o) f i l e =
+    placed-jobs S (place S P j (startOf S P j)) o (f .1) i l (go (eqb i j) refl)
+  where
+    go : (b : Bool) → eqb i j ≡ b → (eqb i j || P .placed i) ≡ false
+    go true q = absurd (omega (arith, eqb-true i j q, ready-says S (P .placed) j (f .0) .job))
+    go false q = rw q e
 
 -- The slots of all the jobs of an order are those of its list plan.
 pub all-replayed : (S : Sheet) (o : List ℕ) (s : Slots) → Order S o → SlotsOf S (partOf S o) s → Replayed S o s

@@ -3,7 +3,7 @@ use mathlib.Core.Path.{_≡_, refl}
 use mathlib.Core.List.{List, [], _∷_, _++_}
 use Prim.Native.Nat.{ℕ}
 use lib.Dec.{ltb, leb, lit<, lit≤}
-use lib.IntN.{pos, negsuc, _-ℤ_}
+use lib.IntN.{negsuc}
 use lib.ListN.{getD}
 use borrow.Author.Tests.{ltb-true, leb-true}
 use Rattle.counting.specs.Counting.{sum, largest, every, any}
@@ -12,7 +12,7 @@ use Rattle.bits.specs.Bits.{bit, setOf}
 use Rattle.schedule.specs.Plan.{Sheet}
 use Rattle.schedule.specs.ListPlan.{Order, ready, firstMinute, startOf, placeAll}
 use Rattle.tables.specs.Tables.{sheetOf, Fit}
-use Rattle.card.specs.Card.{joined, rowBytes, trailerBytes, cardBytes, cardOf}
+use Rattle.card.specs.Card.{joined, rowBytes, trailerBytes, cardBytes, cardOf, latenessOf}
 use Rattle.card.specs.Reading.{Reads}
 use Rattle.card.proofs.Readings.{card-reads}
 
@@ -47,7 +47,7 @@ unfolding sum largest joined rowBytes trailerBytes cardBytes
 e2-card = refl
 
 -- "down to -2879"
-pub lowest-lateness : pos 1 -ℤ pos 2880 ≡ negsuc 2878
+pub lowest-lateness : latenessOf 1 2880 ≡ negsuc 2878
 lowest-lateness = refl
 
 -- ---- E1 meets what the theorem of reading asks

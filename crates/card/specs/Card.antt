@@ -1,6 +1,7 @@
 -- Document 01: plan card.
 use mathlib.Core.List.{List, [], _∷_, _++_}
 use Prim.Native.Nat.{ℕ, zero, suc, _*_, _/_, _%_, _^_}
+use lib.IntN.{ℤ, pos, _-ℤ_}
 use Rattle.bits.specs.Bits.{setOf}
 use Rattle.schedule.specs.Plan.{Sheet, finish}
 use Rattle.schedule.specs.ListPlan.{listPlan}
@@ -34,3 +35,7 @@ rowOf S o j = rowBytes (listPlan S o .start j) (finish S (listPlan S o) j) (setO
 -- the card of the list plan of the order o
 abbrev pub cardOf : Sheet → List ℕ → List ℕ
 cardOf S o = cardBytes (S .jobs) (rowOf S o) o (endOf S o)
+
+-- "Lateness of a job is its end minus its departure and may be negative"
+abbrev pub latenessOf : ℕ → ℕ → ℤ
+latenessOf end departure = pos end -ℤ pos departure

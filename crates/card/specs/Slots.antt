@@ -5,17 +5,13 @@ use mathlib.Core.List.{List}
 use Prim.Native.Nat.{ℕ, zero, suc, _≤_, _<_}
 use lib.Dec.{ltb}
 use lib.Bits.{bitOr}
-use lib.ListN.{length, getD, replicate, set}
+use lib.ListN.{getD, set}
 use Rattle.counting.specs.Counting.{only}
 use Rattle.bits.specs.Bits.{bit, setOf}
 use Rattle.schedule.specs.Plan.{Sheet, finish}
-use Rattle.schedule.specs.ListPlan.{PartPlan, lowest, listPlan}
+use Rattle.schedule.specs.ListPlan.{lowest, listPlan}
 use Rattle.card.specs.declared.Slots.{Slots}
 use Rattle.card.specs.Card.{rowBytes}
-
--- no job has a slot
-unfoldable pub noSlots : Slots
-noSlots = record { start = replicate 20 0; end = replicate 20 0; modules = replicate 20 0 }
 
 -- the slots with one for job j
 unfoldable pub withSlot : Slots → ℕ → ℕ → ℕ → ℕ → Slots
@@ -45,15 +41,6 @@ outside busy m = not (bit busy m)
 -- the `want` lowest modules that are not in the set, of `modules`
 abbrev pub lowestOutside : ℕ → ℕ → ℕ → ℕ
 lowestOutside busy modules want = setOf modules (lowest modules (outside busy) want)
-
--- the slots of the jobs that P has placed; every other place is 0
-pub record SlotsOf (S : Sheet) (P : PartPlan) (s : Slots) : Type 0 where
-  pub start : (i : ℕ) → getD (s .start) i 0 ≡ only (P .placed i) (P .plan .start i)
-  pub end : (i : ℕ) → getD (s .end) i 0 ≡ only (P .placed i) (finish S (P .plan) i)
-  pub modules : (i : ℕ) → getD (s .modules) i 0 ≡ only (P .placed i) (setOf (S .modules) (P .plan .uses i))
-  pub start-length : length (s .start) ≡ 20
-  pub end-length : length (s .end) ≡ 20
-  pub modules-length : length (s .modules) ≡ 20
 
 -- the slots of the list plan of the order o
 pub record Replayed (S : Sheet) (o : List ℕ) (s : Slots) : Type 0 where

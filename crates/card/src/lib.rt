@@ -6,7 +6,6 @@ ghost use Prim.Native.Nat.{_+_, _*_, _<_, _≤_};
 ghost use lib.Dec.{ltb};
 ghost use lib.Bits.{bitOr};
 ghost use lib.Count.{ones};
-ghost use lib.IntN.{pos, _-ℤ_};
 ghost use lib.ListN.{length, take, drop};
 ghost use Rattle.counting.specs.Counting.{only};
 ghost use Rattle.bits.specs.Bits.{bit, withBit};
@@ -15,7 +14,7 @@ ghost use Rattle.schedule.specs.TieRule.{endOf};
 ghost use Rattle.tables.specs.Tables.{sheetOf, Fit};
 ghost use Rattle.placement.specs.Part.{StartFor};
 ghost use Rattle.placement.specs.Profile.{Profile};
-ghost use Rattle.card.specs.Card.{bytesOf, joined, rowBytes, trailerBytes, cardBytes, cardOf};
+ghost use Rattle.card.specs.Card.{bytesOf, joined, rowBytes, trailerBytes, cardBytes, cardOf, latenessOf};
 ghost use Rattle.card.specs.Slots.{withSlot, slotRow, busyAt, lowestOutside, Replayed};
 
 // Each job's start, end and module set, at the job's place.
@@ -110,6 +109,7 @@ fn next_start(part: placement::Part, jobs: usize, modules: u16, earlier: u32, wa
     )
 }
 
+// A job's number as an index.
 fn wide(x: u8) -> usize
     ensures { λ r. ⌜ r ≡ x ⌝ }
 {
@@ -214,7 +214,7 @@ fn write_trailer(part: &mut [u8], jobs: usize, end: u16)
     write_number(&mut part[6..8], jobs as u64);
 }
 
-// Writes the card at the front of the lent bytes: rows, order and trailer each in its own part.
+// Writes the card at the front of the lent bytes, rows, order and trailer each into its own part; the bytes behind it stay.
 pub fn write_card(slots: Slots, order: &[u8; 20], jobs: usize, end: u16, card: &mut [u8])
     requires { ⌜ (jobs ≤ 20) × ((jobs ≤ length (now order)) × (13 * jobs + 8 ≤ length (now card))) ⌝ }
     ensures { λ _. ⌜ now (card .exit)
@@ -228,7 +228,7 @@ pub fn write_card(slots: Slots, order: &[u8; 20], jobs: usize, end: u16, card: &
     write_trailer(&mut card[orders..all], jobs, end);
 }
 
-// Writes the card of the list plan of the order, which ends at `end`.
+// Writes the card of the list plan of the order, which ends at `end`, at the front of the lent bytes; the bytes behind it stay.
 pub fn write_plan(
     need: &[u16; 20],
     minutes: &[u16; 20],
@@ -251,9 +251,9 @@ pub fn write_plan(
     write_card(slots, order, jobs, end, card);
 }
 
-// "Lateness of a job is its end minus its departure and may be negative".
+// A job's end minus its departure, which may be negative.
 pub fn lateness(end: u16, departure: u16) -> i32
-    ensures { λ r. ⌜ r ≡ pos end -ℤ pos departure ⌝ }
+    ensures { λ r. ⌜ r ≡ latenessOf end departure ⌝ }
 {
     (end as i32) - (departure as i32)
 }

@@ -9,8 +9,8 @@ use Rattle.tables.specs.Tables.{sheetOf}
 use Rattle.placement.specs.declared.Part.{Part}
 use Rattle.placement.specs.Part.{IsPart}
 use Rattle.placement.proofs.Parts.{first-is}
-use Rattle.card.specs.Slots.{noSlots, SlotsOf}
-use Rattle.card.proofs.Replays.{no-slots, Turn, next-job, next-low, next-short, next-placeable, next-part, next-slots}
+use Rattle.card.proofs.PlacedSlots.{noSlots, SlotsOf, no-slots}
+use Rattle.card.proofs.Replays.{Turn, next-job, next-low, next-short, next-placeable, next-part, next-slots}
 use Rattle.card.proofs.Replays.{all-replayed}
 use borrow.Author.Needs.{needs}
 use Rattle.card.proofs.replay.Statement.{statement}
@@ -60,10 +60,10 @@ wide-requires : tie.Need-wide-requires Inv-loop μ-loop
 wide-requires c κs = search needs
 
 mul-want : tie.Need-mul-want Inv-loop μ-loop
-mul-want c = let low = next-low (turn (c)) in omega arith
+mul-want c = let low = next-low (turn c) in omega arith
 
 element-copy-out-want : tie.Need-element-copy-out-want Inv-loop μ-loop
-element-copy-out-want c = next-low (turn (c))
+element-copy-out-want c = next-low (turn c)
 
 mul-lasts : tie.Need-mul-lasts Inv-loop μ-loop
 mul-lasts c = let low = next-low (turn (c .before)) in omega arith
