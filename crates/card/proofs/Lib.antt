@@ -5,6 +5,7 @@ pub mod Modules
 pub mod PlacedSlots
 pub mod Replays
 pub mod Numbers
-pub mod Readings
+pub mod Decoding
+pub mod OnCard
 pub mod Differences
 pub mod Samples

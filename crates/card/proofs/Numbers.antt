@@ -10,7 +10,7 @@ use lib.Pow.{mod-pow-add}
 use lib.Seq.{getD-append-add, getD-at}
 use Rattle.counting.proofs.Tests.{last-or-below, below-suc}
 use Rattle.card.specs.Card.{joined, bytesOf}
-use Rattle.card.specs.Reading.{numberAt}
+use Rattle.card.specs.Decoding.{numberAt}
 use Rattle.card.proofs.Joins.{joined-length, bytes-length}
 
 -- equal bytes, equal numbers

@@ -1,4 +1,4 @@
--- The cards of document 01's examples E1 and E2, computed from the definitions; the theorem of reading at E1.
+-- The cards of document 01's examples E1 and E2, computed from the definitions; the theorem of decoding at E1.
 use mathlib.Core.Path.{_≡_, refl}
 use mathlib.Core.List.{List, [], _∷_, _++_}
 use Prim.Native.Nat.{ℕ}
@@ -13,8 +13,8 @@ use Rattle.schedule.specs.Plan.{Sheet}
 use Rattle.schedule.specs.ListPlan.{Order, ready, firstMinute, startOf, placeAll}
 use Rattle.tables.specs.Tables.{sheetOf, Fit}
 use Rattle.card.specs.Card.{joined, rowBytes, trailerBytes, cardBytes, cardOf, latenessOf}
-use Rattle.card.specs.Reading.{Reads}
-use Rattle.card.proofs.Readings.{card-reads}
+use Rattle.card.specs.Decoding.{Decodes}
+use Rattle.card.proofs.Decoding.{card-decodes}
 
 abbrev needs : List ℕ
 needs = 1 ∷ 2 ∷ 1 ∷ []
@@ -50,7 +50,7 @@ e2-card = refl
 pub lowest-lateness : latenessOf 1 2880 ≡ negsuc 2878
 lowest-lateness = refl
 
--- ---- E1 meets what the theorem of reading asks
+-- ---- E1 meets what the theorem of decoding asks
 
 e1-fit : Fit needs lengths 3 2
 unfolding every
@@ -67,5 +67,5 @@ e1-order : Order e1 order
 unfolding bit every ready
 e1-order = record { all = refl; follows = (refl, (refl, (refl, tt))) }
 
-pub e1-reads : (rest : List ℕ) → Reads e1 order (cardOf e1 order ++ rest)
-e1-reads rest = card-reads needs lengths (0 ∷ 0 ∷ 0 ∷ []) 3 2 e1-fit order e1-order rest
+pub e1-decodes : (rest : List ℕ) → Decodes e1 order (cardOf e1 order ++ rest)
+e1-decodes rest = card-decodes needs lengths (0 ∷ 0 ∷ 0 ∷ []) 3 2 e1-fit order e1-order rest

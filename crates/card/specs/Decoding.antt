@@ -1,10 +1,10 @@
--- How a plan is read off a card.
+-- How a plan is read back from a card.
 use mathlib.Core.Path.{_≡_}
 use mathlib.Core.List.{List}
 use Prim.Native.Nat.{ℕ, zero, suc, _+_, _*_, _^_, _<_}
 use lib.ListN.{getD}
-use Rattle.bits.specs.Bits.{setOf}
-use Rattle.schedule.specs.Plan.{Sheet, finish}
+use Rattle.bits.specs.Bits.{bit, setOf}
+use Rattle.schedule.specs.Plan.{Sheet, Plan, finish}
 use Rattle.schedule.specs.ListPlan.{listPlan}
 use Rattle.schedule.specs.TieRule.{endOf}
 
@@ -13,8 +13,15 @@ unfoldable pub numberAt : List ℕ → ℕ → ℕ → ℕ
 numberAt s at zero = 0
 numberAt s at (suc k) = getD s (at + k) 0 * 2 ^ (8 * k) + numberAt s at k
 
--- the bytes s begin with a card on which the list plan of the order o can be read
-pub record Reads (S : Sheet) (o s : List ℕ) : Type 0 where
+-- the plan that the rows show: "start (2 bytes), … module set (8, bit m for module m)"
+abbrev pub planOn : List ℕ → Plan
+planOn s = record {
+  start = λ j. numberAt s (12 * j) 2;
+  uses = λ j m. bit (numberAt s (12 * j + 4) 8) m;
+}
+
+-- the bytes s begin with a card from which the list plan of the order o can be read back
+pub record Decodes (S : Sheet) (o s : List ℕ) : Type 0 where
   pub start : (j : ℕ) → j < S .jobs → numberAt s (12 * j) 2 ≡ listPlan S o .start j
   pub end : (j : ℕ) → j < S .jobs → numberAt s (12 * j + 2) 2 ≡ finish S (listPlan S o) j
   pub modules : (j : ℕ) → j < S .jobs → numberAt s (12 * j + 4) 8 ≡ setOf (S .modules) (listPlan S o .uses j)

@@ -19,7 +19,7 @@ use Rattle.schedule.proofs.Horizon.{ends-within}
 use Rattle.tables.specs.Tables.{sheetOf, Fit}
 use Rattle.tables.proofs.Laws.{all-minutes}
 use Rattle.card.specs.Card.{joined, bytesOf, rowBytes, trailerBytes, cardBytes, rowOf, cardOf}
-use Rattle.card.specs.Reading.{numberAt, Reads}
+use Rattle.card.specs.Decoding.{numberAt, Decodes}
 use Rattle.card.proofs.Joins.{joined-length, bytes-length, row-length, trailer-length}
 use Rattle.card.proofs.Numbers.{number-front, number-behind, number-first, number-next, number-last, number-joined}
 
@@ -109,8 +109,8 @@ module _ (need minutes earlier : List ℕ) (jobs modules : ℕ) (fit : Fit need 
       ∙ number-front (trailerBytes jobs (endOf S o)) rest a k (omega (arith, trailer-length jobs (endOf S o)))
 
   -- The plan that the card holds is the list plan of the order, whatever stands behind the card.
-  pub card-reads : Reads S o (cardOf S o ++ rest)
-  card-reads = record {
+  pub card-decodes : Decodes S o (cardOf S o ++ rest)
+  card-decodes = record {
     start = λ j l.
         ap (λ (i : ℕ). numberAt s i 2) (sym (add-zero (12 * j))) ∙ in-row j 0 2 l (lit≤ tt)
         ∙ row-start _ _ _ (omega (arith, end-short j l));
