@@ -20,6 +20,8 @@ use Rattle.bits.proofs.Ones.{ones-setOf}
 use Rattle.schedule.specs.ListPlan.{lowest}
 use Rattle.card.specs.Slots.{union}
 
+-- ---- tests of sets, and their union
+
 pub any-same : (n : ℕ) (p q : ℕ → Bool) → ((i : ℕ) → i < n → p i ≡ q i) → any n p ≡ any n q
 unfolding any
 any-same zero p q h = refl
@@ -37,6 +39,8 @@ bit-union (suc n) f m = bit-or (union n f) (f n) m ∙ ap (λ b. b || bit (f n) 
 pub union-more : (n : ℕ) (f : ℕ → ℕ) → bitOr (union n f) (f n) ≡ union (n + 1) f
 unfolding union
 union-more n f = ap (λ (k : ℕ). union k f) (sym (add-one n))
+
+-- ---- the lowest modules
 
 -- where the same modules are free, the same ones are the lowest
 pub lowest-same : (n : ℕ) (f g : ℕ → Bool) (k : ℕ) → ((m : ℕ) → m < n → f m ≡ g m)

@@ -37,7 +37,7 @@ fn with_slot(slots: Slots, j: usize, start: u16, end: u16, modules: u64) -> Slot
 }
 
 // The set, with the modules of a job that ends after minute t.
-fn joined_busy(set: u64, modules: u64, end: u16, t: u16) -> u64
+fn with_busy(set: u64, modules: u64, end: u16, t: u16) -> u64
     ensures { λ r. ⌜ r ≡ bitOr set (only (ltb t end) modules) ⌝ }
 {
     if t < end {
@@ -54,7 +54,7 @@ fn busy_at(slots: Slots, jobs: usize, t: u16) -> u64
     let mut set: u64 = 0;
     let mut i: usize = 0;
     while i < jobs {
-        set = joined_busy(set, slots.modules[i], slots.end[i], t);
+        set = with_busy(set, slots.modules[i], slots.end[i], t);
         i += 1;
     }
     set

@@ -22,20 +22,20 @@ loop-holds : tie.Need-loop-holds Inv-loop μ-loop
 unfolding union
 loop-holds c = (search needs, refl)
 
-mul-joined-busy : tie.Need-mul-joined-busy Inv-loop μ-loop
-mul-joined-busy c = search needs
+mul-with-busy : tie.Need-mul-with-busy Inv-loop μ-loop
+mul-with-busy c = search needs
 
-element-copy-out-joined-busy : tie.Need-element-copy-out-joined-busy Inv-loop μ-loop
-element-copy-out-joined-busy c = search needs
+element-copy-out-with-busy : tie.Need-element-copy-out-with-busy Inv-loop μ-loop
+element-copy-out-with-busy c = search needs
 
-mul-joined-busy-2 : tie.Need-mul-joined-busy-2 Inv-loop μ-loop
-mul-joined-busy-2 c = search needs
+mul-with-busy-2 : tie.Need-mul-with-busy-2 Inv-loop μ-loop
+mul-with-busy-2 c = search needs
 
-element-copy-out-joined-busy-2 : tie.Need-element-copy-out-joined-busy-2 Inv-loop μ-loop
-element-copy-out-joined-busy-2 c = search needs
+element-copy-out-with-busy-2 : tie.Need-element-copy-out-with-busy-2 Inv-loop μ-loop
+element-copy-out-with-busy-2 c = search needs
 
-joined-busy-requires : tie.Need-joined-busy-requires Inv-loop μ-loop
-joined-busy-requires c κs = search needs
+with-busy-requires : tie.Need-with-busy-requires Inv-loop μ-loop
+with-busy-requires c κs = search needs
 
 add-i : tie.Need-add-i Inv-loop μ-loop
 add-i c = search needs
@@ -49,7 +49,7 @@ loop-again c =
     let a = c .before .before .before .before .before .args in
     let i = loop .i in
     let f : ℕ → ℕ = λ i. only (ltb (a .t) (getD (a .t1 .end) i 0)) (getD (a .t1 .modules) i 0) in
-    (search needs, c .joined-busy .ensures ∙ ap (λ (x : ℕ). bitOr x (f i)) (loop .inv .1) ∙ union-more i f)
+    (search needs, c .with-busy .ensures ∙ ap (λ (x : ℕ). bitOr x (f i)) (loop .inv .1) ∙ union-more i f)
 
 returns : tie.Need-returns Inv-loop μ-loop
 returns c =
@@ -65,11 +65,11 @@ busy-at-spec =
     Inv-loop
     μ-loop
     loop-holds
-    mul-joined-busy
-    element-copy-out-joined-busy
-    mul-joined-busy-2
-    element-copy-out-joined-busy-2
-    joined-busy-requires
+    mul-with-busy
+    element-copy-out-with-busy
+    mul-with-busy-2
+    element-copy-out-with-busy-2
+    with-busy-requires
     add-i
     loop-less
     loop-again

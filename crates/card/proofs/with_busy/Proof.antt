@@ -1,11 +1,11 @@
--- `card::joined_busy` meets its contract.
+-- `card::with_busy` meets its contract.
 use mathlib.Core.Path.{_≡_, sym}
 use mathlib.Core.Bool.{true, false}
 use lib.Dec.{ltb}
 use lib.Bits.{or-zero-r}
 use borrow.Author.Tests.{lt-ltb, le-ltb}
-use Rattle.card.proofs.joined_busy.Statement.{statement}
-use Rattle.card.proofs.joined_busy.Tie as tie
+use Rattle.card.proofs.with_busy.Statement.{statement}
+use Rattle.card.proofs.with_busy.Tie as tie
 
 returns : tie.Need-returns
 returns c =
@@ -19,5 +19,5 @@ returns-2 c =
     let e : ltb (a .t) (a .end) ≡ false = le-ltb (a .t) (a .end) (c .if1 .left) in
     rw e (sym (or-zero-r (a .set)))
 
-pub joined-busy-spec : {M : Type 1} → statement M
-joined-busy-spec = tie.close (tie.spec returns returns-2)
+pub with-busy-spec : {M : Type 1} → statement M
+with-busy-spec = tie.close (tie.spec returns returns-2)
