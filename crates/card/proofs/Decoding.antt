@@ -1,0 +1,132 @@
+-- The card's length, and that its plan can be read back from it.
+use mathlib.Core.Path.{_≡_, sym, ap, _∙_}
+use mathlib.Core.List.{List, _++_, append-assoc}
+use Prim.Native.Nat.{ℕ, _+_, _*_, _^_, _≤_, _<_, zero-le}
+use native.Mathlib.Omega.{arith}
+use native.Mathlib.Nat.{add-zero, le-trans}
+use lib.Dec.{lit≤}
+use lib.ListN.{length, getD, length-append, List·getD-append}
+use lib.Pow.{pow-mono}
+use lib.Seq.{getD-append-add}
+use Rattle.counting.proofs.Sums.{sum-same}
+use Rattle.counting.proofs.Ranges.{largest-le}
+use Rattle.bits.proofs.Sets.{setOf-lt}
+use Rattle.schedule.specs.Plan.{Sheet, finish}
+use Rattle.schedule.specs.ListPlan.{Order, emptyPart, listPlan}
+use Rattle.schedule.specs.TieRule.{endOf}
+use Rattle.schedule.proofs.Sound.{completes-all, order-completes}
+use Rattle.schedule.proofs.Horizon.{ends-within}
+use Rattle.tables.specs.Tables.{sheetOf, Fit}
+use Rattle.tables.proofs.Laws.{all-minutes}
+use Rattle.card.specs.Card.{joined, bytesOf, rowBytes, trailerBytes, cardBytes, rowOf, cardOf}
+use Rattle.card.specs.Decoding.{numberAt, Decodes}
+use Rattle.card.proofs.Joins.{joined-length, bytes-length, row-length, trailer-length}
+use Rattle.card.proofs.Numbers.{number-front, number-behind, number-first, number-next, number-last, number-joined}
+
+-- ---- rows and trailers
+
+module _ (start end modules : ℕ) where
+  row-start : start < 2 ^ 16 → numberAt (rowBytes start end modules) 0 2 ≡ start
+  unfolding rowBytes
+  row-start l = number-first 2 start (bytesOf 2 end ++ bytesOf 8 modules) l
+
+  row-end : end < 2 ^ 16 → numberAt (rowBytes start end modules) 2 2 ≡ end
+  unfolding rowBytes
+  row-end l = number-next 2 2 end (bytesOf 2 start) (bytesOf 8 modules) (bytes-length 2 start) l
+
+  row-modules : modules < 2 ^ 64 → numberAt (rowBytes start end modules) 4 8 ≡ modules
+  unfolding rowBytes
+  row-modules l =
+      number-behind (bytesOf 2 start) (bytesOf 2 end ++ bytesOf 8 modules) 2 2 8 (bytes-length 2 start)
+      ∙ number-last 2 8 modules (bytesOf 2 end) (bytes-length 2 end) l
+
+module _ (n end : ℕ) where
+  trailer-offset : 12 * n < 2 ^ 32 → numberAt (trailerBytes n end) 0 4 ≡ 12 * n
+  unfolding trailerBytes
+  trailer-offset l = number-first 4 (12 * n) (bytesOf 2 end ++ bytesOf 2 n) l
+
+  trailer-end : end < 2 ^ 16 → numberAt (trailerBytes n end) 4 2 ≡ end
+  unfolding trailerBytes
+  trailer-end l = number-next 4 2 end (bytesOf 4 (12 * n)) (bytesOf 2 n) (bytes-length 4 (12 * n)) l
+
+  trailer-count : n < 2 ^ 16 → numberAt (trailerBytes n end) 6 2 ≡ n
+  unfolding trailerBytes
+  trailer-count l =
+      number-behind (bytesOf 4 (12 * n)) (bytesOf 2 end ++ bytesOf 2 n) 4 2 2 (bytes-length 4 (12 * n))
+      ∙ number-last 2 2 n (bytesOf 2 end) (bytes-length 2 end) l
+
+-- ---- the card
+
+-- "It has 13n + 8 bytes."
+pub card-length : (S : Sheet) (o : List ℕ) → Order S o → length (cardOf S o) ≡ 13 * S .jobs + 8
+unfolding cardBytes
+card-length S o h =
+    let n = S .jobs in
+    let rows = joined-length n 12 (rowOf S o) (λ j l. row-length _ _ _) in
+    let tail = length-append o (trailerBytes n (endOf S o)) in
+    length-append (joined n (rowOf S o)) (o ++ trailerBytes n (endOf S o)) ∙ omega (arith, h .all, trailer-length n (endOf S o))
+
+module _ (need minutes earlier : List ℕ) (jobs modules : ℕ) (fit : Fit need minutes jobs modules) (o : List ℕ)
+    (h : Order (sheetOf need minutes earlier jobs modules) o) (rest : List ℕ) where
+  abbrev S : Sheet
+  S = sheetOf need minutes earlier jobs modules
+
+  -- no minute of a plan reaches 28,801
+  end-short : (j : ℕ) → j < jobs → finish S (listPlan S o) j ≤ 28800
+  end-short j l =
+      let placed = completes-all S emptyPart o (order-completes S o h) j l in
+      let within = ends-within S (fit .narrow) 0 (λ i k. zero-le) o (h .follows) j l placed in
+      let flat = sum-same jobs (λ i. getD minutes i 0 + 0) (λ i. getD minutes i 0) (λ i k. add-zero (getD minutes i 0)) in
+      omega (arith, all-minutes need minutes jobs modules fit)
+
+  abbrev tail : List ℕ
+  tail = trailerBytes jobs (endOf S o) ++ rest
+
+  abbrev s : List ℕ
+  s = cardOf S o ++ rest
+
+  rows-first : s ≡ joined jobs (rowOf S o) ++ (o ++ tail)
+  unfolding cardBytes
+  rows-first =
+      append-assoc (joined jobs (rowOf S o)) (o ++ trailerBytes jobs (endOf S o)) rest
+      ∙ ap (λ (x : List ℕ). joined jobs (rowOf S o) ++ x) (append-assoc o (trailerBytes jobs (endOf S o)) rest)
+
+  rows-length : length (joined jobs (rowOf S o)) ≡ 12 * jobs
+  rows-length = joined-length jobs 12 (rowOf S o) (λ j l. row-length _ _ _)
+
+  in-row : (j a k : ℕ) → j < jobs → a + k ≤ 12 → numberAt s (12 * j + a) k ≡ numberAt (rowOf S o j) a k
+  in-row j a k l m =
+      ap (λ (x : List ℕ). numberAt x (12 * j + a) k) rows-first
+      ∙ number-joined jobs 12 (rowOf S o) (λ i x. row-length _ _ _) (o ++ tail) j a k l m
+
+  in-trailer : (a k : ℕ) → a + k ≤ 8 → numberAt s (13 * jobs + a) k ≡ numberAt (trailerBytes jobs (endOf S o)) a k
+  in-trailer a k m =
+      let at : 13 * jobs + a ≡ 12 * jobs + (jobs + a) = omega arith in
+      ap (λ (x : List ℕ). numberAt x (13 * jobs + a) k) rows-first
+      ∙ ap (λ (i : ℕ). numberAt (joined jobs (rowOf S o) ++ (o ++ tail)) i k) at
+      ∙ number-behind (joined jobs (rowOf S o)) (o ++ tail) (12 * jobs) (jobs + a) k rows-length
+      ∙ number-behind o tail jobs a k (h .all)
+      ∙ number-front (trailerBytes jobs (endOf S o)) rest a k (omega (arith, trailer-length jobs (endOf S o)))
+
+  -- The plan that the card holds is the list plan of the order, whatever stands behind the card.
+  pub card-decodes : Decodes S o (cardOf S o ++ rest)
+  card-decodes = record {
+    start = λ j l.
+        ap (λ (i : ℕ). numberAt s i 2) (sym (add-zero (12 * j))) ∙ in-row j 0 2 l (lit≤ tt)
+        ∙ row-start _ _ _ (omega (arith, end-short j l));
+    end = λ j l. in-row j 2 2 l (lit≤ tt) ∙ row-end _ _ _ (omega (arith, end-short j l));
+    modules = λ j l.
+        in-row j 4 8 l (lit≤ tt)
+        ∙ row-modules _ _ _ (le-trans (setOf-lt modules (listPlan S o .uses j)) (pow-mono {i = modules} {j = 64} (fit .most)));
+    order = λ k l.
+        ap (λ (x : List ℕ). getD x (12 * jobs + k) 0) rows-first
+        ∙ ap (λ (i : ℕ). getD (joined jobs (rowOf S o) ++ (o ++ tail)) (i + k) 0) (sym rows-length)
+        ∙ getD-append-add (joined jobs (rowOf S o)) (o ++ tail) k 0 ∙ List·getD-append o tail 0 k (omega (arith, h .all));
+    offset =
+        ap (λ (i : ℕ). numberAt s i 4) (sym (add-zero (13 * jobs))) ∙ in-trailer 0 4 (lit≤ tt)
+        ∙ trailer-offset jobs (endOf S o) (omega (arith, fit .few));
+    last =
+        in-trailer 4 2 (lit≤ tt)
+        ∙ trailer-end jobs (endOf S o) (omega (arith, largest-le jobs (finish S (listPlan S o)) 28800 end-short));
+    count = in-trailer 6 2 (lit≤ tt) ∙ trailer-count jobs (endOf S o) (omega (arith, fit .few));
+  }

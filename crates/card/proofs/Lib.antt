@@ -1,0 +1,11 @@
+-- The laws of the card, for the proofs here and in the crates above.
+pub mod Parts
+pub mod Joins
+pub mod Modules
+pub mod PlacedSlots
+pub mod Replays
+pub mod Numbers
+pub mod Decoding
+pub mod OnCard
+pub mod Differences
+pub mod Samples

@@ -1,0 +1,71 @@
+-- The cards of document 01's examples E1 and E2, computed from the definitions; the theorem of decoding at E1.
+use mathlib.Core.Path.{_≡_, refl}
+use mathlib.Core.List.{List, [], _∷_, _++_}
+use Prim.Native.Nat.{ℕ}
+use lib.Dec.{ltb, leb, lit<, lit≤}
+use lib.IntN.{negsuc}
+use lib.ListN.{getD}
+use borrow.Author.Tests.{ltb-true, leb-true}
+use Rattle.counting.specs.Counting.{sum, largest, every, any}
+use Rattle.counting.proofs.Ranges.{every-at}
+use Rattle.bits.specs.Bits.{bit, setOf}
+use Rattle.schedule.specs.Plan.{Sheet}
+use Rattle.schedule.specs.ListPlan.{Order, ready, firstMinute, startOf, placeAll}
+use Rattle.tables.specs.Tables.{sheetOf, Fit}
+use Rattle.card.specs.Card.{joined, rowBytes, trailerBytes, cardBytes, cardOf, latenessOf}
+use Rattle.card.specs.Decoding.{Decodes}
+use Rattle.card.proofs.Decoding.{card-decodes}
+
+abbrev needs : List ℕ
+needs = 1 ∷ 2 ∷ 1 ∷ []
+
+abbrev lengths : List ℕ
+lengths = 10 ∷ 20 ∷ 10 ∷ []
+
+abbrev pub e1 : Sheet
+e1 = sheetOf needs lengths (0 ∷ 0 ∷ 0 ∷ []) 3 2
+
+-- E1: "Its order is 0, 2, 1, and its card has 47 bytes."
+abbrev pub order : List ℕ
+order = 0 ∷ 2 ∷ 1 ∷ []
+
+abbrev pub bytes : List ℕ
+bytes =
+    0 ∷ 0 ∷ 10 ∷ 0 ∷ 1 ∷ 0 ∷ 0 ∷ 0 ∷ 0 ∷ 0 ∷ 0 ∷ 0
+    ∷ 10 ∷ 0 ∷ 30 ∷ 0 ∷ 3 ∷ 0 ∷ 0 ∷ 0 ∷ 0 ∷ 0 ∷ 0 ∷ 0
+    ∷ 0 ∷ 0 ∷ 10 ∷ 0 ∷ 2 ∷ 0 ∷ 0 ∷ 0 ∷ 0 ∷ 0 ∷ 0 ∷ 0
+    ∷ 0 ∷ 2 ∷ 1
+    ∷ 36 ∷ 0 ∷ 0 ∷ 0 ∷ 30 ∷ 0 ∷ 3 ∷ 0 ∷ []
+
+pub e1-card : cardOf e1 order ≡ bytes
+unfolding bit setOf sum largest any firstMinute startOf placeAll joined rowBytes trailerBytes cardBytes
+e1-card = refl
+
+-- E2: "n = 0, N = 1: end 0, a card of 8 zero bytes."
+pub e2-card : cardOf (sheetOf [] [] [] 0 1) [] ≡ 0 ∷ 0 ∷ 0 ∷ 0 ∷ 0 ∷ 0 ∷ 0 ∷ 0 ∷ []
+unfolding sum largest joined rowBytes trailerBytes cardBytes
+e2-card = refl
+
+-- "down to -2879"
+pub lowest-lateness : latenessOf 1 2880 ≡ negsuc 2878
+lowest-lateness = refl
+
+-- ---- E1 meets what the theorem of decoding asks
+
+e1-fit : Fit needs lengths 3 2
+unfolding every
+e1-fit = record {
+  few = lit≤ tt;
+  some = lit< tt;
+  most = lit≤ tt;
+  narrow = λ j l. leb-true (getD needs j 0) 2 (every-at 3 (λ j. leb (getD needs j 0) 2) refl j l);
+  lasting = λ j l. ltb-true 0 (getD lengths j 0) (every-at 3 (λ j. ltb 0 (getD lengths j 0)) refl j l);
+  short = λ j l. leb-true (getD lengths j 0) 1440 (every-at 3 (λ j. leb (getD lengths j 0) 1440) refl j l);
+}
+
+e1-order : Order e1 order
+unfolding bit every ready
+e1-order = record { all = refl; follows = (refl, (refl, (refl, tt))) }
+
+pub e1-decodes : (rest : List ℕ) → Decodes e1 order (cardOf e1 order ++ rest)
+e1-decodes rest = card-decodes needs lengths (0 ∷ 0 ∷ 0 ∷ []) 3 2 e1-fit order e1-order rest

@@ -1,0 +1,41 @@
+-- Document 01: plan card.
+use mathlib.Core.List.{List, [], _∷_, _++_}
+use Prim.Native.Nat.{ℕ, zero, suc, _*_, _/_, _%_, _^_}
+use lib.IntN.{ℤ, pos, _-ℤ_}
+use Rattle.bits.specs.Bits.{setOf}
+use Rattle.schedule.specs.Plan.{Sheet, finish}
+use Rattle.schedule.specs.ListPlan.{listPlan}
+use Rattle.schedule.specs.TieRule.{endOf}
+
+-- f 0, then f 1, and so on below n, one behind another
+unfoldable pub joined : ℕ → (ℕ → List ℕ) → List ℕ
+joined zero f = []
+joined (suc n) f = joined n f ++ f n
+
+-- "Numbers of several bytes are little-endian": the k lowest bytes of x, the lowest first
+abbrev pub bytesOf : ℕ → ℕ → List ℕ
+bytesOf k x = joined k (λ i. x / 2 ^ (8 * i) % 256 ∷ [])
+
+-- a row: "start (2 bytes), end (2), module set (8, bit m for module m)"
+unfoldable pub rowBytes : ℕ → ℕ → ℕ → List ℕ
+rowBytes start end modules = bytesOf 2 start ++ (bytesOf 2 end ++ bytesOf 8 modules)
+
+-- "a trailer: offset of the order (4), plan's end (2), n (2)"
+unfoldable pub trailerBytes : ℕ → ℕ → List ℕ
+trailerBytes n end = bytesOf 4 (12 * n) ++ (bytesOf 2 end ++ bytesOf 2 n)
+
+-- "n rows of 12 bytes in job order", "then the order, a byte per job", "then a trailer"
+unfoldable pub cardBytes : ℕ → (ℕ → List ℕ) → List ℕ → ℕ → List ℕ
+cardBytes n row order end = joined n row ++ (order ++ trailerBytes n end)
+
+-- the row of job j in the list plan of the order o
+abbrev pub rowOf : Sheet → List ℕ → ℕ → List ℕ
+rowOf S o j = rowBytes (listPlan S o .start j) (finish S (listPlan S o) j) (setOf (S .modules) (listPlan S o .uses j))
+
+-- the card of the list plan of the order o
+abbrev pub cardOf : Sheet → List ℕ → List ℕ
+cardOf S o = cardBytes (S .jobs) (rowOf S o) o (endOf S o)
+
+-- "Lateness of a job is its end minus its departure and may be negative"
+abbrev pub latenessOf : ℕ → ℕ → ℤ
+latenessOf end departure = pos end -ℤ pos departure

@@ -1,0 +1,4 @@
+-- The plan card: its bytes, how they are read back, and the slots from which they are written.
+pub mod Card
+pub mod Decoding
+pub mod Slots
