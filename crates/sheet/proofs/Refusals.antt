@@ -64,6 +64,13 @@ module _ (jobs : ℕ → Job) (n : ℕ) (labels : List ℕ) (N : ℕ) (out : Lis
       same-number _ (write-refusal jobs n labels N (length out)) k write-number
       (refused-exactly (write-checks jobs n labels N (length out)) k h)
 
+  pub write-answered : (write-answer jobs n labels N out .refusal ≡ 0)
+      ↔ ((i : ℕ) → i < length (write-checks jobs n labels N (length out))
+      → getD (write-checks jobs n labels N (length out)) i (0, false) .1 ≡ false)
+  write-answered =
+      same-number _ (write-refusal jobs n labels N (length out)) 0 write-number
+      (answered-exactly (write-checks jobs n labels N (length out)) refl)
+
   -- a refused call writes no byte and answers the length 0
   pub write-refused-leaves : (write-answer jobs n labels N out .refusal ≡ 0 → ⊥)
       → (write-leaves jobs n labels N out ≡ out) × (write-answer jobs n labels N out .length ≡ 0)
