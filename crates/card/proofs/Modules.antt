@@ -22,11 +22,6 @@ use Rattle.card.specs.Slots.{union}
 
 -- ---- tests of sets, and their union
 
-pub any-same : (n : ℕ) (p q : ℕ → Bool) → ((i : ℕ) → i < n → p i ≡ q i) → any n p ≡ any n q
-unfolding any
-any-same zero p q h = refl
-any-same (suc n) p q h = ap₂ _||_ (any-same n p q (below-suc n h)) (h n (le-refl _))
-
 pub only-bit : (b : Bool) (x m : ℕ) → bit (only b x) m ≡ (b && bit x m)
 only-bit true x m = refl
 only-bit false x m = bit-none m

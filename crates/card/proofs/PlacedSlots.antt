@@ -10,6 +10,7 @@ use lib.ListN.{length, getD, set, replicate, length-set, length-replicate}
 use lib.Seq.{getD-set-same, getD-set-other}
 use borrow.Author.Tests.{eqb-true, eqb-false}
 use Rattle.counting.specs.Counting.{only}
+use Rattle.counting.proofs.Ranges.{any-same}
 use Rattle.bits.specs.Bits.{bit, setOf}
 use Rattle.bits.proofs.Digits.{bit-none}
 use Rattle.bits.proofs.Sets.{bit-setOf}
@@ -18,7 +19,7 @@ use Rattle.schedule.specs.ListPlan.{PartPlan, occupies, free, lowest, place, pl
 use Rattle.tables.specs.Tables.{sheetOf}
 use Rattle.card.specs.declared.Slots.{Slots}
 use Rattle.card.specs.Slots.{withSlot, busyAt, outside, lowestOutside}
-use Rattle.card.proofs.Modules.{bit-union, any-same, only-bit, lowest-same}
+use Rattle.card.proofs.Modules.{bit-union, only-bit, lowest-same}
 
 -- no job has a slot
 unfoldable pub noSlots : Slots

@@ -9,8 +9,8 @@ use lib.ListN.{getD, length, take, drop, length-drop, length-append, take-append
 use lib.Seq.{getD-take, getD-drop, take-at, drop-at, drop-drop, drop-append-le, take-append-le, length-take-le}
 use borrow.Rule.Slice.PartMut.{putMid}
 use Rattle.counting.proofs.Tests.{less-or-not}
-use Rattle.words.specs.Words.{u16-at, u32-at}
-use Rattle.memory.specs.Entries.{set-at, EntryAhead, EntryOf, entry-at, Hit, Adds}
+use Rattle.words.specs.Words.{u16At, u32At}
+use Rattle.memory.specs.Entries.{setAt, EntryAhead, EntryOf, entryAt, Hit, Adds}
 
 -- false is not true
 pub no : {A : Type 0} → false ≡ true → A
@@ -57,7 +57,7 @@ module _ (m : List ℕ) (jobs : ℕ) (ends : List ℕ) (u l : ℕ) where
   -- an entry e is written at a, the start of the s-th entry
   pub adds-at : (e : List ℕ) (a s : ℕ) → a ≡ s * 46 → a + 46 ≤ length m → EntryOf e jobs ends u l
       → Adds m (putMid a (a + 46 - a) m e) jobs ends u l
-  unfolding entry-at
+  unfolding entryAt
   adds-at e a s q h y =
       let z : a + 46 - a ≡ 46 = omega arith in
       rw (z, drop-drop 46 a m) (record {
@@ -69,7 +69,7 @@ module _ (m : List ℕ) (jobs : ℕ) (ends : List ℕ) (u l : ℕ) where
       written = take a m ++ (e ++ drop (a + 46) m)
 
       go : (i : ℕ) → i < length m / 46 → (i < s) ⊎ (s ≤ i) → (s < i) ⊎ (i ≤ s)
-          → (entry-at written i ≡ entry-at m i) ⊎ EntryOf (entry-at written i) jobs ends u l
+          → (entryAt written i ≡ entryAt m i) ⊎ EntryOf (entryAt written i) jobs ends u l
       go i g (inl x) w = inl (new-before m e a h (y .size) (i * 46) (omega arith))
       go i g (inr x) (inl w) = inl (ap (take 46) (new-after m e a h (y .size) (i * 46) (omega arith)))
       go i g (inr x) (inr w) =
@@ -79,23 +79,23 @@ module _ (m : List ℕ) (jobs : ℕ) (ends : List ℕ) (u l : ℕ) where
 
   pub hit-at : (a s : ℕ) → a ≡ s * 46 → s < length m / 46 → EntryAhead (take (a + 46 - a) (drop a m)) jobs ends u l
       → Hit m jobs ends u l
-  unfolding entry-at
+  unfolding entryAt
   hit-at a s q h o =
       let z : a + 46 - a ≡ 46 = omega arith in
       record { at = s; inside = h; ahead = rw (z, q) at o }
 
 -- ---- all zero
 
-zero-number : (n a i : ℕ) → i + 1 < 46 → a + 46 ≤ n → u16-at (take 46 (drop a (replicate n 0))) i ≡ 0
-unfolding u16-at
+zero-number : (n a i : ℕ) → i + 1 < 46 → a + 46 ≤ n → u16At (take 46 (drop a (replicate n 0))) i ≡ 0
+unfolding u16At
 zero-number n a i h g = omega (arith, one i (omega arith), one (i + 1) h)
   where
     one : (i : ℕ) → i < 46 → getD {A = ℕ} (take 46 (drop a (replicate n 0))) i 0 ≡ 0
     one i h = getD-take 46 (drop a (replicate n 0)) i 0 h ∙ getD-drop a (replicate n 0) i 0 ∙ getD-replicate n (a + i) 0 0 (omega arith)
 
 -- no entry has a set
-pub zero-sets : (m : List ℕ) (n : ℕ) → m ≡ replicate n 0 → (k : ℕ) → k < length m / 46 → set-at (entry-at m k) ≡ 0
-unfolding entry-at u32-at
+pub zero-sets : (m : List ℕ) (n : ℕ) → m ≡ replicate n 0 → (k : ℕ) → k < length m / 46 → setAt (entryAt m k) ≡ 0
+unfolding entryAt u32At
 zero-sets m n e k l =
     let q : length m ≡ n = ap length e ∙ length-replicate n 0 in
     let a = zero-number n (k * 46) 0 (omega arith) (omega arith) in

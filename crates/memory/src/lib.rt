@@ -4,7 +4,7 @@ ghost use mathlib.Core.Path.{_≡_};
 ghost use mathlib.Core.Bool.{true};
 ghost use Prim.Native.Nat.{ℕ, _+_, _*_, _<_, _≤_, max};
 ghost use lib.ListN.{length, getD, replicate};
-ghost use Rattle.memory.specs.Entries.{group-of, EntryAhead, EntryOf, Hit, Adds};
+ghost use Rattle.memory.specs.Entries.{groupOf, EntryAhead, EntryOf, Hit, Adds};
 
 // Whether an end is no later than another or than minute l.
 fn within(x: u16, end: u16, l: u16) -> bool
@@ -55,7 +55,7 @@ fn store(entry: &mut [u8], ends: &[u16; 20], jobs: usize, unplaced: u32, last: u
 // Where a memory of len bytes has the entries of a set.
 fn group_at(len: usize, unplaced: u32) -> usize
     requires { ⌜ 736 ≤ len ⌝ }
-    ensures { λ r. ⌜ (r ≡ group-of len unplaced * 736) × (r + 736 ≤ len) ⌝ }
+    ensures { λ r. ⌜ (r ≡ groupOf len unplaced * 736) × (r + 736 ≤ len) ⌝ }
 {
     (unplaced as usize) % (len / 736) * 736
 }

@@ -1,4 +1,4 @@
--- Validity as a computed test, and that it says the same.
+-- Validity as a computed test; `test-valid` and `valid-test` say that it is the statement.
 use mathlib.Core.Path.{_≡_, refl}
 use mathlib.Core.Logic.{_⊎_, inl, inr, _≢_, ⊎-elim}
 use mathlib.Core.Bool.{Bool, true, false, not, _&&_, _||_}

@@ -18,7 +18,7 @@ use Rattle.tables.specs.Tables.{sheetOf}
 use Rattle.placement.specs.declared.Part.{Part}
 use Rattle.placement.specs.Part.{wordOf}
 use Rattle.placement.proofs.Parts.{left-count}
-use Rattle.memory.specs.Entries.{set-at, end-at, entry-at, EntryOf, Hit, Adds}
+use Rattle.memory.specs.Entries.{setAt, endAt, entryAt, EntryOf, Hit, Adds}
 use Rattle.memory.proofs.Slots.{zero-sets}
 use Rattle.search.specs.Search.{Known, StandsFor, Remembered}
 
@@ -58,8 +58,8 @@ module _ (need minutes earlier : List ℕ) (jobs modules : ℕ) (part : Part) (k
       i′ : k < length m / 46
       i′ = rw (a .size) at i
 
-      go : (entry-at m′ k ≡ entry-at m k) ⊎ EntryOf (entry-at m′ k) jobs (part .ends) (part .unplaced) (part .last)
-          → (v : List ℕ) × StandsFor S (entry-at m′ k) v × CannotBeat S e v
+      go : (entryAt m′ k ≡ entryAt m k) ⊎ EntryOf (entryAt m′ k) jobs (part .ends) (part .unplaced) (part .last)
+          → (v : List ℕ) × StandsFor S (entryAt m′ k) v × CannotBeat S e v
       go (inl q) =
           let v = h k i′ (rw q at p) in
           (v .0, subst (λ (x : List ℕ). StandsFor S x (v .0)) (sym q) (v .1), v .2)
@@ -79,8 +79,8 @@ module _ (need minutes earlier : List ℕ) (jobs modules : ℕ) (part : Part) (k
       → Remembered S m e → Hit m jobs (part .ends) (part .unplaced) l → CannotBeat S e w
   unfolding Remembered
   hit-cut m e l pos none h t =
-      let x = entry-at m (t .at) in
-      let q : set-at x ≡ part .unplaced = t .ahead .set in
+      let x = entryAt m (t .at) in
+      let q : setAt x ≡ part .unplaced = t .ahead .set in
       let r = h (t .at) (t .inside) (rw q (some-ones (part .unplaced) pos)) in
       let v = r .0 in
       let st = r .1 in
@@ -91,7 +91,7 @@ module _ (need minutes earlier : List ℕ) (jobs modules : ℕ) (part : Part) (k
         last = omega (arith, st .last, t .ahead .last);
         ends = λ i k a.
             let b : partOf S w .placed i ≡ true = sym (same i k) ∙ a in
-            let y : end-at x i ≡ finish S (partOf S v .plan) i = rw a at (st .ends i k) in
+            let y : endAt x i ≡ finish S (partOf S v .plan) i = rw a at (st .ends i k) in
             let z : getD (part .ends) i 0 ≡ finish S (partOf S w .plan) i = rw b at (known .is .figures .ends i k) in
             omega (arith, t .ahead .end i k);
       }) none (omega (arith, left-count need minutes earlier jobs modules (known .fit) part w (known .is))) (r .2)

@@ -30,7 +30,7 @@ use Rattle.placement.specs.Part.{wordOf, IsPart, Placeable, Placed}
 use Rattle.placement.proofs.Parts.{after-small, left-small, left-count, all-placed, start-short, placeable, fewer, placed-part}
 use Rattle.memory.specs.Entries.{Hit, Adds}
 use Rattle.search.specs.declared.Best.{Best}
-use Rattle.search.specs.Search.{Tails, Known, theoryPart, JobStart, JobStarts, HeldAfter, SomeTooLong, Hopeless, Remembered, found-of, better-of, State}
+use Rattle.search.specs.Search.{Tails, Known, theoryPart, JobStart, JobStarts, HeldAfter, SomeTooLong, Hopeless, Remembered, foundOf, betterOf, State}
 use Rattle.search.proofs.Recalls.{remembered-less, remembered-adds, hit-cut}
 
 module _ (need minutes earlier tails : List ℕ) (jobs modules : ℕ) where
@@ -38,7 +38,7 @@ module _ (need minutes earlier tails : List ℕ) (jobs modules : ℕ) where
   S = sheetOf need minutes earlier jobs modules
 
   -- what is dealt with under another name
-  state-same : (X Y : List ℕ → Type 0) (b : Best) (m : List ℕ) → (Swept S (b .limit) X (found-of jobs b) → Swept S (b .limit) Y (found-of jobs b))
+  state-same : (X Y : List ℕ → Type 0) (b : Best) (m : List ℕ) → (Swept S (b .limit) X (foundOf jobs b) → Swept S (b .limit) Y (foundOf jobs b))
       → State need minutes earlier tails jobs modules X b m → State need minutes earlier tails jobs modules Y b m
   state-same X Y b m f s = record { fit = s .fit; chains = s .chains; order = s .order; swept = f (s .swept); remembered = s .remembered }
 
@@ -66,8 +66,8 @@ module _ (need minutes earlier tails : List ℕ) (jobs modules : ℕ) where
       word-is = ap (λ (k : ℕ). take k (part .order)) (let e : jobs ≡ part .placed = omega (arith, known .is .figures .sizes) in e)
 
       pub visit-leaf : (b : Best) (m : List ℕ) → State need minutes earlier tails jobs modules (Before w) b m
-          → State need minutes earlier tails jobs modules (Through w) (better-of jobs part b) m × (better-of jobs part b .limit ≡ b .limit)
-      unfolding better-of
+          → State need minutes earlier tails jobs modules (Through w) (betterOf jobs part b) m × (betterOf jobs part b .limit ≡ b .limit)
+      unfolding betterOf
       visit-leaf b m s = go (ltb (largest jobs (λ i. getD (part .ends) i 0)) (b .end)) refl
         where
           go : (t : Bool) → ltb (largest jobs (λ i. getD (part .ends) i 0)) (b .end) ≡ t
@@ -90,20 +90,20 @@ module _ (need minutes earlier tails : List ℕ) (jobs modules : ℕ) where
                   chains = s .chains;
                   order = known .is .figures .order-length;
                   swept = subst (λ (g : Found). Swept S (b .limit) (Through w) g) same
-                      (swept-better S (b .limit) w (found-of jobs b) whole (omega (arith, end-is)) (s .swept));
+                      (swept-better S (b .limit) w (foundOf jobs b) whole (omega (arith, end-is)) (s .swept));
                   remembered = remembered-less S m (b .end) _ (omega arith) (s .remembered);
                 },
                 refl,
               )
           go false e =
               let l = ltb-false (largest jobs (λ i. getD (part .ends) i 0)) (b .end) e in
-              (state-same (Before w) (Through w) b m (swept-later S (b .limit) w (found-of jobs b) whole (omega (arith, end-is))) s, refl)
+              (state-same (Before w) (Through w) b m (swept-later S (b .limit) w (foundOf jobs b) whole (omega (arith, end-is))) s, refl)
 
     -- ---- cuts
 
     pub visit-cut : (b : Best) (m : List ℕ) → CannotBeat S (b .end) w → State need minutes earlier tails jobs modules (Before w) b m
         → State need minutes earlier tails jobs modules (Through w) b m
-    visit-cut b m c = state-same (Before w) (Through w) b m (swept-cut S (b .limit) w (found-of jobs b) c)
+    visit-cut b m c = state-same (Before w) (Through w) b m (swept-cut S (b .limit) w (foundOf jobs b) c)
 
     -- a job with a start may come next
     started : (j s : ℕ) → JobStart need minutes earlier jobs modules part j s → s < 65535 → ready S (P .placed) j ≡ true
@@ -174,7 +174,7 @@ module _ (need minutes earlier tails : List ℕ) (jobs modules : ℕ) where
       child-none b m e h =
           subst (λ (k : ℕ). State need minutes earlier tails jobs modules (Upto w k) b m) (sym (add-one job))
           (state-same (Upto w job) (Upto w (suc job)) b m
-          (child-not-ready S (b .limit) w job (found-of jobs b) (go (true-or-false (ready S (P .placed) job)))) h)
+          (child-not-ready S (b .limit) w job (foundOf jobs b) (go (true-or-false (ready S (P .placed) job)))) h)
         where
           go : (ready S (P .placed) job ≡ true) ⊎ (ready S (P .placed) job ≡ false) → ready S (P .placed) job ≡ false
           go (inr r) = r
@@ -204,25 +204,25 @@ module _ (need minutes earlier tails : List ℕ) (jobs modules : ℕ) where
               → State need minutes earlier tails jobs modules (Before (wordOf child)) b m
           child-enter b m h =
               subst (λ (v : List ℕ). State need minutes earlier tails jobs modules (Before v) b m) (sym (child-is .word))
-              (state-same (Upto w job) (Before (w ++ (job ∷ []))) b m (child-before S (b .limit) w job (found-of jobs b)) h)
+              (state-same (Upto w job) (Before (w ++ (job ∷ []))) b m (child-before S (b .limit) w job (foundOf jobs b)) h)
 
           pub child-leave : (b : Best) (m : List ℕ) → State need minutes earlier tails jobs modules (Through (wordOf child)) b m
               → State need minutes earlier tails jobs modules (Upto w (job + 1)) b m
           child-leave b m h =
               subst (λ (k : ℕ). State need minutes earlier tails jobs modules (Upto w k) b m) (sym (add-one job))
-              (state-same (Through (w ++ (job ∷ []))) (Upto w (suc job)) b m (child-after S (b .limit) w job (found-of jobs b))
+              (state-same (Through (w ++ (job ∷ []))) (Upto w (suc job)) b m (child-after S (b .limit) w job (foundOf jobs b))
               (subst (λ (v : List ℕ). State need minutes earlier tails jobs modules (Through v) b m) (child-is .word) h))
 
     -- ---- all children
 
     pub visit-first : (b : Best) (m : List ℕ) → State need minutes earlier tails jobs modules (Before w) b m
         → State need minutes earlier tails jobs modules (Upto w 0) b m
-    visit-first b m = state-same (Before w) (Upto w 0) b m (children-none S (b .limit) w (found-of jobs b))
+    visit-first b m = state-same (Before w) (Upto w 0) b m (children-none S (b .limit) w (foundOf jobs b))
 
     pub visit-all : (b : Best) (m : List ℕ) (k : ℕ) → 0 < ones (part .unplaced) → k ≡ jobs
         → State need minutes earlier tails jobs modules (Upto w k) b m → State need minutes earlier tails jobs modules (Through w) b m
     visit-all b m k pos e s =
-        state-same (Upto w jobs) (Through w) b m (children-all S (b .limit) w (found-of jobs b) (omega (arith, size)))
+        state-same (Upto w jobs) (Through w) b m (children-all S (b .limit) w (foundOf jobs b) (omega (arith, size)))
         (subst (λ (n : ℕ). State need minutes earlier tails jobs modules (Upto w n) b m) e s)
 
     pub visit-remember : (b : Best) (m m′ : List ℕ) → State need minutes earlier tails jobs modules (Through w) b m

@@ -19,7 +19,7 @@ use Rattle.tables.specs.Tables.{sheetOf, Fit}
 use Rattle.placement.specs.declared.Part.{Part}
 use Rattle.placement.specs.Profile.{heldAfter}
 use Rattle.placement.specs.Part.{wordOf, IsPart}
-use Rattle.memory.specs.Entries.{set-at, last-at, end-at, entry-at}
+use Rattle.memory.specs.Entries.{setAt, lastAt, endAt, entryAt}
 use Rattle.search.specs.declared.Best.{Best}
 use Rattle.search.specs.declared.Choice.{Choice}
 
@@ -84,23 +84,23 @@ Hopeless p at tails jobs modules l end =
 -- the entry is that of the part-plan of v
 pub record StandsFor (S : Sheet) (e v : List ℕ) : Type 0 where
   pub follows : Follows S noJobs v
-  pub set : (i : ℕ) → i < S .jobs → bit (set-at e) i ≡ not (partOf S v .placed i)
-  pub last : last-at e ≡ partOf S v .last
-  pub ends : (i : ℕ) → i < S .jobs → end-at e i ≡ only (partOf S v .placed i) (finish S (partOf S v .plan) i)
+  pub set : (i : ℕ) → i < S .jobs → bit (setAt e) i ≡ not (partOf S v .placed i)
+  pub last : lastAt e ≡ partOf S v .last
+  pub ends : (i : ℕ) → i < S .jobs → endAt e i ≡ only (partOf S v .placed i) (finish S (partOf S v .plan) i)
 
 -- each entry with a set is that of a part-plan which cannot beat e
 unfoldable pub Remembered : Sheet → List ℕ → ℕ → Type 0
-Remembered S m e = (k : ℕ) → k < length m / 46 → 0 < set-at (entry-at m k)
-    → (v : List ℕ) × StandsFor S (entry-at m k) v × CannotBeat S e v
+Remembered S m e = (k : ℕ) → k < length m / 46 → 0 < setAt (entryAt m k)
+    → (v : List ℕ) × StandsFor S (entryAt m k) v × CannotBeat S e v
 
 -- ---- the best order so far
 
-abbrev pub found-of : ℕ → Best → Found
-found-of jobs b = record { end = b .end; order = take jobs (b .order) }
+abbrev pub foundOf : ℕ → Best → Found
+foundOf jobs b = record { end = b .end; order = take jobs (b .order) }
 
 -- the part-plan's order and end where it ends before the best so far
-unfoldable pub better-of : ℕ → Part → Best → Best
-better-of jobs p b =
+unfoldable pub betterOf : ℕ → Part → Best → Best
+betterOf jobs p b =
     elim (ltb (largest jobs (λ i. getD (p .ends) i 0)) (b .end)) [
       | true ↦ record { end = largest jobs (λ i. getD (p .ends) i 0); limit = b .limit; order = p .order }
       | false ↦ b
@@ -111,7 +111,7 @@ pub record State (need minutes earlier tails : List ℕ) (jobs modules : ℕ) (X
   pub fit : Fit need minutes jobs modules
   pub chains : Tails (sheetOf need minutes earlier jobs modules) tails
   pub order : length (best .order) ≡ 20
-  pub swept : Swept (sheetOf need minutes earlier jobs modules) (best .limit) X (found-of jobs best)
+  pub swept : Swept (sheetOf need minutes earlier jobs modules) (best .limit) X (foundOf jobs best)
   pub remembered : Remembered (sheetOf need minutes earlier jobs modules) memory (best .end)
 
 -- The same, at a part-plan.

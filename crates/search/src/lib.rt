@@ -4,7 +4,7 @@ ghost use mathlib.Core.Bool.{true};
 ghost use Prim.Native.Nat.{ℕ, _+_, _-_, _*_, _<_, _≤_, min};
 ghost use lib.ListN.{length, getD, take, replicate};
 ghost use Rattle.placement.specs.Profile.{heldAfter};
-ghost use Rattle.search.specs.Search.{Known, JobStart, JobStarts, HeldAfter, SomeTooLong, Hopeless, better-of, Visiting, Visited, ChainsOf, Chosen, ChoiceOf, Reached, Limit, Answer};
+ghost use Rattle.search.specs.Search.{Known, JobStart, JobStarts, HeldAfter, SomeTooLong, Hopeless, betterOf, Visiting, Visited, ChainsOf, Chosen, ChoiceOf, Reached, Limit, Answer};
 ghost use Rattle.schedule.proofs.Places.{Before, Upto, Through};
 ghost use Rattle.placement.specs.Part.{wordOf};
 ghost use Rattle.counting.specs.Counting.{only, largest};
@@ -177,7 +177,7 @@ fn last_end(ends: &[u16; 20], jobs: usize) -> u16
 // A finished part-plan, where it ends before the best so far.
 fn finished(part: Part, jobs: usize, best: Best) -> Best
     requires { ⌜ jobs ≤ 20 ⌝ }
-    ensures { λ r. ⌜ r ≡ better-of jobs part best ⌝ }
+    ensures { λ r. ⌜ r ≡ betterOf jobs part best ⌝ }
 {
     let end = last_end(&part.ends, jobs);
     if end < best.end {

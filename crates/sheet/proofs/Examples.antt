@@ -12,13 +12,13 @@ use Rattle.counting.specs.Counting.{sum, any}
 use Rattle.counting.proofs.Tests.{less-or-not}
 use Rattle.counting.proofs.Ranges.{any-none}
 use Rattle.sheet_format.specs.declared.Job.{Job}
-use Rattle.sheet_format.specs.Format.{byte-at, u16-at, u32-at, record-at, record-bytes, trailer-bytes, joined, sheet-bytes, jobs-in}
+use Rattle.sheet_format.specs.Format.{byteAt, u16At, u32At, recordAt, recordBytes, trailerBytes, joined, sheetBytes, jobsIn}
 use Rattle.sheet_format.specs.Format.{places}
-use Rattle.sheet_format.specs.Checks.{outside, faulty, first-failing}
+use Rattle.sheet_format.specs.Checks.{outside, faulty, firstFailing}
 use Rattle.sheet.specs.declared.Reading.{Reading}
 use Rattle.sheet.specs.Read.{answered, reading}
-use Rattle.sheet.specs.Label.{label-refusal, label-of}
-use Rattle.sheet.specs.Write.{over, write-answer, write-leaves}
+use Rattle.sheet.specs.Label.{labelRefusal, labelOf}
+use Rattle.sheet.specs.Write.{over, writeAnswer, writeLeaves}
 use Rattle.sheet.proofs.WrittenReads.{written-sheet, written-reads}
 use Rattle.sheet.proofs.ReadIsWritten.{rewrite-leaves, read-is-written-bytes}
 
@@ -42,30 +42,30 @@ e1 =
     ++ (1 ∷ 1 ∷ 10 ∷ 0 ∷ 0 ∷ 0 ∷ 0 ∷ 0 ∷ 30 ∷ 0 ∷ [])
     ++ (3 ∷ 0 ∷ 0 ∷ 0 ∷ 3 ∷ 0 ∷ 2 ∷ 0 ∷ [])
 
-pub e1-reads : reading e1 ≡ answered 3 (jobs-in jobs) 2
-unfolding e1 labels jobs job reading first-failing outside faulty any sum places joined record-at u16-at u32-at
+pub e1-reads : reading e1 ≡ answered 3 (jobsIn jobs) 2
+unfolding e1 labels jobs job reading firstFailing outside faulty any sum places joined recordAt u16At u32At
 e1-reads = refl
 
-pub e1-label : label-of e1 1 ≡ 66 ∷ []
-unfolding e1 labels label-of first-failing outside faulty any sum record-at u16-at u32-at
+pub e1-label : labelOf e1 1 ≡ 66 ∷ []
+unfolding e1 labels labelOf firstFailing outside faulty any sum recordAt u16At u32At
 e1-label = refl
 
-pub e1-no-label : label-refusal e1 3 ≡ 14
-unfolding e1 labels first-failing outside faulty any sum record-at u16-at u32-at
+pub e1-no-label : labelRefusal e1 3 ≡ 14
+unfolding e1 labels firstFailing outside faulty any sum recordAt u16At u32At
 e1-no-label = refl
 
 -- into a buffer that is longer than the sheet
-pub e1-written : write-leaves (jobs-in jobs) 3 labels 2 (replicate 45 7) ≡ e1 ++ (7 ∷ 7 ∷ 7 ∷ 7 ∷ [])
-unfolding e1 labels jobs job write-leaves first-failing outside faulty any sum sheet-bytes record-bytes trailer-bytes joined
+pub e1-written : writeLeaves (jobsIn jobs) 3 labels 2 (replicate 45 7) ≡ e1 ++ (7 ∷ 7 ∷ 7 ∷ 7 ∷ [])
+unfolding e1 labels jobs job writeLeaves firstFailing outside faulty any sum sheetBytes recordBytes trailerBytes joined
 e1-written = refl
 
 -- the round trip's premise holds of it
-e1-answered : write-answer (jobs-in jobs) 3 labels 2 (replicate 45 7) .refusal ≡ 0
-unfolding labels jobs job write-answer first-failing outside faulty any sum sheet-bytes
+e1-answered : writeAnswer (jobsIn jobs) 3 labels 2 (replicate 45 7) .refusal ≡ 0
+unfolding labels jobs job writeAnswer firstFailing outside faulty any sum sheetBytes
 e1-answered = refl
 
-pub e1-back : reading (written-sheet (jobs-in jobs) 3 labels 2 (replicate 45 7)) ≡ answered 3 (jobs-in jobs) 2
-e1-back = written-reads (jobs-in jobs) 3 labels 2 (replicate 45 7) e1-answered
+pub e1-back : reading (written-sheet (jobsIn jobs) 3 labels 2 (replicate 45 7)) ≡ answered 3 (jobsIn jobs) 2
+e1-back = written-reads (jobsIn jobs) 3 labels 2 (replicate 45 7) e1-answered
 
 -- ---- 5 before 6 before 7
 
@@ -75,35 +75,35 @@ one byte len minutes =
     byte ∷ len ∷ 1 ∷ minutes ∷ 0 ∷ 0 ∷ 0 ∷ 0 ∷ 0 ∷ 0 ∷ 0 ∷ 1 ∷ 0 ∷ 0 ∷ 0 ∷ 1 ∷ 0 ∷ 1 ∷ 0 ∷ []
 
 pub all-wrong : reading (one 32 2 0) .refusal ≡ 5
-unfolding one reading first-failing outside faulty any sum places joined record-at u16-at u32-at
+unfolding one reading firstFailing outside faulty any sum places joined recordAt u16At u32At
 all-wrong = refl
 
 pub lengths-wrong : reading (one 32 2 1) .refusal ≡ 6
-unfolding one reading first-failing outside faulty any sum places joined record-at u16-at u32-at
+unfolding one reading firstFailing outside faulty any sum places joined recordAt u16At u32At
 lengths-wrong = refl
 
 pub byte-wrong : reading (one 32 1 1) .refusal ≡ 7
-unfolding one reading first-failing outside faulty any sum places joined record-at u16-at u32-at
+unfolding one reading firstFailing outside faulty any sum places joined recordAt u16At u32At
 byte-wrong = refl
 
 pub none-wrong : reading (one 33 1 1) .refusal ≡ 0
-unfolding one reading first-failing outside faulty any sum places joined record-at u16-at u32-at
+unfolding one reading firstFailing outside faulty any sum places joined recordAt u16At u32At
 none-wrong = refl
 
 -- ---- E1 read and written again
 
 -- a list whose bytes are below 256, by a test that computes
-bytes-by-test : (s : List ℕ) → any (length s) (λ i. leb 256 (byte-at s i)) ≡ false → (i : ℕ) → byte-at s i < 256
+bytes-by-test : (s : List ℕ) → any (length s) (λ i. leb 256 (byteAt s i)) ≡ false → (i : ℕ) → byteAt s i < 256
 bytes-by-test s e i =
     ⊎-elim
-    (λ (l : i < length s). leb-false 256 (byte-at s i) (any-none (length s) (λ k. leb 256 (byte-at s k)) e i l))
+    (λ (l : i < length s). leb-false 256 (byteAt s i) (any-none (length s) (λ k. leb 256 (byteAt s k)) e i l))
     (λ (l : length s ≤ i). rw (List·getD-eq-default s 0 l) (omega arith))
     (less-or-not i (length s))
 
 e1-answers : reading e1 .refusal ≡ 0
 e1-answers = ap (λ (r : Reading). r .refusal) e1-reads
 
-e1-bytes : (i : ℕ) → byte-at e1 i < 256
+e1-bytes : (i : ℕ) → byteAt e1 i < 256
 unfolding e1 labels any
 e1-bytes = bytes-by-test e1 refl
 

@@ -7,9 +7,9 @@ use native.Mathlib.Omega.{arith}
 use lib.ListN.{length, take, length-append}
 use lib.Seq.{take-append-seam}
 use Rattle.sheet_format.specs.declared.Job.{Job}
-use Rattle.sheet_format.specs.Figures.{record-size}
-use Rattle.sheet_format.specs.Format.{u16-at, u32-at, record-at, record-bytes, trailer-bytes, joined, sheet-bytes}
-use Rattle.sheet_format.specs.Format.{trailer-at, offset-of, count-of, modules-of, job-of, labels-of}
+use Rattle.sheet_format.specs.Figures.{recordSize}
+use Rattle.sheet_format.specs.Format.{u16At, u32At, recordAt, recordBytes, trailerBytes, joined, sheetBytes}
+use Rattle.sheet_format.specs.Format.{trailerAt, offsetOf, countOf, modulesOf, jobOf, labelsOf}
 use Rattle.sheet_format.proofs.Lists.{joined-split}
 use Rattle.sheet_format.proofs.Parts.{length-records}
 use Rattle.sheet_format.proofs.Digits.{record-read, trailer-read, u16-behind, u32-behind, record-behind}
@@ -17,51 +17,51 @@ use Rattle.sheet.proofs.Writes.{length-sheet}
 
 module _ (jobs : ℕ → Job) (n : ℕ) (labels : List ℕ) (N : ℕ) where
   abbrev s : List ℕ
-  s = sheet-bytes jobs n labels N
+  s = sheetBytes jobs n labels N
 
   abbrev row : ℕ → List ℕ
-  row i = record-bytes (jobs i)
+  row i = recordBytes (jobs i)
 
   abbrev front : ℕ → List ℕ
   front i = labels ++ joined i row
 
   abbrev trailer : List ℕ
-  trailer = trailer-bytes (length labels) n N
+  trailer = trailerBytes (length labels) n N
 
-  length-front : (i : ℕ) → length (front i) ≡ length labels + record-size * i
+  length-front : (i : ℕ) → length (front i) ≡ length labels + recordSize * i
   length-front i = length-append labels (joined i row) ∙ ap (λ (k : ℕ). length labels + k) (length-records i jobs)
 
   split-trailer : s ≡ front n ++ trailer
-  unfolding sheet-bytes
+  unfolding sheetBytes
   split-trailer = sym (append-assoc labels (joined n row) trailer)
 
-  at-trailer : trailer-at s ≡ length labels + record-size * n
+  at-trailer : trailerAt s ≡ length labels + recordSize * n
   at-trailer = omega (arith, length-sheet jobs n labels N)
 
-  pub offset-is : offset-of s ≡ length labels
+  pub offset-is : offsetOf s ≡ length labels
   offset-is =
-      ap₂ u32-at split-trailer (at-trailer ∙ sym (add-zero (length labels + record-size * n)))
-      ∙ u32-behind (front n) trailer (length labels + record-size * n) (length-front n) 0
+      ap₂ u32At split-trailer (at-trailer ∙ sym (add-zero (length labels + recordSize * n)))
+      ∙ u32-behind (front n) trailer (length labels + recordSize * n) (length-front n) 0
       ∙ trailer-read (length labels) n N .0
 
-  pub count-is : count-of s ≡ n
+  pub count-is : countOf s ≡ n
   count-is =
-      ap₂ (λ (l : List ℕ) (k : ℕ). u16-at l (k + 4)) split-trailer at-trailer
-      ∙ u16-behind (front n) trailer (length labels + record-size * n) (length-front n) 4
+      ap₂ (λ (l : List ℕ) (k : ℕ). u16At l (k + 4)) split-trailer at-trailer
+      ∙ u16-behind (front n) trailer (length labels + recordSize * n) (length-front n) 4
       ∙ trailer-read (length labels) n N .1
 
-  pub modules-is : modules-of s ≡ N
+  pub modules-is : modulesOf s ≡ N
   modules-is =
-      ap₂ (λ (l : List ℕ) (k : ℕ). u16-at l (k + 6)) split-trailer at-trailer
-      ∙ u16-behind (front n) trailer (length labels + record-size * n) (length-front n) 6
+      ap₂ (λ (l : List ℕ) (k : ℕ). u16At l (k + 6)) split-trailer at-trailer
+      ∙ u16-behind (front n) trailer (length labels + recordSize * n) (length-front n) 6
       ∙ trailer-read (length labels) n N .2
 
-  pub labels-is : labels-of s ≡ labels
-  unfolding sheet-bytes
+  pub labels-is : labelsOf s ≡ labels
+  unfolding sheetBytes
   labels-is = ap (λ (k : ℕ). take k s) offset-is ∙ take-append-seam labels (joined n row ++ trailer)
 
-  pub job-is : (i : ℕ) → i < n → job-of s i ≡ jobs i
-  unfolding sheet-bytes
+  pub job-is : (i : ℕ) → i < n → jobOf s i ≡ jobs i
+  unfolding sheetBytes
   job-is i l =
       let r = joined-split n row i l in
       let split : s ≡ front i ++ (row i ++ (r .0 ++ trailer)) =
@@ -69,6 +69,6 @@ module _ (jobs : ℕ → Job) (n : ℕ) (labels : List ℕ) (N : ℕ) where
       ∙ ap (λ (x : List ℕ). labels ++ x) (append-assoc (joined i row) (row i ++ r .0) trailer)
       ∙ sym (append-assoc labels (joined i row) ((row i ++ r .0) ++ trailer))
       ∙ ap (λ (x : List ℕ). front i ++ x) (append-assoc (row i) (r .0) trailer) in
-      ap₂ (λ (x : List ℕ) (o : ℕ). record-at x (o + record-size * i)) split offset-is
-      ∙ record-behind (front i) (row i ++ (r .0 ++ trailer)) (length labels + record-size * i) (length-front i)
+      ap₂ (λ (x : List ℕ) (o : ℕ). recordAt x (o + recordSize * i)) split offset-is
+      ∙ record-behind (front i) (row i ++ (r .0 ++ trailer)) (length labels + recordSize * i) (length-front i)
       ∙ record-read (jobs i) (r .0 ++ trailer)

@@ -11,16 +11,16 @@ use Rattle.counting.specs.Counting.{sum}
 use Rattle.counting.proofs.Sums.{sum-same, sum-up}
 use Rattle.counting.proofs.Ranges.{none-any}
 use Rattle.sheet_format.specs.declared.Job.{Job}
-use Rattle.sheet_format.specs.Figures.{most-jobs, most-modules, longest-sheet, record-size, trailer-size}
-use Rattle.sheet_format.specs.Format.{record-bytes, trailer-bytes, joined, label-length, label-lengths, sheet-bytes}
-use Rattle.sheet_format.specs.Format.{offset-of, count-of, job-of, labels-of}
-use Rattle.sheet_format.specs.Checks.{outside, faulty, wrong-bytes}
+use Rattle.sheet_format.specs.Figures.{mostJobs, mostModules, longestSheet, recordSize, trailerSize}
+use Rattle.sheet_format.specs.Format.{recordBytes, trailerBytes, joined, labelLength, labelLengths, sheetBytes}
+use Rattle.sheet_format.specs.Format.{offsetOf, countOf, jobOf, labelsOf}
+use Rattle.sheet_format.specs.Checks.{outside, faulty, wrongBytes}
 use Rattle.sheet_format.proofs.Bounds.{not-outside}
 use Rattle.sheet_format.proofs.Order.{none-failing}
 use Rattle.sheet_format.proofs.Lists.{places-same}
-use Rattle.sheet.specs.Read.{read-checks, read-refusal, answered, reading}
-use Rattle.sheet.specs.Label.{label-refusal, label-of}
-use Rattle.sheet.specs.Write.{write-refusal, write-answer, write-leaves}
+use Rattle.sheet.specs.Read.{readChecks, readRefusal, answered, reading}
+use Rattle.sheet.specs.Label.{labelRefusal, labelOf}
+use Rattle.sheet.specs.Write.{writeRefusal, writeAnswer, writeLeaves}
 use Rattle.sheet.proofs.Answers.{read-answer}
 use Rattle.sheet.proofs.Labels.{label-there}
 use Rattle.sheet.proofs.Writes.{length-sheet, Writes, writes}
@@ -29,22 +29,22 @@ use Rattle.sheet.proofs.Layouts.{offset-is, count-is, modules-is, label
 
 -- what writing leaves, up to the length that it answers
 abbrev pub written-sheet : (ℕ → Job) → ℕ → List ℕ → ℕ → List ℕ → List ℕ
-written-sheet jobs n labels N out = take (write-answer jobs n labels N out .length) (write-leaves jobs n labels N out)
+written-sheet jobs n labels N out = take (writeAnswer jobs n labels N out .length) (writeLeaves jobs n labels N out)
 
 -- the label of job i, cut from the labels run together
 abbrev pub label-in : (ℕ → Job) → List ℕ → ℕ → List ℕ
-label-in jobs labels i = take (label-length (jobs i)) (drop (label-lengths i jobs) labels)
+label-in jobs labels i = take (labelLength (jobs i)) (drop (labelLengths i jobs) labels)
 
 module _ (jobs : ℕ → Job) (n : ℕ) (labels : List ℕ) (N room : ℕ) (w : Writes jobs n labels N room) where
   abbrev sheet : List ℕ
-  sheet = sheet-bytes jobs n labels N
+  sheet = sheetBytes jobs n labels N
 
-  lengths-is : (i : ℕ) → i ≤ n → label-lengths i (job-of sheet) ≡ label-lengths i jobs
+  lengths-is : (i : ℕ) → i ≤ n → labelLengths i (jobOf sheet) ≡ labelLengths i jobs
   lengths-is i l =
-      sum-same i (λ k. label-length (job-of sheet k)) (λ k. label-length (jobs k))
-      (λ k m. ap (λ (j : Job). label-length j) (job-is jobs n labels N k (omega arith)))
+      sum-same i (λ k. labelLength (jobOf sheet k)) (λ k. labelLength (jobs k))
+      (λ k m. ap (λ (j : Job). labelLength j) (job-is jobs n labels N k (omega arith)))
 
-  reads-back : read-refusal sheet ≡ 0
+  reads-back : readRefusal sheet ≡ 0
   reads-back =
       let size = length-sheet jobs n labels N in
       let o = offset-is jobs n labels N in
@@ -52,22 +52,22 @@ module _ (jobs : ℕ → Job) (n : ℕ) (labels : List ℕ) (N room : ℕ) (w : 
       let ls = labels-is jobs n labels N in
       let some = w .short in
       let few = w .few in
-      let total : label-lengths (count-of sheet) (job-of sheet) ≡ length (labels-of sheet) =
-      ap (λ (m : ℕ). label-lengths m (job-of sheet)) c ∙ lengths-is n (omega arith) ∙ w .lengths ∙ sym (ap (length {A = ℕ}) ls) in
-      none-failing (read-checks sheet) (
-        not-outside trailer-size longest-sheet (length sheet) (omega arith) (omega arith),
+      let total : labelLengths (countOf sheet) (jobOf sheet) ≡ length (labelsOf sheet) =
+      ap (λ (m : ℕ). labelLengths m (jobOf sheet)) c ∙ lengths-is n (omega arith) ∙ w .lengths ∙ sym (ap (length {A = ℕ}) ls) in
+      none-failing (readChecks sheet) (
+        not-outside trailerSize longestSheet (length sheet) (omega arith) (omega arith),
         (
-          le-ltb most-jobs (count-of sheet) (omega arith),
+          le-ltb mostJobs (countOf sheet) (omega arith),
           (
-            ap (outside 1 most-modules) (modules-is jobs n labels N) ∙ not-outside 1 most-modules N (w .some) (w .most),
+            ap (outside 1 mostModules) (modules-is jobs n labels N) ∙ not-outside 1 mostModules N (w .some) (w .most),
             (
-              ap not (eq-eqb (offset-of sheet + record-size * count-of sheet + trailer-size) (length sheet) (omega arith)),
+              ap not (eq-eqb (offsetOf sheet + recordSize * countOf sheet + trailerSize) (length sheet) (omega arith)),
               (
-                none-any (count-of sheet) (λ i. faulty (count-of sheet) (job-of sheet i))
+                none-any (countOf sheet) (λ i. faulty (countOf sheet) (jobOf sheet i))
                     (λ i l. ap₂ faulty c (job-is jobs n labels N i (omega arith)) ∙ w .sound i (omega arith)),
                 (
-                  ap not (eq-eqb (label-lengths (count-of sheet) (job-of sheet)) (length (labels-of sheet)) total),
-                  (ap wrong-bytes ls ∙ w .printable, tt),
+                  ap not (eq-eqb (labelLengths (countOf sheet) (jobOf sheet)) (length (labelsOf sheet)) total),
+                  (ap wrongBytes ls ∙ w .printable, tt),
                 ),
               ),
             ),
@@ -78,37 +78,37 @@ module _ (jobs : ℕ → Job) (n : ℕ) (labels : List ℕ) (N room : ℕ) (w : 
   answer-back : reading sheet ≡ answered n jobs N
   answer-back =
       read-answer sheet reads-back
-      ∙ ap₂ (λ (m M : ℕ). answered m (job-of sheet) M) (count-is jobs n labels N) (modules-is jobs n labels N)
+      ∙ ap₂ (λ (m M : ℕ). answered m (jobOf sheet) M) (count-is jobs n labels N) (modules-is jobs n labels N)
       ∙ ap (λ (js : List Job). record { refusal = 0; jobs = js; count = n; modules = N })
-      (places-same n (job-of sheet) jobs (job-is jobs n labels N))
+      (places-same n (jobOf sheet) jobs (job-is jobs n labels N))
 
-  label-back : (i : ℕ) → i < n → (label-refusal sheet i ≡ 0) × (label-of sheet i ≡ label-in jobs labels i)
-  unfolding label-of sheet-bytes sum
+  label-back : (i : ℕ) → i < n → (labelRefusal sheet i ≡ 0) × (labelOf sheet i ≡ label-in jobs labels i)
+  unfolding labelOf sheetBytes sum
   label-back i l =
-      let there : label-refusal sheet i ≡ 0 = sym (label-there sheet i reads-back (omega (arith, count-is jobs n labels N))) in
-      let within = sum-up (suc i) n (λ k. label-length (jobs k)) l in
-      let start : label-lengths i jobs ≤ length labels = omega (arith, w .lengths) in
-      let rest : List ℕ = joined n (λ k. record-bytes (jobs k)) ++ trailer-bytes (length labels) n N in
-      let size : label-length (jobs i) ≤ length (drop (label-lengths i jobs) labels) =
-      rw (length-drop (label-lengths i jobs) labels) (omega (arith, w .lengths)) in (
+      let there : labelRefusal sheet i ≡ 0 = sym (label-there sheet i reads-back (omega (arith, count-is jobs n labels N))) in
+      let within = sum-up (suc i) n (λ k. labelLength (jobs k)) l in
+      let start : labelLengths i jobs ≤ length labels = omega (arith, w .lengths) in
+      let rest : List ℕ = joined n (λ k. recordBytes (jobs k)) ++ trailerBytes (length labels) n N in
+      let size : labelLength (jobs i) ≤ length (drop (labelLengths i jobs) labels) =
+      rw (length-drop (labelLengths i jobs) labels) (omega (arith, w .lengths)) in (
         there,
         rw there
-            (ap₂ (λ (k m : ℕ). take k (drop m sheet)) (ap (λ (j : Job). label-length j) (job-is jobs n labels N i l))
+            (ap₂ (λ (k m : ℕ). take k (drop m sheet)) (ap (λ (j : Job). labelLength j) (job-is jobs n labels N i l))
             (lengths-is i (omega arith))
-            ∙ ap (take (label-length (jobs i))) (drop-append-le (label-lengths i jobs) labels rest start)
-            ∙ take-append-le (label-length (jobs i)) (drop (label-lengths i jobs) labels) rest size),
+            ∙ ap (take (labelLength (jobs i))) (drop-append-le (labelLengths i jobs) labels rest start)
+            ∙ take-append-le (labelLength (jobs i)) (drop (labelLengths i jobs) labels) rest size),
       )
 
 module _ (jobs : ℕ → Job) (n : ℕ) (labels : List ℕ) (N : ℕ) (out : List ℕ)
-    (answered-0 : write-answer jobs n labels N out .refusal ≡ 0) where
+    (answered-0 : writeAnswer jobs n labels N out .refusal ≡ 0) where
   legal-jobs : Writes jobs n labels N (length out)
   legal-jobs = writes jobs n labels N (length out) 0 (sym (sym (write-number jobs n labels N out) ∙ answered-0)) refl
 
-  written-is : written-sheet jobs n labels N out ≡ sheet-bytes jobs n labels N
-  unfolding write-answer write-leaves
+  written-is : written-sheet jobs n labels N out ≡ sheetBytes jobs n labels N
+  unfolding writeAnswer writeLeaves
   written-is =
-      let e : write-refusal jobs n labels N (length out) ≡ 0 = sym (write-number jobs n labels N out) ∙ answered-0 in
-      let s : List ℕ = sheet-bytes jobs n labels N in
+      let e : writeRefusal jobs n labels N (length out) ≡ 0 = sym (write-number jobs n labels N out) ∙ answered-0 in
+      let s : List ℕ = sheetBytes jobs n labels N in
       rw e (take-append-seam s (drop (length s) out))
 
   -- the jobs, n and N
@@ -116,8 +116,8 @@ module _ (jobs : ℕ → Job) (n : ℕ) (labels : List ℕ) (N : ℕ) (out : Lis
   written-reads = ap reading written-is ∙ answer-back jobs n labels N (length out) legal-jobs
 
   -- and each label
-  pub written-label : (i : ℕ) → i < n → (label-refusal (written-sheet jobs n labels N out) i ≡ 0)
-      × (label-of (written-sheet jobs n labels N out) i ≡ label-in jobs labels i)
+  pub written-label : (i : ℕ) → i < n → (labelRefusal (written-sheet jobs n labels N out) i ≡ 0)
+      × (labelOf (written-sheet jobs n labels N out) i ≡ label-in jobs labels i)
   written-label i l =
       let b = label-back jobs n labels N (length out) legal-jobs i l in
-      (ap (λ (s : List ℕ). label-refusal s i) written-is ∙ b .0, ap (λ (s : List ℕ). label-of s i) written-is ∙ b .1)
+      (ap (λ (s : List ℕ). labelRefusal s i) written-is ∙ b .0, ap (λ (s : List ℕ). labelOf s i) written-is ∙ b .1)

@@ -4,26 +4,26 @@ use mathlib.Core.List.{List, [], _∷_, _++_}
 use Prim.Native.Nat.{ℕ}
 use lib.Dec.{eqb}
 use lib.ListN.{take, drop}
-use Rattle.sheet_format.specs.Format.{label-length, label-lengths, job-of, count-of}
-use Rattle.sheet_format.specs.Checks.{Check, first-failing, no-such-job}
-use Rattle.sheet.specs.Read.{read-checks}
+use Rattle.sheet_format.specs.Format.{labelLength, labelLengths, jobOf, countOf}
+use Rattle.sheet_format.specs.Checks.{Check, firstFailing, noSuchJob}
+use Rattle.sheet.specs.Read.{readChecks}
 
 -- labels check 1 to 7, then 14
-abbrev pub label-checks : List ℕ → ℕ → List Check
-label-checks s job = read-checks s ++ ((14, no-such-job (count-of s) job) ∷ [])
+abbrev pub labelChecks : List ℕ → ℕ → List Check
+labelChecks s job = readChecks s ++ ((14, noSuchJob (countOf s) job) ∷ [])
 
-abbrev pub label-refusal : List ℕ → ℕ → ℕ
-label-refusal s job = first-failing (label-checks s job)
+abbrev pub labelRefusal : List ℕ → ℕ → ℕ
+labelRefusal s job = firstFailing (labelChecks s job)
 
 -- where the label begins: the lengths of the labels before it, summed
-abbrev pub label-start : List ℕ → ℕ → ℕ
-label-start s job = label-lengths job (job-of s)
+abbrev pub labelStart : List ℕ → ℕ → ℕ
+labelStart s job = labelLengths job (jobOf s)
 
 -- the label's bytes; a refused call shows an empty part
-unfoldable pub label-of : List ℕ → ℕ → List ℕ
-label-of s job =
-    cond (eqb (label-refusal s job) 0) (take (label-length (job-of s job)) (drop (label-start s job) s)) []
+unfoldable pub labelOf : List ℕ → ℕ → List ℕ
+labelOf s job =
+    cond (eqb (labelRefusal s job) 0) (take (labelLength (jobOf s job)) (drop (labelStart s job) s)) []
 
 -- how far into the lent sheet the part begins; an empty part is at its front
-unfoldable pub label-at : List ℕ → ℕ → ℕ
-label-at s job = cond (eqb (label-refusal s job) 0) (label-start s job) 0
+unfoldable pub labelAt : List ℕ → ℕ → ℕ
+labelAt s job = cond (eqb (labelRefusal s job) 0) (labelStart s job) 0

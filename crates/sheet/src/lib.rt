@@ -2,11 +2,11 @@
 ghost use mathlib.Core.Path.{_≡_};
 ghost use Prim.Native.Nat.{_+_, _*_, _≤_};
 ghost use lib.ListN.{length};
-ghost use Rattle.sheet_format.specs.Figures.{most-jobs, record-size, trailer-size, longest-label};
-ghost use Rattle.sheet_format.specs.Format.{jobs-in, sheet-bytes};
+ghost use Rattle.sheet_format.specs.Figures.{mostJobs, recordSize, trailerSize, longestLabel};
+ghost use Rattle.sheet_format.specs.Format.{jobsIn, sheetBytes};
 ghost use Rattle.sheet.specs.Read.{refused, reading};
-ghost use Rattle.sheet.specs.Write.{over, write-refusal, write-answer, write-leaves};
-ghost use Rattle.sheet.specs.Label.{label-refusal, label-of, label-at};
+ghost use Rattle.sheet.specs.Write.{over, writeRefusal, writeAnswer, writeLeaves};
+ghost use Rattle.sheet.specs.Label.{labelRefusal, labelOf, labelAt};
 pub use sheet_format::Job;
 use sheet_format::figures::MOST_JOBS;
 use sheet_format::figures::MOST_MODULES;
@@ -69,7 +69,7 @@ pub fn read(sheet: &[u8]) -> Reading
 
 // The number of a label call: the first refusal of 1 to 7, then 14, or 0 where there is a label.
 pub fn label_refusal(sheet: &[u8], job: usize) -> u32
-    ensures { λ r. ⌜ r ≡ label-refusal (now (sheet .entry)) job ⌝ }
+    ensures { λ r. ⌜ r ≡ labelRefusal (now (sheet .entry)) job ⌝ }
 {
     let found = read(sheet);
     let refusal = found.refusal;
@@ -84,8 +84,8 @@ pub fn label_refusal(sheet: &[u8], job: usize) -> u32
 
 // The label of a job: that very part of the sheet, or an empty part where the call is refused.
 pub fn label(sheet: &[u8], job: usize) -> &[u8]
-    ensures { λ r. ⌜ (now r ≡ label-of (now (sheet .entry)) job)
-        × (r .ptr ≡ (sheet .entry .ptr .0, label-at (now (sheet .entry)) job + sheet .entry .ptr .1)) ⌝ }
+    ensures { λ r. ⌜ (now r ≡ labelOf (now (sheet .entry)) job)
+        × (r .ptr ≡ (sheet .entry .ptr .0, labelAt (now (sheet .entry)) job + sheet .entry .ptr .1)) ⌝ }
 {
     if label_refusal(sheet, job) != 0 {
         return &sheet[..0];
@@ -104,7 +104,7 @@ fn write_refusal(
     modules: u16,
     room: usize,
 ) -> u32
-    ensures { λ r. ⌜ r ≡ write-refusal (jobs-in jobs) count (now (labels .entry)) modules room ⌝ }
+    ensures { λ r. ⌜ r ≡ writeRefusal (jobsIn jobs) count (now (labels .entry)) modules room ⌝ }
 {
     if MOST_JOBS < count {
         return 2;
@@ -131,10 +131,10 @@ fn write_parts(
     modules: u16,
     out: &mut [u8],
 ) -> usize
-    requires { ⌜ (count ≤ most-jobs) × (length (now labels) ≤ count * longest-label)
-        × (length (now labels) + record-size * count + trailer-size ≤ length (now out)) ⌝ }
-    ensures { λ r. ⌜ (r ≡ length (now (labels .entry)) + record-size * count + trailer-size)
-        × (now (out .exit) ≡ over (sheet-bytes (jobs-in jobs) count (now (labels .entry)) modules) (now (out .entry))) ⌝ }
+    requires { ⌜ (count ≤ mostJobs) × (length (now labels) ≤ count * longestLabel)
+        × (length (now labels) + recordSize * count + trailerSize ≤ length (now out)) ⌝ }
+    ensures { λ r. ⌜ (r ≡ length (now (labels .entry)) + recordSize * count + trailerSize)
+        × (now (out .exit) ≡ over (sheetBytes (jobsIn jobs) count (now (labels .entry)) modules) (now (out .entry))) ⌝ }
 {
     let offset = labels.len();
     let end = offset + RECORD_SIZE * count;
@@ -153,8 +153,8 @@ pub fn write(
     modules: u16,
     out: &mut [u8],
 ) -> Written
-    ensures { λ r. ⌜ (r ≡ write-answer (jobs-in jobs) count (now (labels .entry)) modules (now (out .entry)))
-        × (now (out .exit) ≡ write-leaves (jobs-in jobs) count (now (labels .entry)) modules (now (out .entry))) ⌝ }
+    ensures { λ r. ⌜ (r ≡ writeAnswer (jobsIn jobs) count (now (labels .entry)) modules (now (out .entry)))
+        × (now (out .exit) ≡ writeLeaves (jobsIn jobs) count (now (labels .entry)) modules (now (out .entry))) ⌝ }
 {
     let refusal = write_refusal(jobs, count, labels, modules, out.len());
     if refusal != 0 {

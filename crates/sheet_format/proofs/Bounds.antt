@@ -10,9 +10,9 @@ use lib.Pow.{pow-pos, pow-mono, pow-add}
 use borrow.Author.Tests.{ltb-false, le-ltb, leb-true, leb-false, le-leb, eqb-false, ne-eqb, not-true}
 use Rattle.counting.proofs.Tests.{less-or-not, or-left, or-right, not-of-false, same-test}
 use Rattle.sheet_format.specs.declared.Job.{Job}
-use Rattle.sheet_format.specs.Figures.{most-jobs, longest-sheet, record-size, trailer-size, longest-label, widest-job, most-minutes}
-use Rattle.sheet_format.specs.Figures.{last-departure}
-use Rattle.sheet_format.specs.Format.{label-length}
+use Rattle.sheet_format.specs.Figures.{mostJobs, longestSheet, recordSize, trailerSize, longestLabel, widestJob, mostMinutes}
+use Rattle.sheet_format.specs.Figures.{lastDeparture}
+use Rattle.sheet_format.specs.Format.{labelLength}
 use Rattle.sheet_format.specs.Checks.{outside, faulty}
 
 pub inside : (low high x : ℕ) → outside low high x ≡ false → (low ≤ x) × (x ≤ high)
@@ -59,29 +59,29 @@ high-bit n u f = (
 )
 
 -- the longest sheet is that of the most jobs with the longest labels
-pub longest : longest-sheet ≡ most-jobs * (longest-label + record-size) + trailer-size
+pub longest : longestSheet ≡ mostJobs * (longestLabel + recordSize) + trailerSize
 longest = refl
 
 -- the ranges that a record's fields keep where it is not faulty
 pub record Legal (n : ℕ) (j : Job) : Type 0 where
-  pub label-some : 1 ≤ label-length j
-  pub label-most : label-length j ≤ longest-label
+  pub label-some : 1 ≤ labelLength j
+  pub label-most : labelLength j ≤ longestLabel
   pub modules-some : 1 ≤ j .modules
-  pub modules-most : j .modules ≤ widest-job
+  pub modules-most : j .modules ≤ widestJob
   pub minutes-some : 1 ≤ j .minutes
-  pub minutes-most : j .minutes ≤ most-minutes
-  pub departure : j .departure ≤ last-departure
+  pub minutes-most : j .minutes ≤ mostMinutes
+  pub departure : j .departure ≤ lastDeparture
   pub earlier : j .earlier < 2 ^ n
 
 pub legal : (n : ℕ) (j : Job) → faulty n j ≡ false → Legal n j
 unfolding faulty
 legal n j e =
-    let e₁ = or-right (outside 1 longest-label (label-length j)) _ e in
-    let e₂ = or-right (outside 1 widest-job (j .modules)) _ e₁ in
-    let e₃ = or-right (outside 1 most-minutes (j .minutes)) _ e₂ in
-    let a = inside 1 longest-label (label-length j) (or-left _ _ e) in
-    let b = inside 1 widest-job (j .modules) (or-left _ _ e₁) in
-    let c = inside 1 most-minutes (j .minutes) (or-left _ _ e₂) in
+    let e₁ = or-right (outside 1 longestLabel (labelLength j)) _ e in
+    let e₂ = or-right (outside 1 widestJob (j .modules)) _ e₁ in
+    let e₃ = or-right (outside 1 mostMinutes (j .minutes)) _ e₂ in
+    let a = inside 1 longestLabel (labelLength j) (or-left _ _ e) in
+    let b = inside 1 widestJob (j .modules) (or-left _ _ e₁) in
+    let c = inside 1 mostMinutes (j .minutes) (or-left _ _ e₂) in
     record {
       label-some = a .0;
       label-most = a .1;
@@ -89,6 +89,6 @@ legal n j e =
       modules-most = b .1;
       minutes-some = c .0;
       minutes-most = c .1;
-      departure = inside 0 last-departure (j .departure) (or-left _ _ e₃) .1;
-      earlier = leb-false (2 ^ n) (j .earlier) (or-right (outside 0 last-departure (j .departure)) _ e₃);
+      departure = inside 0 lastDeparture (j .departure) (or-left _ _ e₃) .1;
+      earlier = leb-false (2 ^ n) (j .earlier) (or-right (outside 0 lastDeparture (j .departure)) _ e₃);
     }

@@ -10,8 +10,8 @@ use lib.ListN.{length, getD, take, drop, set, replicate, length-append, length-d
 use lib.Seq.{set-at, take-suc, getD-at, getD-drop}
 use Rattle.counting.proofs.Tests.{below-suc, last-or-below}
 use Rattle.sheet_format.specs.declared.Job.{Job}
-use Rattle.sheet_format.specs.Figures.{most-jobs}
-use Rattle.sheet_format.specs.Format.{byte-at, joined, no-job, jobs-in, places}
+use Rattle.sheet_format.specs.Figures.{mostJobs}
+use Rattle.sheet_format.specs.Format.{byteAt, joined, noJob, jobsIn, places}
 
 -- n parts of k elements each
 pub length-joined : {A : Type 0} (k n : ℕ) (f : ℕ → List A) → ((i : ℕ) → length (f i) ≡ k) → length (joined n f) ≡ k * n
@@ -20,20 +20,20 @@ length-joined k zero f h = omega arith
 length-joined k (suc n) f h = length-append (joined n f) (f n) ∙ omega (arith, length-joined k n f h, h n)
 
 -- one job more in its place
-pub place-more : (n : ℕ) (jobs : ℕ → Job) → n < most-jobs → set (places n jobs) n (jobs n) ≡ places (n + 1) jobs
+pub place-more : (n : ℕ) (jobs : ℕ → Job) → n < mostJobs → set (places n jobs) n (jobs n) ≡ places (n + 1) jobs
 unfolding places joined
 place-more n jobs l =
     let len : length (joined n (λ i. jobs i ∷ [])) ≡ n = length-joined 1 n (λ i. jobs i ∷ []) (λ i. refl) ∙ omega arith in
-    let first : most-jobs - n ≡ suc (most-jobs - (n + 1)) = omega arith in
+    let first : mostJobs - n ≡ suc (mostJobs - (n + 1)) = omega arith in
     rw (first, add-one)
-    (set-at (joined n (λ i. jobs i ∷ [])) no-job (replicate (most-jobs - suc n) no-job) (jobs n) n len
-    ∙ sym (append-assoc (joined n (λ i. jobs i ∷ [])) (jobs n ∷ []) (replicate (most-jobs - suc n) no-job)))
+    (set-at (joined n (λ i. jobs i ∷ [])) noJob (replicate (mostJobs - suc n) noJob) (jobs n) n len
+    ∙ sym (append-assoc (joined n (λ i. jobs i ∷ [])) (jobs n ∷ []) (replicate (mostJobs - suc n) noJob)))
 
-pub length-places : (n : ℕ) (jobs : ℕ → Job) → n ≤ most-jobs → length (places n jobs) ≡ most-jobs
+pub length-places : (n : ℕ) (jobs : ℕ → Job) → n ≤ mostJobs → length (places n jobs) ≡ mostJobs
 unfolding places
 length-places n jobs l =
-    length-append (joined n (λ i. jobs i ∷ [])) (replicate (most-jobs - n) no-job)
-    ∙ omega (arith, length-joined 1 n (λ i. jobs i ∷ []) (λ i. refl), length-replicate (most-jobs - n) no-job)
+    length-append (joined n (λ i. jobs i ∷ [])) (replicate (mostJobs - n) noJob)
+    ∙ omega (arith, length-joined 1 n (λ i. jobs i ∷ []) (λ i. refl), length-replicate (mostJobs - n) noJob)
 
 -- ---- joined lists
 
@@ -60,24 +60,24 @@ joined-split {A} (suc n) f i l = go (last-or-below n i l) (joined-split n f i)
         )
 
 -- the job in place i
-pub job-in-place : (n : ℕ) (jobs : ℕ → Job) (i : ℕ) → i < n → jobs-in (places n jobs) i ≡ jobs i
+pub job-in-place : (n : ℕ) (jobs : ℕ → Job) (i : ℕ) → i < n → jobsIn (places n jobs) i ≡ jobs i
 unfolding places
 job-in-place n jobs i l =
     let one : ℕ → List Job = λ k. jobs k ∷ [] in
     let r = joined-split n one i l in
-    let past : List Job = replicate (most-jobs - n) no-job in
-    ap (λ (x : List Job). getD (x ++ past) i no-job) (r .1)
-    ∙ ap (λ (x : List Job). getD x i no-job) (append-assoc (joined i one) (jobs i ∷ r .0) past)
-    ∙ getD-at (joined i one) (jobs i) (r .0 ++ past) no-job i (length-joined 1 i one (λ k. refl) ∙ omega arith)
+    let past : List Job = replicate (mostJobs - n) noJob in
+    ap (λ (x : List Job). getD (x ++ past) i noJob) (r .1)
+    ∙ ap (λ (x : List Job). getD x i noJob) (append-assoc (joined i one) (jobs i ∷ r .0) past)
+    ∙ getD-at (joined i one) (jobs i) (r .0 ++ past) noJob i (length-joined 1 i one (λ k. refl) ∙ omega arith)
 
 pub places-same : (n : ℕ) (f g : ℕ → Job) → ((i : ℕ) → i < n → f i ≡ g i) → places n f ≡ places n g
 unfolding places
 places-same n f g h =
-    ap (λ (l : List Job). l ++ replicate (most-jobs - n) no-job)
+    ap (λ (l : List Job). l ++ replicate (mostJobs - n) noJob)
     (joined-same n (λ i. f i ∷ []) (λ i. g i ∷ []) (λ i l. ap (λ (j : Job). j ∷ []) (h i l)))
 
 -- the k bytes from `at` on, one by one
-pub segment : (s : List ℕ) (at k : ℕ) → at + k ≤ length s → take k (drop at s) ≡ joined k (λ i. byte-at s (at + i) ∷ [])
+pub segment : (s : List ℕ) (at k : ℕ) → at + k ≤ length s → take k (drop at s) ≡ joined k (λ i. byteAt s (at + i) ∷ [])
 unfolding joined
 segment s at zero h = refl
 segment s at (suc k) h =

@@ -10,7 +10,7 @@ use lib.Dec.{ltb}
 use lib.ListN.{length, getD}
 use borrow.Author.Tests.{ltb-true}
 use Rattle.counting.proofs.Tests.{and-left, and-right}
-use Rattle.sheet_format.specs.Checks.{Check, first-failing, FirstFails}
+use Rattle.sheet_format.specs.Checks.{Check, firstFailing, FirstFails}
 
 -- every check of the list passes
 abbrev pub Passed : List Check → Type 0
@@ -22,46 +22,46 @@ abbrev pub numbered : List Check → Bool
 numbered [] = true
 numbered (c ∷ cs) = ltb 0 (c .0) && numbered cs
 
-pub all-passed : (cs : List Check) → numbered cs ≡ true → first-failing cs ≡ 0 → Passed cs
-unfolding first-failing
+pub all-passed : (cs : List Check) → numbered cs ≡ true → firstFailing cs ≡ 0 → Passed cs
+unfolding firstFailing
 all-passed [] n e = tt
 all-passed (c ∷ cs) n e = go (c .1) refl (all-passed cs (and-right (ltb 0 (c .0)) (numbered cs) n))
   where
-    go : (b : Bool) → c .1 ≡ b → (first-failing cs ≡ 0 → Passed cs) → Passed (c ∷ cs)
+    go : (b : Bool) → c .1 ≡ b → (firstFailing cs ≡ 0 → Passed cs) → Passed (c ∷ cs)
     go true q h =
         let z : c .0 ≡ 0 = rw q at e in
         absurd (omega (arith, ltb-true 0 (c .0) (and-left (ltb 0 (c .0)) (numbered cs) n)))
-    go false q h = let z : first-failing cs ≡ 0 = rw q at e in (q, h z)
+    go false q h = let z : firstFailing cs ≡ 0 = rw q at e in (q, h z)
 
-pub none-failing : (cs : List Check) → Passed cs → first-failing cs ≡ 0
-unfolding first-failing
+pub none-failing : (cs : List Check) → Passed cs → firstFailing cs ≡ 0
+unfolding firstFailing
 none-failing [] p = refl
 none-failing (c ∷ cs) p = rw (p .0) (none-failing cs (p .1))
 
 -- a failing check in front decides, and passed ones in front do not count
-pub first-in-front : (a b : List Check) → (first-failing a ≡ 0 → ⊥) → first-failing (a ++ b) ≡ first-failing a
-unfolding first-failing
+pub first-in-front : (a b : List Check) → (firstFailing a ≡ 0 → ⊥) → firstFailing (a ++ b) ≡ firstFailing a
+unfolding firstFailing
 first-in-front [] b h = absurd (h refl)
 first-in-front (c ∷ cs) b h = go (c .1) refl (first-in-front cs b)
   where
-    go : (t : Bool) → c .1 ≡ t → ((first-failing cs ≡ 0 → ⊥) → first-failing (cs ++ b) ≡ first-failing cs)
-        → first-failing (c ∷ (cs ++ b)) ≡ first-failing (c ∷ cs)
+    go : (t : Bool) → c .1 ≡ t → ((firstFailing cs ≡ 0 → ⊥) → firstFailing (cs ++ b) ≡ firstFailing cs)
+        → firstFailing (c ∷ (cs ++ b)) ≡ firstFailing (c ∷ cs)
     go true q r = rw q
     go false q r = rw q (r (λ z. h (rw q z)))
 
-pub first-behind : (a b : List Check) → Passed a → first-failing (a ++ b) ≡ first-failing b
-unfolding first-failing
+pub first-behind : (a b : List Check) → Passed a → firstFailing (a ++ b) ≡ firstFailing b
+unfolding firstFailing
 first-behind [] b p = refl
 first-behind (c ∷ cs) b p = rw (p .0) (first-behind cs b (p .1))
 
 -- ---- the number is k exactly when check k fails and no earlier one does
 
-refused-at : (cs : List Check) (k : ℕ) → 0 < k → first-failing cs ≡ k → FirstFails cs k
-unfolding first-failing
+refused-at : (cs : List Check) (k : ℕ) → 0 < k → firstFailing cs ≡ k → FirstFails cs k
+unfolding firstFailing
 refused-at [] k h e = absurd (omega arith)
 refused-at (c ∷ cs) k h e = go (c .1) refl (refused-at cs k h)
   where
-    go : (b : Bool) → c .1 ≡ b → (first-failing cs ≡ k → FirstFails cs k) → FirstFails (c ∷ cs) k
+    go : (b : Bool) → c .1 ≡ b → (firstFailing cs ≡ k → FirstFails cs k) → FirstFails (c ∷ cs) k
     go true q r =
         let z : c .0 ≡ k = rw q at e in
         record {
@@ -71,7 +71,7 @@ refused-at (c ∷ cs) k h e = go (c .1) refl (refused-at cs k h)
           earlier = λ i l. absurd (not-suc-le-zero l);
         }
     go false q r =
-        let z : first-failing cs ≡ k = rw q at e in
+        let z : firstFailing cs ≡ k = rw q at e in
         let f = r z in
         record { place = suc (f .place); listed = omega arith; fails = f .fails; earlier = behind f }
       where
@@ -80,13 +80,13 @@ refused-at (c ∷ cs) k h e = go (c .1) refl (refused-at cs k h)
         behind f (suc i) l = f .earlier i (le-of-suc-le-suc l)
 
 number-at : (cs : List Check) (k p : ℕ) → p < length cs → getD cs p (0, false) ≡ (k, true)
-    → ((i : ℕ) → i < p → getD cs i (0, false) .1 ≡ false) → first-failing cs ≡ k
-unfolding first-failing
+    → ((i : ℕ) → i < p → getD cs i (0, false) .1 ≡ false) → firstFailing cs ≡ k
+unfolding firstFailing
 number-at [] k p l e h = absurd (not-suc-le-zero l)
 number-at (c ∷ cs) k zero l e h = rw (ap (λ (x : Check). x .1) e) (ap (λ (x : Check). x .0) e)
 number-at (c ∷ cs) k (suc p) l e h = rw (h 0 (omega arith)) (number-at cs k p (le-of-suc-le-suc l) e (λ i m. h (suc i) (omega arith)))
 
-pub refused-exactly : (cs : List Check) (k : ℕ) → 0 < k → (first-failing cs ≡ k) ↔ FirstFails cs k
+pub refused-exactly : (cs : List Check) (k : ℕ) → 0 < k → (firstFailing cs ≡ k) ↔ FirstFails cs k
 refused-exactly cs k h = (refused-at cs k h, λ f. number-at cs k (f .place) (f .listed) (f .fails) (f .earlier))
 
 -- ---- and 0 exactly when none fails
@@ -101,5 +101,5 @@ at-passed [] h = tt
 at-passed (c ∷ cs) h = (h 0 (omega arith), at-passed cs (λ i l. h (suc i) (omega arith)))
 
 pub answered-exactly : (cs : List Check) → numbered cs ≡ true
-    → (first-failing cs ≡ 0) ↔ ((i : ℕ) → i < length cs → getD cs i (0, false) .1 ≡ false)
+    → (firstFailing cs ≡ 0) ↔ ((i : ℕ) → i < length cs → getD cs i (0, false) .1 ≡ false)
 answered-exactly cs n = (λ e. passed-at cs (all-passed cs n e), λ h. none-failing cs (at-passed cs h))

@@ -8,8 +8,8 @@ use lib.ListN.{length, getD, take, drop, set, drop-of-length-le, length-take, le
 use lib.Seq.{sets, sets-eq, set-at, take-at, drop-at, drop-drop, drop-cons, take-suc, append-snoc, length-take-le}
 use borrow.Rule.Slice.PartMut.{putMid}
 use Rattle.sheet_format.specs.declared.Job.{Job}
-use Rattle.sheet_format.specs.Figures.{record-size}
-use Rattle.sheet_format.specs.Format.{joined, record-bytes}
+use Rattle.sheet_format.specs.Figures.{recordSize}
+use Rattle.sheet_format.specs.Format.{joined, recordBytes}
 use Rattle.sheet_format.proofs.Lists.{length-joined}
 
 -- as many stores as there are elements leave just what was stored; on a written list `sets` computes to the stores
@@ -37,26 +37,26 @@ copy-more s l n h k =
 pub length-part : (p l : List ℕ) (a b : ℕ) → length p ≡ a → a + b ≤ length l → length (take (a + b - a) (drop a (p ++ drop a l))) ≡ b
 length-part p l a b e h = simp (length-take, length-drop, length-append) (omega arith)
 
-pub length-records : (n : ℕ) (jobs : ℕ → Job) → length (joined n (λ i. record-bytes (jobs i))) ≡ record-size * n
-unfolding record-bytes
-length-records n jobs = length-joined record-size n (λ i. record-bytes (jobs i)) (λ i. refl)
+pub length-records : (n : ℕ) (jobs : ℕ → Job) → length (joined n (λ i. recordBytes (jobs i))) ≡ recordSize * n
+unfolding recordBytes
+length-records n jobs = length-joined recordSize n (λ i. recordBytes (jobs i)) (λ i. refl)
 
 -- ---- one record more
 
 module _ (jobs : ℕ → Job) (l : List ℕ) where
-  pub records-more : (i : ℕ) (part ys : List ℕ) → part ≡ joined i (λ k. record-bytes (jobs k)) ++ drop (record-size * i) l
-      → ys ≡ record-bytes (jobs i)
-      → putMid (record-size * i) (record-size * i + record-size - record-size * i) part ys
-      ≡ joined (i + 1) (λ k. record-bytes (jobs k)) ++ drop (record-size * (i + 1)) l
-  unfolding joined record-bytes
+  pub records-more : (i : ℕ) (part ys : List ℕ) → part ≡ joined i (λ k. recordBytes (jobs k)) ++ drop (recordSize * i) l
+      → ys ≡ recordBytes (jobs i)
+      → putMid (recordSize * i) (recordSize * i + recordSize - recordSize * i) part ys
+      ≡ joined (i + 1) (λ k. recordBytes (jobs k)) ++ drop (recordSize * (i + 1)) l
+  unfolding joined recordBytes
   records-more i part ys e f =
-      let k : record-size * i + record-size - record-size * i ≡ record-size = omega arith in
-      let m : record-size * (i + 1) ≡ record-size * i + record-size = omega arith in
-      let done : List ℕ = joined i (λ k. record-bytes (jobs k)) in
-      rw (k, m, add-one, e, f) (part-more l done (record-bytes (jobs i)) (record-size * i) record-size (length-records i jobs) refl)
+      let k : recordSize * i + recordSize - recordSize * i ≡ recordSize = omega arith in
+      let m : recordSize * (i + 1) ≡ recordSize * i + recordSize = omega arith in
+      let done : List ℕ = joined i (λ k. recordBytes (jobs k)) in
+      rw (k, m, add-one, e, f) (part-more l done (recordBytes (jobs i)) (recordSize * i) recordSize (length-records i jobs) refl)
 
-  pub records-length : (i : ℕ) → record-size * i ≤ length l
-      → length (joined i (λ k. record-bytes (jobs k)) ++ drop (record-size * i) l) ≡ length l
+  pub records-length : (i : ℕ) → recordSize * i ≤ length l
+      → length (joined i (λ k. recordBytes (jobs k)) ++ drop (recordSize * i) l) ≡ length l
   records-length i h =
-      length-append (joined i (λ k. record-bytes (jobs k))) (drop (record-size * i) l)
-      ∙ omega (arith, length-records i jobs, length-drop (record-size * i) l)
+      length-append (joined i (λ k. recordBytes (jobs k))) (drop (recordSize * i) l)
+      ∙ omega (arith, length-records i jobs, length-drop (recordSize * i) l)

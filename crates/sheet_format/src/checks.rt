@@ -5,8 +5,8 @@ ghost use mathlib.Core.List.{[], _∷_};
 ghost use Prim.Native.Nat.{_≤_};
 ghost use lib.Dec.{eqb};
 ghost use lib.ListN.{length};
-ghost use Rattle.sheet_format.specs.Figures.{most-jobs};
-ghost use Rattle.sheet_format.specs.Checks.{outside, faulty, wrong-bytes, first-failing};
+ghost use Rattle.sheet_format.specs.Figures.{mostJobs};
+ghost use Rattle.sheet_format.specs.Checks.{outside, faulty, wrongBytes, firstFailing};
 use super::Job;
 use super::figures::FIRST_LABEL_BYTE;
 use super::figures::LAST_DEPARTURE;
@@ -35,7 +35,7 @@ pub fn either(a: bool, b: bool) -> bool
 
 // Whether a record of `count` jobs has a field outside its range or an earlier-job bit at `count` or higher.
 pub fn faulty(count: usize, job: Job) -> bool
-    requires { ⌜ count ≤ most-jobs ⌝ }
+    requires { ⌜ count ≤ mostJobs ⌝ }
     ensures { λ r. ⌜ r ≡ faulty count job ⌝ }
 {
     let length = outside(1, LONGEST_LABEL, job.label_len as usize);
@@ -51,7 +51,7 @@ pub fn faulty(count: usize, job: Job) -> bool
 
 // Whether some label byte is no label byte.
 pub fn wrong_bytes(labels: &[u8]) -> bool
-    ensures { λ r. ⌜ r ≡ wrong-bytes (now (labels .entry)) ⌝ }
+    ensures { λ r. ⌜ r ≡ wrongBytes (now (labels .entry)) ⌝ }
 {
     let mut found = false;
     let mut i = 0;
@@ -67,8 +67,8 @@ pub fn wrong_bytes(labels: &[u8]) -> bool
 
 // The first of 5 to 7 that fails, from what the pass over the records found.
 pub fn content_refusal(faulty: bool, total: usize, labels: &[u8]) -> u32
-    ensures { λ r. ⌜ r ≡ first-failing (
-        (5, faulty) ∷ (6, not (eqb total (length (now (labels .entry))))) ∷ (7, wrong-bytes (now (labels .entry))) ∷ []
+    ensures { λ r. ⌜ r ≡ firstFailing (
+        (5, faulty) ∷ (6, not (eqb total (length (now (labels .entry))))) ∷ (7, wrongBytes (now (labels .entry))) ∷ []
         ) ⌝ }
 {
     if faulty {

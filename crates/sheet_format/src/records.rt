@@ -2,10 +2,10 @@
 ghost use mathlib.Core.Path.{_≡_};
 ghost use Prim.Native.Nat.{_+_, _*_, _≤_};
 ghost use lib.ListN.{length};
-ghost use Rattle.sheet_format.specs.Figures.{most-jobs, record-size};
-ghost use Rattle.sheet_format.specs.Format.{joined, no-job, no-jobs, places, jobs-in, job-from, label-length, label-lengths};
-ghost use Rattle.sheet_format.specs.Format.{record-at, record-bytes};
-ghost use Rattle.sheet_format.specs.Checks.{some-faulty};
+ghost use Rattle.sheet_format.specs.Figures.{mostJobs, recordSize};
+ghost use Rattle.sheet_format.specs.Format.{joined, noJob, noJobs, places, jobsIn, jobFrom, labelLength, labelLengths};
+ghost use Rattle.sheet_format.specs.Format.{recordAt, recordBytes};
+ghost use Rattle.sheet_format.specs.Checks.{someFaulty};
 use super::Job;
 use super::checks::either;
 use super::checks::faulty;
@@ -28,7 +28,7 @@ pub struct Found {
 }
 
 fn no_job() -> Job
-    ensures { λ r. ⌜ r ≡ no-job ⌝ }
+    ensures { λ r. ⌜ r ≡ noJob ⌝ }
 {
     Job {
         label_len: 0,
@@ -41,22 +41,22 @@ fn no_job() -> Job
 
 // The length of a job's label; the contract hands its bound to the callers.
 pub fn label_length(job: Job) -> usize
-    ensures { λ r. ⌜ (r ≡ label-length job) × (r ≤ 255) ⌝ }
+    ensures { λ r. ⌜ (r ≡ labelLength job) × (r ≤ 255) ⌝ }
 {
     job.label_len as usize
 }
 
 // A list without jobs: every place 0.
 pub fn no_jobs() -> [Job; MOST_JOBS]
-    ensures { λ r. ⌜ r ≡ no-jobs ⌝ }
+    ensures { λ r. ⌜ r ≡ noJobs ⌝ }
 {
     [no_job(); MOST_JOBS]
 }
 
 // The job of the record that begins at `at`.
 pub fn read_one(s: &[u8], at: usize) -> Job
-    requires { ⌜ at + record-size ≤ length (now s) ⌝ }
-    ensures { λ r. ⌜ r ≡ record-at (now (s .entry)) at ⌝ }
+    requires { ⌜ at + recordSize ≤ length (now s) ⌝ }
+    ensures { λ r. ⌜ r ≡ recordAt (now (s .entry)) at ⌝ }
 {
     Job {
         label_len: s[at],
@@ -69,10 +69,10 @@ pub fn read_one(s: &[u8], at: usize) -> Job
 
 // One pass over the records.
 pub fn read_all(sheet: &[u8], offset: usize, count: usize) -> Records
-    requires { ⌜ (count ≤ most-jobs) × (offset + record-size * count ≤ length (now sheet)) ⌝ }
-    ensures { λ r. ⌜ (r .jobs ≡ places count (job-from (now (sheet .entry)) offset))
-        × (r .total ≡ label-lengths count (job-from (now (sheet .entry)) offset))
-        × (r .faulty ≡ some-faulty count (job-from (now (sheet .entry)) offset)) ⌝ }
+    requires { ⌜ (count ≤ mostJobs) × (offset + recordSize * count ≤ length (now sheet)) ⌝ }
+    ensures { λ r. ⌜ (r .jobs ≡ places count (jobFrom (now (sheet .entry)) offset))
+        × (r .total ≡ labelLengths count (jobFrom (now (sheet .entry)) offset))
+        × (r .faulty ≡ someFaulty count (jobFrom (now (sheet .entry)) offset)) ⌝ }
 {
     let mut jobs = no_jobs();
     let mut total: usize = 0;
@@ -94,8 +94,8 @@ pub fn read_all(sheet: &[u8], offset: usize, count: usize) -> Records
 
 // Where the label of a job begins: the lengths of the labels before it, summed.
 pub fn label_start(sheet: &[u8], offset: usize, job: usize) -> usize
-    requires { ⌜ (job ≤ most-jobs) × (offset + record-size * job ≤ length (now sheet)) ⌝ }
-    ensures { λ r. ⌜ (r ≡ label-lengths job (job-from (now (sheet .entry)) offset)) × (r ≤ 255 * job) ⌝ }
+    requires { ⌜ (job ≤ mostJobs) × (offset + recordSize * job ≤ length (now sheet)) ⌝ }
+    ensures { λ r. ⌜ (r ≡ labelLengths job (jobFrom (now (sheet .entry)) offset)) × (r ≤ 255 * job) ⌝ }
 {
     let mut total: usize = 0;
     let mut i = 0;
@@ -108,8 +108,8 @@ pub fn label_start(sheet: &[u8], offset: usize, job: usize) -> usize
 
 // The writer's pass over the first `count` jobs.
 pub fn survey(jobs: [Job; MOST_JOBS], count: usize) -> Found
-    requires { ⌜ count ≤ most-jobs ⌝ }
-    ensures { λ r. ⌜ (r .total ≡ label-lengths count (jobs-in jobs)) × (r .faulty ≡ some-faulty count (jobs-in jobs)) ⌝ }
+    requires { ⌜ count ≤ mostJobs ⌝ }
+    ensures { λ r. ⌜ (r .total ≡ labelLengths count (jobsIn jobs)) × (r .faulty ≡ someFaulty count (jobsIn jobs)) ⌝ }
 {
     let mut total: usize = 0;
     let mut found = false;
@@ -128,8 +128,8 @@ pub fn survey(jobs: [Job; MOST_JOBS], count: usize) -> Found
 
 // A record, into its own bytes.
 fn write_one(part: &mut [u8], job: Job)
-    requires { ⌜ length (now part) ≡ record-size ⌝ }
-    ensures { λ _. ⌜ now (part .exit) ≡ record-bytes job ⌝ }
+    requires { ⌜ length (now part) ≡ recordSize ⌝ }
+    ensures { λ _. ⌜ now (part .exit) ≡ recordBytes job ⌝ }
 {
     let minutes = job.minutes;
     let low = job.earlier % 65536;
@@ -149,8 +149,8 @@ fn write_one(part: &mut [u8], job: Job)
 
 // The records of the first `count` jobs, one behind another.
 pub fn write_all(part: &mut [u8], jobs: [Job; MOST_JOBS], count: usize)
-    requires { ⌜ (count ≤ most-jobs) × (length (now part) ≡ record-size * count) ⌝ }
-    ensures { λ _. ⌜ now (part .exit) ≡ joined count (λ i. record-bytes (jobs-in jobs i)) ⌝ }
+    requires { ⌜ (count ≤ mostJobs) × (length (now part) ≡ recordSize * count) ⌝ }
+    ensures { λ _. ⌜ now (part .exit) ≡ joined count (λ i. recordBytes (jobsIn jobs i)) ⌝ }
 {
     let mut i = 0;
     while i < count {

@@ -2,10 +2,10 @@
 ghost use mathlib.Core.Path.{_≡_};
 ghost use Prim.Native.Nat.{_≤_};
 ghost use lib.ListN.{length};
-ghost use Rattle.sheet_format.specs.Figures.{trailer-size};
-ghost use Rattle.sheet_format.specs.Format.{trailer-bytes, offset-of, count-of, modules-of};
-ghost use Rattle.sheet_format.specs.Checks.{first-failing};
-ghost use Rattle.sheet_format.specs.Checks.{trailer-checks};
+ghost use Rattle.sheet_format.specs.Figures.{trailerSize};
+ghost use Rattle.sheet_format.specs.Format.{trailerBytes, offsetOf, countOf, modulesOf};
+ghost use Rattle.sheet_format.specs.Checks.{firstFailing};
+ghost use Rattle.sheet_format.specs.Checks.{trailerChecks};
 use super::checks::outside;
 use super::figures::LONGEST_SHEET;
 use super::figures::MOST_JOBS;
@@ -17,31 +17,31 @@ use super::numbers::read32;
 
 // The offset of the first record.
 pub fn offset(sheet: &[u8]) -> u32
-    requires { ⌜ trailer-size ≤ length (now sheet) ⌝ }
-    ensures { λ r. ⌜ r ≡ offset-of (now (sheet .entry)) ⌝ }
+    requires { ⌜ trailerSize ≤ length (now sheet) ⌝ }
+    ensures { λ r. ⌜ r ≡ offsetOf (now (sheet .entry)) ⌝ }
 {
     read32(sheet, sheet.len() - TRAILER_SIZE)
 }
 
 // n.
 pub fn count(sheet: &[u8]) -> u16
-    requires { ⌜ trailer-size ≤ length (now sheet) ⌝ }
-    ensures { λ r. ⌜ r ≡ count-of (now (sheet .entry)) ⌝ }
+    requires { ⌜ trailerSize ≤ length (now sheet) ⌝ }
+    ensures { λ r. ⌜ r ≡ countOf (now (sheet .entry)) ⌝ }
 {
     read16(sheet, sheet.len() - TRAILER_SIZE + 4)
 }
 
 // N.
 pub fn modules(sheet: &[u8]) -> u16
-    requires { ⌜ trailer-size ≤ length (now sheet) ⌝ }
-    ensures { λ r. ⌜ r ≡ modules-of (now (sheet .entry)) ⌝ }
+    requires { ⌜ trailerSize ≤ length (now sheet) ⌝ }
+    ensures { λ r. ⌜ r ≡ modulesOf (now (sheet .entry)) ⌝ }
 {
     read16(sheet, sheet.len() - TRAILER_SIZE + 6)
 }
 
 // The first of 1 to 4 that fails, or 0.
 pub fn refusal(sheet: &[u8]) -> u32
-    ensures { λ r. ⌜ r ≡ first-failing (trailer-checks (now (sheet .entry))) ⌝ }
+    ensures { λ r. ⌜ r ≡ firstFailing (trailerChecks (now (sheet .entry))) ⌝ }
 {
     if outside(TRAILER_SIZE, LONGEST_SHEET, sheet.len()) {
         return 1;
@@ -61,8 +61,8 @@ pub fn refusal(sheet: &[u8]) -> u32
 
 // A trailer, into its own bytes.
 pub fn write(part: &mut [u8], offset: u32, count: u16, modules: u16)
-    requires { ⌜ length (now part) ≡ trailer-size ⌝ }
-    ensures { λ _. ⌜ now (part .exit) ≡ trailer-bytes offset count modules ⌝ }
+    requires { ⌜ length (now part) ≡ trailerSize ⌝ }
+    ensures { λ _. ⌜ now (part .exit) ≡ trailerBytes offset count modules ⌝ }
 {
     let low = offset % 65536;
     let high = offset / 65536;

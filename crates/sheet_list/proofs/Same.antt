@@ -11,43 +11,43 @@ use Rattle.counting.proofs.Tests.{less-or-not}
 use Rattle.counting.proofs.Sums.{sum-same}
 use Rattle.counting.proofs.Ranges.{any-same}
 use Rattle.sheet_format.specs.declared.Job.{Job}
-use Rattle.sheet_format.specs.Figures.{most-jobs}
-use Rattle.sheet_format.specs.Format.{record-bytes, trailer-bytes, sheet-bytes, label-length, jobs-in, places}
-use Rattle.sheet_format.specs.Checks.{first-failing, faulty, too-many-jobs, wrong-modules, wrong-bytes, too-short}
+use Rattle.sheet_format.specs.Figures.{mostJobs}
+use Rattle.sheet_format.specs.Format.{recordBytes, trailerBytes, sheetBytes, labelLength, jobsIn, places}
+use Rattle.sheet_format.specs.Checks.{firstFailing, faulty, tooManyJobs, wrongModules, wrongBytes, tooShort}
 use Rattle.sheet_format.proofs.Lists.{joined-same, job-in-place}
 use Rattle.sheet.specs.declared.Written.{Written}
-use Rattle.sheet.specs.Write.{over, write-refusal, write-answer, write-leaves}
+use Rattle.sheet.specs.Write.{over, writeRefusal, writeAnswer, writeLeaves}
 use Rattle.sheet.proofs.Writes.{refused-count, refused-answer, refused-leaves}
 use Rattle.sheet_list.specs.Gather.{listed, gathered}
 
 module _ (f g : ℕ → Job) (n : ℕ) (same : (i : ℕ) → i < n → f i ≡ g i) (labels : List ℕ) (N : ℕ) where
-  sheet-same : sheet-bytes f n labels N ≡ sheet-bytes g n labels N
-  unfolding sheet-bytes
+  sheet-same : sheetBytes f n labels N ≡ sheetBytes g n labels N
+  unfolding sheetBytes
   sheet-same =
-      ap (λ (x : List ℕ). labels ++ (x ++ trailer-bytes (length labels) n N))
-      (joined-same n (λ i. record-bytes (f i)) (λ i. record-bytes (g i)) (λ i l. ap record-bytes (same i l)))
+      ap (λ (x : List ℕ). labels ++ (x ++ trailerBytes (length labels) n N))
+      (joined-same n (λ i. recordBytes (f i)) (λ i. recordBytes (g i)) (λ i l. ap recordBytes (same i l)))
 
-  refusal-same : (room : ℕ) → write-refusal f n labels N room ≡ write-refusal g n labels N room
+  refusal-same : (room : ℕ) → writeRefusal f n labels N room ≡ writeRefusal g n labels N room
   refusal-same room =
       ap₂
-      (λ (b : Bool) (t : ℕ). first-failing (
-      (2, too-many-jobs n) ∷ (3, wrong-modules N) ∷ (5, b) ∷ (6, not (eqb t (length labels))) ∷ (7, wrong-bytes labels)
-      ∷ (10, too-short n labels room) ∷ []
+      (λ (b : Bool) (t : ℕ). firstFailing (
+      (2, tooManyJobs n) ∷ (3, wrongModules N) ∷ (5, b) ∷ (6, not (eqb t (length labels))) ∷ (7, wrongBytes labels)
+      ∷ (10, tooShort n labels room) ∷ []
       ))
       (any-same n (λ i. faulty n (f i)) (λ i. faulty n (g i)) (λ i l. ap (faulty n) (same i l)))
-      (sum-same n (λ i. label-length (f i)) (λ i. label-length (g i)) (λ i l. ap (λ (j : Job). label-length j) (same i l)))
+      (sum-same n (λ i. labelLength (f i)) (λ i. labelLength (g i)) (λ i l. ap (λ (j : Job). labelLength j) (same i l)))
 
   -- the places past the first n are ignored
-  pub answer-same : (out : List ℕ) → write-answer f n labels N out ≡ write-answer g n labels N out
-  unfolding write-answer
+  pub answer-same : (out : List ℕ) → writeAnswer f n labels N out ≡ writeAnswer g n labels N out
+  unfolding writeAnswer
   answer-same out =
       ap₂
       (λ (k : ℕ) (s : List ℕ). cond {A = Written} (eqb k 0) (record { refusal = 0; length = length s })
       (record { refusal = k; length = 0 }))
       (refusal-same (length out)) sheet-same
 
-  pub leaves-same : (out : List ℕ) → write-leaves f n labels N out ≡ write-leaves g n labels N out
-  unfolding write-leaves
+  pub leaves-same : (out : List ℕ) → writeLeaves f n labels N out ≡ writeLeaves g n labels N out
+  unfolding writeLeaves
   leaves-same out = ap₂ (λ (k : ℕ) (s : List ℕ). cond (eqb k 0) (over s out) out) (refusal-same (length out)) sheet-same
 
 module _ (js : List Job) (labels : List ℕ) (N : ℕ) (out : List ℕ) where
@@ -55,28 +55,28 @@ module _ (js : List Job) (labels : List ℕ) (N : ℕ) (out : List ℕ) where
   n = length js
 
   abbrev f : ℕ → Job
-  f = jobs-in (gathered js .list)
+  f = jobsIn (gathered js .list)
 
-  in-place : n ≤ most-jobs → (i : ℕ) → i < n → f i ≡ jobs-in js i
+  in-place : n ≤ mostJobs → (i : ℕ) → i < n → f i ≡ jobsIn js i
   unfolding listed
   in-place h i l =
-      let e : min n most-jobs ≡ n = omega arith in
-      ap (λ (m : ℕ). jobs-in (places m (jobs-in js)) i) e ∙ job-in-place n (jobs-in js) i l
+      let e : min n mostJobs ≡ n = omega arith in
+      ap (λ (m : ℕ). jobsIn (places m (jobsIn js)) i) e ∙ job-in-place n (jobsIn js) i l
 
-  pub gathered-answer : write-answer f n labels N out ≡ write-answer (jobs-in js) n labels N out
+  pub gathered-answer : writeAnswer f n labels N out ≡ writeAnswer (jobsIn js) n labels N out
   gathered-answer =
       ⊎-elim
-      (λ (h : most-jobs < n).
+      (λ (h : mostJobs < n).
       sym (refused-answer f n labels N out 2 (refused-count f n labels N (length out) h) (λ z. absurd (omega arith)))
-      ∙ refused-answer (jobs-in js) n labels N out 2 (refused-count (jobs-in js) n labels N (length out) h) (λ z. absurd (omega arith)))
-      (λ (h : n ≤ most-jobs). answer-same f (jobs-in js) n (in-place h) labels N out)
-      (less-or-not most-jobs n)
+      ∙ refused-answer (jobsIn js) n labels N out 2 (refused-count (jobsIn js) n labels N (length out) h) (λ z. absurd (omega arith)))
+      (λ (h : n ≤ mostJobs). answer-same f (jobsIn js) n (in-place h) labels N out)
+      (less-or-not mostJobs n)
 
-  pub gathered-leaves : write-leaves f n labels N out ≡ write-leaves (jobs-in js) n labels N out
+  pub gathered-leaves : writeLeaves f n labels N out ≡ writeLeaves (jobsIn js) n labels N out
   gathered-leaves =
       ⊎-elim
-      (λ (h : most-jobs < n).
+      (λ (h : mostJobs < n).
       sym (refused-leaves f n labels N out 2 (refused-count f n labels N (length out) h) (λ z. absurd (omega arith)))
-      ∙ refused-leaves (jobs-in js) n labels N out 2 (refused-count (jobs-in js) n labels N (length out) h) (λ z. absurd (omega arith)))
-      (λ (h : n ≤ most-jobs). leaves-same f (jobs-in js) n (in-place h) labels N out)
-      (less-or-not most-jobs n)
+      ∙ refused-leaves (jobsIn js) n labels N out 2 (refused-count (jobsIn js) n labels N (length out) h) (λ z. absurd (omega arith)))
+      (λ (h : n ≤ mostJobs). leaves-same f (jobsIn js) n (in-place h) labels N out)
+      (less-or-not mostJobs n)

@@ -3,8 +3,8 @@ use mathlib.Core.List.{List}
 use Prim.Native.Nat.{ℕ, min}
 use lib.ListN.{length, set}
 use Rattle.sheet_format.specs.declared.Job.{Job}
-use Rattle.sheet_format.specs.Figures.{most-jobs}
-use Rattle.sheet_format.specs.Format.{jobs-in, places}
+use Rattle.sheet_format.specs.Figures.{mostJobs}
+use Rattle.sheet_format.specs.Format.{jobsIn, places}
 use Rattle.sheet_list.specs.declared.Jobs.{Jobs}
 
 -- the first n jobs in their places
@@ -17,4 +17,4 @@ placed js i j = record { list = set (js .list) i j }
 
 -- as many jobs as there are places
 abbrev pub gathered : List Job → Jobs
-gathered js = listed (min (length js) most-jobs) (jobs-in js)
+gathered js = listed (min (length js) mostJobs) (jobsIn js)

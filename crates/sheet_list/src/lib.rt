@@ -2,9 +2,9 @@
 ghost use mathlib.Core.Path.{_≡_};
 ghost use Prim.Native.Nat.{_<_, min};
 ghost use lib.ListN.{length, set};
-ghost use Rattle.sheet_format.specs.Figures.{most-jobs};
-ghost use Rattle.sheet_format.specs.Format.{no-job, jobs-in};
-ghost use Rattle.sheet.specs.Write.{write-answer, write-leaves};
+ghost use Rattle.sheet_format.specs.Figures.{mostJobs};
+ghost use Rattle.sheet_format.specs.Format.{noJob, jobsIn};
+ghost use Rattle.sheet.specs.Write.{writeAnswer, writeLeaves};
 ghost use Rattle.sheet_list.specs.Gather.{gathered, listed, placed};
 use sheet::Written;
 use sheet_format::Job;
@@ -16,20 +16,20 @@ pub struct Jobs {
 }
 
 fn at_most(count: usize) -> usize
-    ensures { λ r. ⌜ r ≡ min count most-jobs ⌝ }
+    ensures { λ r. ⌜ r ≡ min count mostJobs ⌝ }
 {
     if count < MOST_JOBS { count } else { MOST_JOBS }
 }
 
 fn no_jobs() -> Jobs
-    ensures { λ r. ⌜ r ≡ listed 0 (λ i. no-job) ⌝ }
+    ensures { λ r. ⌜ r ≡ listed 0 (λ i. noJob) ⌝ }
 {
     let list = sheet_format::records::no_jobs();
     Jobs { list }
 }
 
 fn with_job(mut jobs: Jobs, i: usize, job: Job) -> Jobs
-    requires { ⌜ i < most-jobs ⌝ }
+    requires { ⌜ i < mostJobs ⌝ }
     ensures { λ r. ⌜ r ≡ placed jobs i job ⌝ }
 {
     jobs.list[i] = job;
@@ -39,7 +39,7 @@ fn with_job(mut jobs: Jobs, i: usize, job: Job) -> Jobs
 // A record of the lent list.
 fn job_at(jobs: &[Job], i: usize) -> Job
     requires { ⌜ i < length (now jobs) ⌝ }
-    ensures { λ r. ⌜ r ≡ jobs-in (now (jobs .entry)) i ⌝ }
+    ensures { λ r. ⌜ r ≡ jobsIn (now (jobs .entry)) i ⌝ }
 {
     jobs[i]
 }
@@ -60,8 +60,8 @@ fn gather(jobs: &[Job]) -> Jobs
 }
 
 fn write_gathered(all: Jobs, count: usize, labels: &[u8], modules: u16, out: &mut [u8]) -> Written
-    ensures { λ r. ⌜ (r ≡ write-answer (jobs-in (all .list)) count (now (labels .entry)) modules (now (out .entry)))
-        × (now (out .exit) ≡ write-leaves (jobs-in (all .list)) count (now (labels .entry)) modules (now (out .entry))) ⌝ }
+    ensures { λ r. ⌜ (r ≡ writeAnswer (jobsIn (all .list)) count (now (labels .entry)) modules (now (out .entry)))
+        × (now (out .exit) ≡ writeLeaves (jobsIn (all .list)) count (now (labels .entry)) modules (now (out .entry))) ⌝ }
 {
     let list = all.list;
     sheet::write(list, count, labels, modules, out)
@@ -69,9 +69,9 @@ fn write_gathered(all: Jobs, count: usize, labels: &[u8], modules: u16, out: &mu
 
 // Writes the sheet of a lent list of jobs into the front of the lent buffer; more jobs than there are places: refusal 2.
 pub fn write_list(jobs: &[Job], labels: &[u8], modules: u16, out: &mut [u8]) -> Written
-    ensures { λ r. ⌜ (r ≡ write-answer (jobs-in (now (jobs .entry))) (length (now (jobs .entry))) (now (labels .entry)) modules
+    ensures { λ r. ⌜ (r ≡ writeAnswer (jobsIn (now (jobs .entry))) (length (now (jobs .entry))) (now (labels .entry)) modules
         (now (out .entry)))
-        × (now (out .exit) ≡ write-leaves (jobs-in (now (jobs .entry))) (length (now (jobs .entry))) (now (labels .entry)) modules
+        × (now (out .exit) ≡ writeLeaves (jobsIn (now (jobs .entry))) (length (now (jobs .entry))) (now (labels .entry)) modules
         (now (out .entry))) ⌝ }
 {
     write_gathered(gather(jobs), jobs.len(), labels, modules, out)

@@ -6,10 +6,10 @@ use Prim.Native.Nat.{ℕ, _+_, _*_, _/_, _%_, _≤_, _<_}
 use native.Mathlib.Omega.{arith}
 use lib.ListN.{length, getD, set, length-set}
 use lib.Seq.{getD-set-same, getD-set-other}
-use Rattle.words.specs.Words.{u16-at, Wrote}
+use Rattle.words.specs.Words.{u16At, Wrote}
 
 pub wrote : (s : List ℕ) (at x : ℕ) → at + 2 ≤ length s → Wrote s (set (set s at (x % 256)) (at + 1) (x / 256)) at x
-unfolding u16-at
+unfolding u16At
 wrote s at x h =
     let m = set s at (x % 256) in
     let len : length m ≡ length s = length-set s at (x % 256) in

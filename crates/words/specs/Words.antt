@@ -5,17 +5,17 @@ use mathlib.Core.List.{List}
 use Prim.Native.Nat.{ℕ, _+_, _*_, _<_}
 use lib.ListN.{length, getD}
 
-abbrev pub byte-at : List ℕ → ℕ → ℕ
-byte-at s i = getD s i 0
+abbrev pub byteAt : List ℕ → ℕ → ℕ
+byteAt s i = getD s i 0
 
-unfoldable pub u16-at : List ℕ → ℕ → ℕ
-u16-at s i = byte-at s i + byte-at s (i + 1) * 256
+unfoldable pub u16At : List ℕ → ℕ → ℕ
+u16At s i = byteAt s i + byteAt s (i + 1) * 256
 
-unfoldable pub u32-at : List ℕ → ℕ → ℕ
-u32-at s i = u16-at s i + u16-at s (i + 2) * 65536
+unfoldable pub u32At : List ℕ → ℕ → ℕ
+u32At s i = u16At s i + u16At s (i + 2) * 65536
 
 -- t is s with the 16-bit number x at a place, and with every number that does not overlap it
 pub record Wrote (s t : List ℕ) (at x : ℕ) : Type 0 where
-  pub here : u16-at t at ≡ x
-  pub other : (k : ℕ) → (k + 1 < at) ⊎ (at + 1 < k) → u16-at t k ≡ u16-at s k
+  pub here : u16At t at ≡ x
+  pub other : (k : ℕ) → (k + 1 < at) ⊎ (at + 1 < k) → u16At t k ≡ u16At s k
   pub len : length t ≡ length s

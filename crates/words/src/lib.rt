@@ -2,7 +2,7 @@
 ghost use mathlib.Core.Path.{_≡_};
 ghost use Prim.Native.Nat.{_+_, _≤_};
 ghost use lib.ListN.{length};
-ghost use Rattle.words.specs.Words.{u16-at, u32-at, Wrote};
+ghost use Rattle.words.specs.Words.{u16At, u32At, Wrote};
 
 // A byte as a wider number; the contract hands its bound to the callers.
 fn wide(x: u8) -> u32
@@ -14,7 +14,7 @@ fn wide(x: u8) -> u32
 // The 16-bit number at a place.
 pub fn read16(s: &[u8], at: usize) -> u16
     requires { ⌜ at + 2 ≤ length (now s) ⌝ }
-    ensures { λ r. ⌜ r ≡ u16-at (now (s .entry)) at ⌝ }
+    ensures { λ r. ⌜ r ≡ u16At (now (s .entry)) at ⌝ }
 {
     let low = wide(s[at]);
     let high = wide(s[at + 1]);
@@ -24,7 +24,7 @@ pub fn read16(s: &[u8], at: usize) -> u16
 // The 32-bit number at a place.
 pub fn read32(s: &[u8], at: usize) -> u32
     requires { ⌜ at + 4 ≤ length (now s) ⌝ }
-    ensures { λ r. ⌜ r ≡ u32-at (now (s .entry)) at ⌝ }
+    ensures { λ r. ⌜ r ≡ u32At (now (s .entry)) at ⌝ }
 {
     let low = read16(s, at) as u32;
     let high = read16(s, at + 2) as u32;

@@ -6,14 +6,14 @@ use native.Mathlib.Omega.{arith}
 use borrow.Author.Tests.{not-false}
 use lib.ListN.{getD}
 use Rattle.counting.proofs.Tests.{less-or-not}
-use Rattle.memory.specs.Entries.{end-at}
+use Rattle.memory.specs.Entries.{endAt}
 use Rattle.memory.proofs.Slots.{no}
 use borrow.Author.Needs.{needs}
 use Rattle.memory.proofs.entry_ahead.Statement.{statement}
 use Rattle.memory.proofs.entry_ahead.Tie as tie
 
 abbrev Inv-loop : tie.InvT-loop
-Inv-loop entry ends jobs unplaced l i₀ i = (i ≤ jobs) × ((k : ℕ) → k < i → end-at entry k ≤ max (getD ends k 0) l)
+Inv-loop entry ends jobs unplaced l i₀ i = (i ≤ jobs) × ((k : ℕ) → k < i → endAt entry k ≤ max (getD ends k 0) l)
 
 abbrev μ-loop : tie.MeasureT-loop
 μ-loop entry ends jobs unplaced l i₀ i = jobs - i
@@ -68,12 +68,12 @@ loop-again c =
     let within = c .before .within in
     let a = args in
     let v = loop in
-    let here : end-at (a .entry .now) (v .i) ≤ max (getD (a .ends .now) (v .i) 0) (a .l) =
+    let here : endAt (a .entry .now) (v .i) ≤ max (getD (a .ends .now) (v .i) 0) (a .l) =
     rw (read162 .ensures) at (within .ensures (not-false _ (c .if3 .left))) in (
       omega arith,
       λ k h. ⊎-elim (λ (x : k < v .i). v .inv .1 k x) (λ (x : v .i ≤ k).
           let e : k ≡ v .i = omega arith in
-          subst (λ (z : ℕ). end-at (a .entry .now) z ≤ max (getD (a .ends .now) z 0) (a .l)) (sym e) here) (less-or-not k (v .i)),
+          subst (λ (z : ℕ). endAt (a .entry .now) z ≤ max (getD (a .ends .now) z 0) (a .l)) (sym e) here) (less-or-not k (v .i)),
     )
 
 returns-4 : tie.Need-returns-4 Inv-loop μ-loop

@@ -2,7 +2,7 @@
 use Prim.Native.Nat.{_+_, _-_, _*_, _≤_}
 use native.Mathlib.Omega.{arith}
 use lib.ListN.{length}
-use Rattle.memory.specs.Entries.{group-of}
+use Rattle.memory.specs.Entries.{groupOf}
 use Rattle.memory.proofs.Slots.{no, hit-at}
 use borrow.Author.Needs.{needs}
 use Rattle.memory.proofs.recall.Statement.{statement}
@@ -59,7 +59,7 @@ returns-2 c =
     let group-at = c .before .before .before .before .before .group-at in
     let entry-ahead = c .before .entry-ahead in
     let a = args in
-    let s = group-of (length (a .memory .now)) (a .unplaced) in
+    let s = groupOf (length (a .memory .now)) (a .unplaced) in
     let v = loop .way in
     λ e. hit-at (a .memory .now) (a .jobs) (a .ends .now) (a .unplaced) (a .l) (group-at .result + v * 46) (s * 16 + v)
     (omega (arith, group-at .ensures .0)) (omega (arith, group-at .ensures .0, group-at .ensures .1)) (entry-ahead .ensures (c .if2 .taken))

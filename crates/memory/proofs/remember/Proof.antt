@@ -2,7 +2,7 @@
 use Prim.Native.Nat.{_+_, _*_}
 use native.Mathlib.Omega.{arith}
 use lib.ListN.{length}
-use Rattle.memory.specs.Entries.{group-of}
+use Rattle.memory.specs.Entries.{groupOf}
 use Rattle.memory.proofs.Slots.{adds-none, adds-at}
 use borrow.Author.Needs.{needs}
 use Rattle.memory.proofs.remember.Statement.{statement}
@@ -50,7 +50,7 @@ returns-2 c =
     let store = c .before .before .store in
     let group-at = c .before .before .before .before .before .group-at in
     let a = args in
-    let s = group-of (length (a .memory .now)) (a .unplaced) in
+    let s = groupOf (length (a .memory .now)) (a .unplaced) in
     let v = way-of .result in
     adds-at (a .memory .now) (a .jobs) (a .ends .now) (a .unplaced) (a .last) (store .last .0) (group-at .result + v * 46) (s * 16 + v)
     (omega (arith, group-at .ensures .0)) (omega (arith, group-at .ensures .1, way-of .ensures)) (store .ensures)

@@ -5,16 +5,16 @@ use mathlib.Core.Logic.{inl, ⊎-elim}
 use native.Mathlib.Omega.{arith}
 use lib.ListN.{length, getD}
 use Rattle.counting.proofs.Tests.{less-or-not}
-use Rattle.words.specs.Words.{u16-at, u32-at}
-use Rattle.memory.specs.Entries.{last-at, end-at}
+use Rattle.words.specs.Words.{u16At, u32At}
+use Rattle.memory.specs.Entries.{lastAt, endAt}
 use borrow.Author.Needs.{needs}
 use Rattle.memory.proofs.store.Statement.{statement}
 use Rattle.memory.proofs.store.Tie as tie
 
 abbrev Inv-loop : tie.InvT-loop
 Inv-loop entry₀ ends jobs unplaced last i₀ entry i =
-    (i ≤ jobs) × (length entry ≡ 46) × (u16-at entry 0 ≡ unplaced % 65536) × (u16-at entry 2 ≡ unplaced / 65536) × (last-at entry ≡ last)
-    × ((k : ℕ) → k < i → end-at entry k ≡ getD ends k 0)
+    (i ≤ jobs) × (length entry ≡ 46) × (u16At entry 0 ≡ unplaced % 65536) × (u16At entry 2 ≡ unplaced / 65536) × (lastAt entry ≡ last)
+    × ((k : ℕ) → k < i → endAt entry k ≡ getD ends k 0)
 
 abbrev μ-loop : tie.MeasureT-loop
 μ-loop entry₀ ends jobs unplaced last i₀ entry i = jobs - i
@@ -97,7 +97,7 @@ loop-again c =
       d .other 4 (inl (omega arith)) ∙ v .inv .4,
       λ k h. ⊎-elim (λ (x : k < v .i). d .other (6 + 2 * k) (inl (omega arith)) ∙ v .inv .5 k x)
           (λ (x : v .i ≤ k). let e : k ≡ v .i = omega arith in
-          subst (λ (z : ℕ). end-at (write164 .last .0) z ≡ getD (a .ends .now) z 0) (sym e) (d .here))
+          subst (λ (z : ℕ). endAt (write164 .last .0) z ≡ getD (a .ends .now) z 0) (sym e) (d .here))
           (less-or-not k (v .i)),
     )
 
@@ -108,7 +108,7 @@ same-length c =
     loop .inv .1 ∙ sym (pre .0)
 
 returns : tie.Need-returns Inv-loop μ-loop
-unfolding u32-at
+unfolding u32At
 returns c =
     let loop = c .before .loop in
     let v = loop .inv in

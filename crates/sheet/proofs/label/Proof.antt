@@ -3,7 +3,7 @@ use mathlib.Core.Path.{_≡_, ap}
 use Prim.Native.Nat.{ℕ, _+_}
 use native.Mathlib.Omega.{arith}
 use borrow.Author.Needs.{needs}
-use Rattle.sheet.specs.Label.{label-at}
+use Rattle.sheet.specs.Label.{labelAt}
 use Rattle.sheet.proofs.Labels.{there, empty-label, empty-at, label-ends, whole-label, whole-at}
 use Rattle.sheet.proofs.label.Statement.{statement}
 use Rattle.sheet.proofs.label.Tie as tie
@@ -20,7 +20,7 @@ returns c =
     let s = a .sheet in
     let k = c .before .before .label-refusal in
     let h = c .before .if1 .taken in
-    let e : s .ptr .1 ≡ label-at (s .now) (a .job) + s .ptr .1 = omega (arith, empty-at (s .now) (a .job) (k .result) (k .ensures) h) in
+    let e : s .ptr .1 ≡ labelAt (s .now) (a .job) + s .ptr .1 = omega (arith, empty-at (s .now) (a .job) (k .result) (k .ensures) h) in
     (empty-label (s .now) (a .job) (k .result) (k .ensures) h, ap (λ (x : ℕ). (s .ptr .0, x)) e)
 
 offset-requires : tie.Need-offset-requires

@@ -4,19 +4,19 @@ use mathlib.Core.List.{List}
 use Prim.Native.Nat.{ℕ}
 use native.Mathlib.Omega.{arith}
 use borrow.Author.Needs.{needs}
-use Rattle.sheet_format.specs.Format.{count-of}
+use Rattle.sheet_format.specs.Format.{countOf}
 use Rattle.sheet.specs.declared.Reading.{Reading}
-use Rattle.sheet.specs.Read.{reading, read-refusal}
+use Rattle.sheet.specs.Read.{reading, readRefusal}
 use Rattle.sheet.proofs.Answers.{read-number, read-answer}
 use Rattle.sheet.proofs.Labels.{refused-in-reading, no-job-there, label-there}
 use Rattle.sheet.proofs.label_refusal.Statement.{statement}
 use Rattle.sheet.proofs.label_refusal.Tie as tie
 
 -- the number and the count of what reading answered
-number : (s : List ℕ) (r : Reading) → r ≡ reading s → r .refusal ≡ read-refusal s
+number : (s : List ℕ) (r : Reading) → r ≡ reading s → r .refusal ≡ readRefusal s
 number s r e = ap (λ (x : Reading). x .refusal) e ∙ read-number s
 
-number-of-jobs : (s : List ℕ) (r : Reading) → r ≡ reading s → r .refusal ≡ 0 → r .count ≡ count-of s
+number-of-jobs : (s : List ℕ) (r : Reading) → r ≡ reading s → r .refusal ≡ 0 → r .count ≡ countOf s
 number-of-jobs s r e z = ap (λ (x : Reading). x .count) (e ∙ read-answer s (sym (number s r e) ∙ z))
 
 read-requires : tie.Need-read-requires

@@ -1,7 +1,7 @@
 -- `sheet::write` meets its contract.
 use lib.ListN.{length}
 use borrow.Author.Needs.{needs}
-use Rattle.sheet_format.specs.Format.{jobs-in}
+use Rattle.sheet_format.specs.Format.{jobsIn}
 use Rattle.sheet.proofs.Writes.{writes, refused-answer, refused-leaves, written-answer, written-leaves}
 use Rattle.sheet.proofs.write.Statement.{statement}
 use Rattle.sheet.proofs.write.Tie as tie
@@ -13,7 +13,7 @@ returns : tie.Need-returns
 returns c =
     let a = c .before .before .before .before .args in
     let k = c .before .write-refusal in
-    let J = jobs-in (a .jobs) in (
+    let J = jobsIn (a .jobs) in (
       refused-answer J (a .count) (a .labels .now) (a .modules) (a .out .now) (k .result) (k .ensures) (c .if1 .taken),
       refused-leaves J (a .count) (a .labels .now) (a .modules) (a .out .now) (k .result) (k .ensures) (c .if1 .taken),
     )
@@ -22,7 +22,7 @@ write-parts-requires : tie.Need-write-parts-requires
 write-parts-requires c κs =
     let a = c .before .before .before .before .before .args in
     let k = c .before .before .write-refusal in
-    let w = writes (jobs-in (a .jobs)) (a .count) (a .labels .now) (a .modules) (length (a .out .now)) (k .result) (k .ensures)
+    let w = writes (jobsIn (a .jobs)) (a .count) (a .labels .now) (a .modules) (length (a .out .now)) (k .result) (k .ensures)
     (c .before .if1 .left) in
     (w .few, w .short, w .fits)
 
@@ -34,7 +34,7 @@ returns-2 c =
     let a = c .before .before .before .before .before .before .before .before .args in
     let k = c .before .before .before .before .before .write-refusal in
     let w = c .before .before .write-parts in
-    let J = jobs-in (a .jobs) in
+    let J = jobsIn (a .jobs) in
     let z = c .before .before .before .before .if1 .left in (
       written-answer J (a .count) (a .labels .now) (a .modules) (a .out .now) (k .result) (k .ensures) z (w .result) (w .ensures .0),
       written-leaves J (a .count) (a .labels .now) (a .modules) (a .out .now) (k .result) (k .ensures) z (w .last .1 .1 .1 .1 .0)

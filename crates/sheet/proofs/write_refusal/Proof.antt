@@ -1,7 +1,7 @@
 -- `sheet::write_refusal` meets its contract: each number stands behind the checks that passed.
 use mathlib.Core.Path.{sym, _∙_}
 use borrow.Author.Needs.{needs}
-use Rattle.sheet_format.specs.Format.{jobs-in}
+use Rattle.sheet_format.specs.Format.{jobsIn}
 use Rattle.sheet.proofs.Writes.{found-is, refused-count, refused-modules, refused-content, refused-room, not-refused}
 use Rattle.sheet.proofs.write_refusal.Statement.{statement}
 use Rattle.sheet.proofs.write_refusal.Tie as tie
@@ -9,7 +9,7 @@ use Rattle.sheet.proofs.write_refusal.Tie as tie
 returns : tie.Need-returns
 returns c =
     let a = c .before .before .args in
-    refused-count (jobs-in (a .jobs)) (a .count) (a .labels .now) (a .modules) (a .room) (c .if1 .taken)
+    refused-count (jobsIn (a .jobs)) (a .count) (a .labels .now) (a .modules) (a .room) (c .if1 .taken)
 
 outside-requires : tie.Need-outside-requires
 outside-requires c κs = search needs
@@ -17,7 +17,7 @@ outside-requires c κs = search needs
 returns-2 : tie.Need-returns-2
 returns-2 c =
     let a = c .before .before .before .before .args in
-    refused-modules (jobs-in (a .jobs)) (a .count) (a .labels .now) (a .modules) (a .room) (c .before .before .if1 .left) (sym
+    refused-modules (jobsIn (a .jobs)) (a .count) (a .labels .now) (a .modules) (a .room) (c .before .before .if1 .left) (sym
     (c .before .outside .ensures) ∙ c .if2 .taken)
 
 survey-requires : tie.Need-survey-requires
@@ -31,10 +31,10 @@ returns-3 c =
     let a = c .before .before .before .before .before .before .before .args in
     let s = c .before .before .survey in
     let d = c .before .content-refusal in
-    let k = found-is (jobs-in (a .jobs)) (a .count) (a .labels .now) (a .modules) (s .result .total) (d .result)
+    let k = found-is (jobsIn (a .jobs)) (a .count) (a .labels .now) (a .modules) (s .result .total) (d .result)
     (s .result .faulty) (s .ensures .1) (s .ensures .0) (d .ensures) in
     let m = sym (c .before .before .before .before .outside .ensures) ∙ c .before .before .before .if2 .left in
-    refused-content (jobs-in (a .jobs)) (a .count) (a .labels .now) (a .modules) (a .room)
+    refused-content (jobsIn (a .jobs)) (a .count) (a .labels .now) (a .modules) (a .room)
     (c .before .before .before .before .before .if1 .left) m
     (d .result) k (c .if3 .taken)
 
@@ -52,10 +52,10 @@ returns-4 c =
     let a = c .before .before .before .before .before .before .before .before .args in
     let s = c .before .before .before .survey in
     let d = c .before .before .content-refusal in
-    let k = found-is (jobs-in (a .jobs)) (a .count) (a .labels .now) (a .modules) (s .result .total) (d .result)
+    let k = found-is (jobsIn (a .jobs)) (a .count) (a .labels .now) (a .modules) (s .result .total) (d .result)
     (s .result .faulty) (s .ensures .1) (s .ensures .0) (d .ensures) in
     let m = sym (c .before .before .before .before .before .outside .ensures) ∙ c .before .before .before .before .if2 .left in
-    refused-room (jobs-in (a .jobs)) (a .count) (a .labels .now) (a .modules) (a .room)
+    refused-room (jobsIn (a .jobs)) (a .count) (a .labels .now) (a .modules) (a .room)
     (c .before .before .before .before .before .before .if1 .left) m
     (sym k ∙ c .before .if3 .left) (c .if4 .taken)
 
@@ -64,10 +64,10 @@ returns-5 c =
     let a = c .before .before .before .before .before .before .before .before .args in
     let s = c .before .before .before .survey in
     let d = c .before .before .content-refusal in
-    let k = found-is (jobs-in (a .jobs)) (a .count) (a .labels .now) (a .modules) (s .result .total) (d .result)
+    let k = found-is (jobsIn (a .jobs)) (a .count) (a .labels .now) (a .modules) (s .result .total) (d .result)
     (s .result .faulty) (s .ensures .1) (s .ensures .0) (d .ensures) in
     let m = sym (c .before .before .before .before .before .outside .ensures) ∙ c .before .before .before .before .if2 .left in
-    not-refused (jobs-in (a .jobs)) (a .count) (a .labels .now) (a .modules) (a .room)
+    not-refused (jobsIn (a .jobs)) (a .count) (a .labels .now) (a .modules) (a .room)
     (c .before .before .before .before .before .before .if1 .left) m
     (sym k ∙ c .before .if3 .left) (c .if4 .left)
 

@@ -11,8 +11,8 @@ use lib.WfN.{Nat·lt-wfRel}
 use lib.Dec.{T, ltb, ltb→lt, nltb→le, lit<}
 use lib.ListN.{length}
 use Rattle.sheet_format.specs.declared.Job.{Job}
-use Rattle.sheet_format.specs.Figures.{most-jobs}
-use Rattle.sheet_format.specs.Format.{joined, no-job, jobs-in, places}
+use Rattle.sheet_format.specs.Figures.{mostJobs}
+use Rattle.sheet_format.specs.Format.{joined, noJob, jobsIn, places}
 use Rattle.sheet_format.proofs.Lists.{place-more}
 use Rattle.sheet_format.proofs.Job as T
 use Rattle.sheet_format.proofs.Job.Laws as T′
@@ -26,7 +26,7 @@ use Rattle.sheet_list.proofs.at_most.Symbol.{name as #at-most}
 use Rattle.sheet_list.proofs.at_most.Met as most-thm
 use Rattle.sheet_list.proofs.no_jobs as none
 use Rattle.sheet_list.proofs.no_jobs.Symbol as none-def
-use Rattle.sheet_list.proofs.no_jobs.Symbol.{name as #no-jobs}
+use Rattle.sheet_list.proofs.no_jobs.Symbol.{name as #noJobs}
 use Rattle.sheet_list.proofs.no_jobs.Met as none-thm
 use Rattle.sheet_list.proofs.job_at as job-at
 use Rattle.sheet_list.proofs.job_at.Symbol as job-at-def
@@ -116,16 +116,16 @@ rest = seq (assign (place 0 []) (rvOpd (copy (place 3 [])))) return
 
 -- the first i records in their places
 abbrev filled : List Job → ℕ → Jobs
-filled ys i = listed i (jobs-in ys)
+filled ys i = listed i (jobsIn ys)
 
 -- one record more, and none
-filled-more : (ys : List Job) (i : ℕ) (r : Job) (d : Jobs) → i < most-jobs → r ≡ jobs-in ys i → d ≡ placed (filled ys i) i r
+filled-more : (ys : List Job) (i : ℕ) (r : Job) (d : Jobs) → i < mostJobs → r ≡ jobsIn ys i → d ≡ placed (filled ys i) i r
     → d ≡ filled ys (i + 1)
 unfolding listed
 filled-more ys i r d l e e′ =
-    e′ ∙ ap (placed (filled ys i) i) e ∙ ap (λ (js : List Job). record { list = js }) (place-more i (jobs-in ys) l)
+    e′ ∙ ap (placed (filled ys i) i) e ∙ ap (λ (js : List Job). record { list = js }) (place-more i (jobsIn ys) l)
 
-filled-none : (ys : List Job) (d : Jobs) → d ≡ listed 0 (λ i. no-job) → d ≡ filled ys 0
+filled-none : (ys : List Job) (d : Jobs) → d ≡ listed 0 (λ i. noJob) → d ≡ filled ys 0
 unfolding listed places joined
 filled-none ys d e = e
 
@@ -149,7 +149,7 @@ module _ {M : Type 1} (𝓤 : URA M) (H : Heap 𝓤) (A : Atoms 𝓤) (W : Given
   len = length ys
 
   abbrev n : ℕ
-  n = min len most-jobs
+  n = min len mostJobs
 
   abbrev s : RefT (List Job)
   s = record { ptr = (b, o); name = γ; now = ys }
@@ -195,8 +195,8 @@ module _ {M : Type 1} (𝓤 : URA M) (H : Heap 𝓤) (A : Atoms 𝓤) (W : Given
   goes-none = qed W [] ∵ nothing ! $ nothing ! $ join ! $ frame ! $ done !
 
   none-of : (r : Jobs) → ent 𝓤 (ensured 𝓤 H A none.ended (none.clauses 𝓤 H A mem run) tt tt tt r)
-      (fact 𝓤 (r ≡ (listed 0 (λ i. no-job))))
-  none-of r = exE 𝓤 _ (λ ws. snd∗ 𝓤 (sem 𝓤 H A (lasts none.ended tt tt ws)) (fact 𝓤 (r ≡ (listed 0 (λ i. no-job)))))
+      (fact 𝓤 (r ≡ (listed 0 (λ i. noJob))))
+  none-of r = exE 𝓤 _ (λ ws. snd∗ 𝓤 (sem 𝓤 H A (lasts none.ended tt tt ws)) (fact 𝓤 (r ≡ (listed 0 (λ i. noJob)))))
 
   module _ (i : ℕ) where
     abbrev to-job : JobAt 𝓤 H A mem run .Ghost
@@ -208,15 +208,15 @@ module _ {M : Type 1} (𝓤 : URA M) (H : Heap 𝓤) (A : Atoms 𝓤) (W : Given
         nothing ! $ owned ! usize (Is usize) (uint-makes 𝓤 H A W w64) i _ (refl, fits) $ fjoin ! $ move ! (1 ∷ 0 ∷ []) $ fjoin ! $
         done !
 
-    job-of : (r : Job) → ent 𝓤 (ensured 𝓤 H A job-at.ended (job-at.clauses 𝓤 H A mem run) (κ, tt) (s, (i, tt)) tt r)
-        (fact 𝓤 (r ≡ jobs-in ys i))
-    job-of r = exE 𝓤 _ (λ ws. snd∗ 𝓤 (sem 𝓤 H A (lasts job-at.ended (κ, tt) (s, (i, tt)) ws)) (fact 𝓤 (r ≡ jobs-in ys i)))
+    jobOf : (r : Job) → ent 𝓤 (ensured 𝓤 H A job-at.ended (job-at.clauses 𝓤 H A mem run) (κ, tt) (s, (i, tt)) tt r)
+        (fact 𝓤 (r ≡ jobsIn ys i))
+    jobOf r = exE 𝓤 _ (λ ws. snd∗ 𝓤 (sem 𝓤 H A (lasts job-at.ended (κ, tt) (s, (i, tt)) ws)) (fact 𝓤 (r ≡ jobsIn ys i)))
 
     module _ (d : Jobs) (j : Job) where
       abbrev to-with : WithJob 𝓤 H A mem run .Ghost
       to-with = ((tt, tt, tt, (d, (i, (j, tt))), (listV d ∷ [], (vint w64 i ∷ [], (jobV j ∷ [], tt)))), tt)
 
-      goes-with : Is TL.the-row d (listV d ∷ []) → i < 2 ^ 64 → Is T.the-row j (jobV j ∷ []) → i < most-jobs → ent 𝓤 (emp 𝓤)
+      goes-with : Is TL.the-row d (listV d ∷ []) → i < 2 ^ 64 → Is T.the-row j (jobV j ∷ []) → i < mostJobs → ent 𝓤 (emp 𝓤)
           (WithJob 𝓤 H A mem run .pre to-with)
       goes-with isd fits isj small =
           qed W [] ∵ says ! small $ nothing ! $ frame ! $
@@ -254,11 +254,11 @@ module _ {M : Type 1} (𝓤 : URA M) (H : Heap 𝓤) (A : Atoms 𝓤) (W : Given
   in-list : (i : ℕ) → i < n → i < len
   in-list i l = omega arith
 
-  in-places : (i : ℕ) → i < n → i < most-jobs
+  in-places : (i : ℕ) → i < n → i < mostJobs
   in-places i l = omega arith
 
   module _ (𝓣 : Tables 𝓤 H) (fm : FmC 𝓤 H (W .laws) (𝓣 .C)) (known-most : Triple 𝓤 (𝓣 .C #at-most) (Most 𝓤 H A mem run))
-      (known-none : Triple 𝓤 (𝓣 .C #no-jobs) (None 𝓤 H A mem run)) (known-job : Triple 𝓤 (𝓣 .C #job-at) (JobAt 𝓤 H A mem run))
+      (known-none : Triple 𝓤 (𝓣 .C #noJobs) (None 𝓤 H A mem run)) (known-job : Triple 𝓤 (𝓣 .C #job-at) (JobAt 𝓤 H A mem run))
       (known-with : Triple 𝓤 (𝓣 .C #with-job) (WithJob 𝓤 H A mem run)) where
     abbrev C : Calls 𝓤 H
     C = 𝓣 .C
@@ -302,8 +302,8 @@ module _ {M : Type 1} (𝓤 : URA M) (H : Heap 𝓤) (A : Atoms 𝓤) (W : Given
           use1 W (later (some (λ (r : Job). ((‵ (flft κ q) ⊛ ‵ ftrue) ⊛ ‵ (T.the-row .own r (w ∷ []))) ⊛ raw
           (ensured 𝓤 H A job-at.ended (job-at.clauses 𝓤 H A mem run) (κ, tt) (s, (i .0, tt)) tt r)))) (id⊢ 𝓤 _) $
           await ! tt $ pick ! (λ r.
-          split ! $ move ! (1 ∷ []) $ use1 W (raw (fact 𝓤 (r ≡ jobs-in ys (i .0)))) (job-of (i .0) r) $
-          heard ! (r ≡ jobs-in ys (i .0)) (λ e. split ! $ split ! $ move ! (2 ∷ []) $
+          split ! $ move ! (1 ∷ []) $ use1 W (raw (fact 𝓤 (r ≡ jobsIn ys (i .0)))) (jobOf (i .0) r) $
+          heard ! (r ≡ jobsIn ys (i .0)) (λ e. split ! $ split ! $ move ! (2 ∷ []) $
           peeks ! T.the-row (Is T.the-row) (shows 𝓤 H A T.the-row) r (w ∷ []) (λ is.
           -- [what the record owns; the token; true; the slice; the locals from _7 down]
           land ! (from ! (stop !)) (init ! 8 refl (LL.lawful T.the-type T′.the-laws 𝓤 H A W .typed r _ is .0)) $ drop ! $
@@ -383,8 +383,8 @@ module _ {M : Type 1} (𝓤 : URA M) (H : Heap 𝓤) (A : Atoms 𝓤) (W : Given
         use1 W (later (some (λ (d : Jobs). (‵ ftrue ⊛ ‵ (TL.the-row .own d (w′ ∷ []))) ⊛ raw
         (ensured 𝓤 H A none.ended (none.clauses 𝓤 H A mem run) tt tt tt d)))) (id⊢ 𝓤 _) $
         await ! tt $ pick ! (λ d.
-        split ! $ move ! (1 ∷ []) $ use1 W (raw (fact 𝓤 (d ≡ (listed 0 (λ i. no-job))))) (none-of d) $
-        heard ! (d ≡ (listed 0 (λ i. no-job))) (λ e′. split ! $ drop ! $
+        split ! $ move ! (1 ∷ []) $ use1 W (raw (fact 𝓤 (d ≡ (listed 0 (λ i. noJob))))) (none-of d) $
+        heard ! (d ≡ (listed 0 (λ i. noJob))) (λ e′. split ! $ drop ! $
         peeks ! TL.the-row (Is TL.the-row) (shows 𝓤 H A TL.the-row) d (w′ ∷ []) (λ is′.
         land ! (from ! (stop !)) (init ! 9 refl (LL.lawful TL.the-type TL′.the-laws 𝓤 H A W .typed d _ is′ .0)) $ drop ! $
         rewrite ! 8 (λ (u : Val). ‵ (fat fullShare TL′.mir l₃ 0 u)) (ap only (LL.tells TL.the-type TL′.the-laws d (w′ ∷ []) is′))
@@ -398,7 +398,7 @@ module _ {M : Type 1} (𝓤 : URA M) (H : Heap 𝓤) (A : Atoms 𝓤) (W : Given
 
 module _ {M : Type 1} (𝓤 : URA M) (H : Heap 𝓤) (A : Atoms 𝓤) (W : Given 𝓤 H A) (mem : Memory → SProp 𝓤) (run : Routine → Fun 𝓤)
     (𝓣 : Tables 𝓤 H) (known-most : Triple 𝓤 (𝓣 .C #at-most) (Most 𝓤 H A mem run))
-    (known-none : Triple 𝓤 (𝓣 .C #no-jobs) (None 𝓤 H A mem run)) (known-job : Triple 𝓤 (𝓣 .C #job-at) (JobAt 𝓤 H A mem run))
+    (known-none : Triple 𝓤 (𝓣 .C #noJobs) (None 𝓤 H A mem run)) (known-job : Triple 𝓤 (𝓣 .C #job-at) (JobAt 𝓤 H A mem run))
     (known-with : Triple 𝓤 (𝓣 .C #with-job) (WithJob 𝓤 H A mem run)) where
   f-walks : Walks 𝓤 H A f.ended stayed (WpFn 𝓤 H (𝓣 .C) (𝓣 .Λ) code.function) (f.clauses 𝓤 H A mem run)
   f-walks =
@@ -422,7 +422,7 @@ gather-spec 𝓤 H 𝓜 𝓖 𝓡 =
     (f-meets 𝓤 H (𝓖 .A) (givenOf 𝓤 H 𝓜 𝓖) (𝓜 .mem) (𝓡 .run) (tablesOf 𝓤 H 𝓜 (tables 𝓤 H 𝓜 𝓡 code.env))
     (cited 𝓤 H (Most 𝓤 H (𝓖 .A) (𝓜 .mem) (𝓡 .run)) 𝓜 𝓡 code.env #at-most most-def.routine code.calls-sheet-list·at-most
     (most-thm.met 𝓤 H 𝓜 𝓖 𝓡))
-    (cited 𝓤 H (None 𝓤 H (𝓖 .A) (𝓜 .mem) (𝓡 .run)) 𝓜 𝓡 code.env #no-jobs none-def.routine code.calls-sheet-list·no-jobs
+    (cited 𝓤 H (None 𝓤 H (𝓖 .A) (𝓜 .mem) (𝓡 .run)) 𝓜 𝓡 code.env #noJobs none-def.routine code.calls-sheet-list·no-jobs
     (none-thm.met 𝓤 H 𝓜 𝓖 𝓡))
     (cited 𝓤 H (JobAt 𝓤 H (𝓖 .A) (𝓜 .mem) (𝓡 .run)) 𝓜 𝓡 code.env #job-at job-at-def.routine code.calls-sheet-list·job-at
     (job-at-thm.met 𝓤 H 𝓜 𝓖 𝓡))

@@ -5,11 +5,11 @@ use mathlib.Core.List.{List, [], _∷_}
 use Prim.Native.Nat.{ℕ, _<_, _^_}
 use lib.ListN.{length}
 use Rattle.sheet_format.specs.declared.Job.{Job}
-use Rattle.sheet_format.specs.Format.{jobs-in}
+use Rattle.sheet_format.specs.Format.{jobsIn}
 use Rattle.sheet_format.proofs.Job as T
 use Rattle.sheet_list.specs.declared.Jobs.{Jobs}
 use Rattle.sheet.specs.declared.Written.{Written}
-use Rattle.sheet.specs.Write.{write-answer, write-leaves}
+use Rattle.sheet.specs.Write.{writeAnswer, writeLeaves}
 use Rattle.sheet_list.specs.Gather.{gathered}
 use Rattle.sheet.proofs.Written as TW
 use Rattle.sheet.proofs.Written.Laws as TW′
@@ -131,7 +131,7 @@ module _ {M : Type 1} (𝓤 : URA M) (H : Heap 𝓤) (A : Atoms 𝓤) (W : Given
   -- what `write_gathered` says, at the list d
   abbrev Wrote : Jobs → Written → List ℕ → Type 0
   Wrote d m zs =
-      (m ≡ write-answer (jobs-in (d .list)) (length js) ls N os) × (zs ≡ write-leaves (jobs-in (d .list)) (length js) ls N os)
+      (m ≡ writeAnswer (jobsIn (d .list)) (length js) ls N os) × (zs ≡ writeLeaves (jobsIn (d .list)) (length js) ls N os)
 
   exits : (d : Jobs) (m : Written) (w : Val) (zs : List ℕ) → d ≡ gathered js → Wrote d m zs → length zs ≡ length os
       → ent 𝓤 (⋆ 𝓤 H A (‵ (flft κ₀ q₀) ∷ (‵ (flft κ₁ q₁) ⊛ (‵ (flft κ₂ q₂) ⊛ ‵ ftrue)) ∷ ‵ OwnJ ∷ ‵ OwnL ∷ ‵ (finally u8 γ₂ zs) ∷ ‵
@@ -142,8 +142,8 @@ module _ {M : Type 1} (𝓤 : URA M) (H : Heap 𝓤) (A : Atoms 𝓤) (W : Given
       suffices ! _ (ends-at 𝓤 H A f.ended stayed (f.clauses 𝓤 H A mem run) W
       (((κ₀, (κ₁, (κ₂, tt))), (q₀, (q₁, (q₂, tt))), tt, x, at), tt) w m (tt, (tt, (tt, (zs, tt)))) (tt, (tt, (tt, (l, tt))))) $
       says ! (
-        p .0 ∙ ap (λ (y : Jobs). write-answer (jobs-in (y .list)) (length js) ls N os) e ∙ gathered-answer js ls N os,
-        p .1 ∙ ap (λ (y : Jobs). write-leaves (jobs-in (y .list)) (length js) ls N os) e ∙ gathered-leaves js ls N os,
+        p .0 ∙ ap (λ (y : Jobs). writeAnswer (jobsIn (y .list)) (length js) ls N os) e ∙ gathered-answer js ls N os,
+        p .1 ∙ ap (λ (y : Jobs). writeLeaves (jobsIn (y .list)) (length js) ls N os) e ∙ gathered-leaves js ls N os,
       ) $
       join ! $ frame ! $ nothing ! $ move ! (3 ∷ 0 ∷ []) $ fjoin ! $ owned ! u16 (Is u16) (uint-makes 𝓤 H A W w16) N _ (refl, gN) $
       fjoin ! $ move ! (2 ∷ 0 ∷ []) $ fjoin ! $ move ! (1 ∷ 0 ∷ []) $ fjoin ! $ done !

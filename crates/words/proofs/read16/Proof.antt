@@ -1,5 +1,5 @@
 -- `words::read16` meets its contract.
-use Rattle.words.specs.Words.{u16-at}
+use Rattle.words.specs.Words.{u16At}
 use borrow.Author.Needs.{needs}
 use Rattle.words.proofs.read16.Statement.{statement}
 use Rattle.words.proofs.read16.Tie as tie
@@ -29,7 +29,7 @@ cast-result : tie.Need-cast-result
 cast-result c = search needs
 
 returns : tie.Need-returns
-unfolding u16-at
+unfolding u16At
 returns c = search needs
 
 pub read16-spec : {M : Type 1} → statement M

@@ -1,5 +1,5 @@
 -- `words::read32` meets its contract.
-use Rattle.words.specs.Words.{u32-at}
+use Rattle.words.specs.Words.{u32At}
 use borrow.Author.Needs.{needs}
 use Rattle.words.proofs.read32.Statement.{statement}
 use Rattle.words.proofs.read32.Tie as tie
@@ -26,7 +26,7 @@ add-result : tie.Need-add-result
 add-result c = search needs
 
 returns : tie.Need-returns
-unfolding u32-at
+unfolding u32At
 returns c = search needs
 
 pub read32-spec : {M : Type 1} → statement M

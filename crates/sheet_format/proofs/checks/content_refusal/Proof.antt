@@ -3,16 +3,16 @@ use mathlib.Core.Path.{sym, _∙_}
 use lib.ListN.{length}
 use borrow.Author.Tests.{eq-eqb, ne-eqb}
 use borrow.Author.Needs.{needs}
-use Rattle.sheet_format.specs.Checks.{first-failing}
+use Rattle.sheet_format.specs.Checks.{firstFailing}
 use Rattle.sheet_format.proofs.checks.content_refusal.Statement.{statement}
 use Rattle.sheet_format.proofs.checks.content_refusal.Tie as tie
 
 returns : tie.Need-returns
-unfolding first-failing
+unfolding firstFailing
 returns c = rw (c .if1 .taken)
 
 returns-2 : tie.Need-returns-2
-unfolding first-failing
+unfolding firstFailing
 returns-2 c =
     rw (
       c .before .if1 .left,
@@ -24,7 +24,7 @@ wrong-bytes-requires : tie.Need-wrong-bytes-requires
 wrong-bytes-requires c κs = search needs
 
 returns-3 : tie.Need-returns-3
-unfolding first-failing
+unfolding firstFailing
 returns-3 c =
     rw (
       c .before .before .before .if1 .left,
@@ -35,7 +35,7 @@ returns-3 c =
     )
 
 returns-4 : tie.Need-returns-4
-unfolding first-failing
+unfolding firstFailing
 returns-4 c =
     rw (
       c .before .before .before .if1 .left,

@@ -8,14 +8,14 @@ use native.Mathlib.Omega.{arith}
 use lib.ListN.{length, getD}
 use borrow.Author.Needs.{needs}
 use Rattle.counting.specs.Counting.{any}
-use Rattle.sheet_format.specs.Figures.{first-label-byte, last-label-byte}
+use Rattle.sheet_format.specs.Figures.{firstLabelByte, lastLabelByte}
 use Rattle.sheet_format.specs.Checks.{outside}
 use Rattle.sheet_format.proofs.checks.wrong_bytes.Statement.{statement}
 use Rattle.sheet_format.proofs.checks.wrong_bytes.Tie as tie
 
 -- the test of byte k
 abbrev wrong : List ℕ → ℕ → Bool
-wrong labels k = outside first-label-byte last-label-byte (getD labels k 0)
+wrong labels k = outside firstLabelByte lastLabelByte (getD labels k 0)
 
 abbrev Inv-loop : tie.InvT-loop
 Inv-loop labels found₀ i₀ found i = (i ≤ length labels) × (found ≡ any i (wrong labels))

@@ -1,6 +1,6 @@
 -- `sheet_format::numbers::read16` meets its contract.
 use borrow.Author.Needs.{needs}
-use Rattle.sheet_format.specs.Format.{u16-at}
+use Rattle.sheet_format.specs.Format.{u16At}
 use Rattle.sheet_format.proofs.numbers.read16.Statement.{statement}
 use Rattle.sheet_format.proofs.numbers.read16.Tie as tie
 
@@ -29,7 +29,7 @@ cast-result : tie.Need-cast-result
 cast-result c = search needs
 
 returns : tie.Need-returns
-unfolding u16-at
+unfolding u16At
 returns c = search needs
 
 pub read16-spec : {M : Type 1} → statement M

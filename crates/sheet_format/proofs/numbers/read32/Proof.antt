@@ -1,6 +1,6 @@
 -- `sheet_format::numbers::read32` meets its contract.
 use borrow.Author.Needs.{needs}
-use Rattle.sheet_format.specs.Format.{u32-at}
+use Rattle.sheet_format.specs.Format.{u32At}
 use Rattle.sheet_format.proofs.numbers.read32.Statement.{statement}
 use Rattle.sheet_format.proofs.numbers.read32.Tie as tie
 
@@ -26,7 +26,7 @@ add-result : tie.Need-add-result
 add-result c = search needs
 
 returns : tie.Need-returns
-unfolding u32-at
+unfolding u32At
 returns c = search needs
 
 pub read32-spec : {M : Type 1} → statement M

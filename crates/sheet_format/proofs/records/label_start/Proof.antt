@@ -5,13 +5,13 @@ use native.Mathlib.Numerals.{add-one}
 use native.Mathlib.Omega.{arith}
 use borrow.Author.Needs.{needs}
 use Rattle.counting.specs.Counting.{sum}
-use Rattle.sheet_format.specs.Figures.{record-size}
-use Rattle.sheet_format.specs.Format.{record-at, label-lengths, job-from}
+use Rattle.sheet_format.specs.Figures.{recordSize}
+use Rattle.sheet_format.specs.Format.{recordAt, labelLengths, jobFrom}
 use Rattle.sheet_format.proofs.records.label_start.Statement.{statement}
 use Rattle.sheet_format.proofs.records.label_start.Tie as tie
 
 abbrev Inv-loop : tie.InvT-loop
-Inv-loop sheet offset job total₀ i₀ total i = (i ≤ job) × (total ≡ label-lengths i (job-from sheet offset)) × (total ≤ 255 * i)
+Inv-loop sheet offset job total₀ i₀ total i = (i ≤ job) × (total ≡ labelLengths i (jobFrom sheet offset)) × (total ≤ 255 * i)
 
 abbrev μ-loop : tie.MeasureT-loop
 μ-loop sheet offset job total₀ i₀ total i = job - i
@@ -31,11 +31,11 @@ shared-slice-read-total c = search needs
 
 cast-total : tie.Need-cast-total Inv-loop μ-loop
 cast-total c =
-    omega (arith, c .shared-slice-known .given (c .before .before .before .args .offset + record-size * c .before .before .loop .i))
+    omega (arith, c .shared-slice-known .given (c .before .before .before .args .offset + recordSize * c .before .before .loop .i))
 
 add-total-2 : tie.Need-add-total-2 Inv-loop μ-loop
 add-total-2 c =
-    omega (arith, c .shared-slice-known .given (c .before .before .before .args .offset + record-size * c .before .before .loop .i))
+    omega (arith, c .shared-slice-known .given (c .before .before .before .args .offset + recordSize * c .before .before .loop .i))
 
 add-i : tie.Need-add-i Inv-loop μ-loop
 add-i c = search needs
@@ -44,7 +44,7 @@ loop-less : tie.Need-loop-less Inv-loop μ-loop
 loop-less c = search needs
 
 loop-again : tie.Need-loop-again Inv-loop μ-loop
-unfolding sum record-at
+unfolding sum recordAt
 loop-again c =
     let v = c .before .before .loop in (
       omega arith,
@@ -52,7 +52,7 @@ loop-again c =
       omega (
         arith,
         c .shared-slice-known .given (c .before .before .before .args .offset +
-            record-size * c .before .before .loop .i),
+            recordSize * c .before .before .loop .i),
       ),
     )
 
@@ -60,7 +60,7 @@ returns : tie.Need-returns Inv-loop μ-loop
 returns c =
     let v = c .before .loop in
     let e : v .i ≡ c .before .before .args .job = omega arith in (
-      v .inv .1 ∙ ap (λ k. label-lengths k (job-from (c .before .before .args .sheet .now) (c .before .before .args .offset))) e,
+      v .inv .1 ∙ ap (λ k. labelLengths k (jobFrom (c .before .before .args .sheet .now) (c .before .before .args .offset))) e,
       omega
           arith,
     )

@@ -9,7 +9,7 @@ use lib.ListN.{set}
 use borrow.Author.Needs.{needs}
 use Rattle.counting.specs.Counting.{sum, any}
 use Rattle.sheet_format.specs.declared.Job.{Job}
-use Rattle.sheet_format.specs.Format.{no-jobs, joined, label-lengths, job-from, places}
+use Rattle.sheet_format.specs.Format.{noJobs, joined, labelLengths, jobFrom, places}
 use Rattle.sheet_format.specs.Checks.{faulty}
 use Rattle.sheet_format.proofs.Lists.{place-more}
 use Rattle.sheet_format.proofs.records.read_all.Statement.{statement}
@@ -17,8 +17,8 @@ use Rattle.sheet_format.proofs.records.read_all.Tie as tie
 
 abbrev Inv-loop : tie.InvT-loop
 Inv-loop sheet offset count jobs₀ total₀ found₀ i₀ jobs total found i =
-    (i ≤ count) × (jobs ≡ places i (job-from sheet offset)) × (total ≡ label-lengths i (job-from sheet offset))
-    × (found ≡ any i (λ k. faulty count (job-from sheet offset k))) × (total ≤ 255 * i)
+    (i ≤ count) × (jobs ≡ places i (jobFrom sheet offset)) × (total ≡ labelLengths i (jobFrom sheet offset))
+    × (found ≡ any i (λ k. faulty count (jobFrom sheet offset k))) × (total ≤ 255 * i)
 
 abbrev μ-loop : tie.MeasureT-loop
 μ-loop sheet offset count jobs₀ total₀ found₀ i₀ jobs total found i = count - i
@@ -27,7 +27,7 @@ no-jobs-requires : tie.Need-no-jobs-requires Inv-loop μ-loop
 no-jobs-requires c κs = search needs
 
 loop-holds : tie.Need-loop-holds Inv-loop μ-loop
-unfolding no-jobs places joined sum any
+unfolding noJobs places joined sum any
 loop-holds c = (omega arith, c .no-jobs .ensures, refl, refl, omega arith)
 
 mul-read-one : tie.Need-mul-read-one Inv-loop μ-loop
@@ -67,7 +67,7 @@ loop-again : tie.Need-loop-again Inv-loop μ-loop
 unfolding sum any
 loop-again c =
     let v = c .before .before .before .before .before .loop in
-    let f = job-from (c .before .before .before .before .before .before .before .before .args .sheet .now)
+    let f = jobFrom (c .before .before .before .before .before .before .before .before .args .sheet .now)
     (c .before .before .before .before .before .before .before .before .args .offset) in
     let r = c .before .before .before .read-one in (
       omega arith,
@@ -80,10 +80,10 @@ loop-again c =
 returns : tie.Need-returns Inv-loop μ-loop
 returns c =
     let v = c .before .loop in
-    let f = job-from (c .before .before .before .before .args .sheet .now) (c .before .before .before .before .args .offset) in
+    let f = jobFrom (c .before .before .before .before .args .sheet .now) (c .before .before .before .before .args .offset) in
     let e : v .i ≡ c .before .before .before .before .args .count = omega arith in (
       v .inv .1 ∙ ap (λ k. places k f) e,
-      v .inv .2 ∙ ap (λ k. label-lengths k f) e,
+      v .inv .2 ∙ ap (λ k. labelLengths k f) e,
       v .inv .3 ∙ ap (λ k. any k (λ m. faulty (c .before .before .before .before .args .count) (f m))) e,
     )
 

@@ -1,6 +1,6 @@
 -- `sheet_format::records::read_one` meets its contract.
 use borrow.Author.Needs.{needs}
-use Rattle.sheet_format.specs.Format.{record-at}
+use Rattle.sheet_format.specs.Format.{recordAt}
 use Rattle.sheet_format.proofs.records.read_one.Statement.{statement}
 use Rattle.sheet_format.proofs.records.read_one.Tie as tie
 
@@ -32,7 +32,7 @@ read16-requires-2 : tie.Need-read16-requires-2
 read16-requires-2 c κs = search needs
 
 returns : tie.Need-returns
-unfolding record-at
+unfolding recordAt
 returns c = cc
 
 pub read-one-spec : {M : Type 1} → statement M

@@ -6,14 +6,14 @@ use native.Mathlib.Numerals.{add-one}
 use native.Mathlib.Omega.{arith}
 use borrow.Author.Needs.{needs}
 use Rattle.counting.specs.Counting.{sum, any}
-use Rattle.sheet_format.specs.Format.{label-lengths, jobs-in}
+use Rattle.sheet_format.specs.Format.{labelLengths, jobsIn}
 use Rattle.sheet_format.specs.Checks.{faulty}
 use Rattle.sheet_format.proofs.records.survey.Statement.{statement}
 use Rattle.sheet_format.proofs.records.survey.Tie as tie
 
 abbrev Inv-loop : tie.InvT-loop
 Inv-loop count jobs total₀ found₀ i₀ total found i =
-    (i ≤ count) × (total ≡ label-lengths i (jobs-in jobs)) × (found ≡ any i (λ k. faulty count (jobs-in jobs k))) × (total ≤ 255 * i)
+    (i ≤ count) × (total ≡ labelLengths i (jobsIn jobs)) × (found ≡ any i (λ k. faulty count (jobsIn jobs k))) × (total ≤ 255 * i)
 
 abbrev μ-loop : tie.MeasureT-loop
 μ-loop count jobs total₀ found₀ i₀ total found i = count - i
@@ -54,8 +54,8 @@ returns : tie.Need-returns Inv-loop μ-loop
 returns c =
     let v = c .before .loop in
     let e : v .i ≡ c .before .before .args .count = omega arith in (
-      v .inv .1 ∙ ap (λ k. label-lengths k (jobs-in (c .before .before .args .t1))) e,
-      v .inv .2 ∙ ap (λ k. any k (λ m. faulty (c .before .before .args .count) (jobs-in (c .before .before .args .t1) m))) e,
+      v .inv .1 ∙ ap (λ k. labelLengths k (jobsIn (c .before .before .args .t1))) e,
+      v .inv .2 ∙ ap (λ k. any k (λ m. faulty (c .before .before .args .count) (jobsIn (c .before .before .args .t1) m))) e,
     )
 
 pub survey-spec : {M : Type 1} → statement M

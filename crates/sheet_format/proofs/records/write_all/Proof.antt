@@ -6,19 +6,19 @@ use native.Mathlib.Omega.{arith}
 use lib.ListN.{drop-of-length-le, length, drop}
 use borrow.Author.Needs.{needs}
 use Rattle.sheet_format.specs.declared.Job.{Job}
-use Rattle.sheet_format.specs.Figures.{record-size}
-use Rattle.sheet_format.specs.Format.{joined, record-bytes, jobs-in}
+use Rattle.sheet_format.specs.Figures.{recordSize}
+use Rattle.sheet_format.specs.Format.{joined, recordBytes, jobsIn}
 use Rattle.sheet_format.proofs.Parts.{records-more, records-length}
 use Rattle.sheet_format.proofs.records.write_all.Statement.{statement}
 use Rattle.sheet_format.proofs.records.write_all.Tie as tie
 
 -- the bytes of the first n records
 abbrev written : List Job → ℕ → List ℕ
-written jobs n = joined n (λ i. record-bytes (jobs-in jobs i))
+written jobs n = joined n (λ i. recordBytes (jobsIn jobs i))
 
 abbrev Inv-loop : tie.InvT-loop
 Inv-loop part₀ count jobs i₀ part i =
-    (i ≤ count) × (part ≡ written jobs i ++ drop (record-size * i) part₀) × (length part ≡ length part₀)
+    (i ≤ count) × (part ≡ written jobs i ++ drop (recordSize * i) part₀) × (length part ≡ length part₀)
 
 abbrev μ-loop : tie.MeasureT-loop
 μ-loop part₀ count jobs i₀ part i = count - i
@@ -61,11 +61,11 @@ loop-again : tie.Need-loop-again Inv-loop μ-loop
 loop-again c =
     let v = c .before .before .before .before .before .before .loop in
     let l = c .before .before .before .before .before .before .before .before .args .part .now in
-    let e = records-more (jobs-in (c .before .before .before .before .before .before .before .before .args .t2)) l (v .i) (v .part)
+    let e = records-more (jobsIn (c .before .before .before .before .before .before .before .before .args .t2)) l (v .i) (v .part)
     (c .before .before .write-one .last .0) (v .inv .1) (c .before .before .write-one .ensures) in (
       omega arith,
       e,
-      ap (length {A = ℕ}) e ∙ records-length (jobs-in
+      ap (length {A = ℕ}) e ∙ records-length (jobsIn
           (c .before .before .before .before .before .before .before .before .args .t2)) l (v .i + 1) (omega arith),
     )
 
@@ -79,7 +79,7 @@ returns c =
     let e : v .i ≡ c .before .before .before .args .count = omega arith in
     v .inv .1
     ∙ ap₂ (λ (n : ℕ) (rest : List ℕ). written (c .before .before .before .args .t2) n ++ rest) e (drop-of-length-le l {i =
-    record-size * v .i} (omega arith))
+    recordSize * v .i} (omega arith))
     ∙ append-nil (written (c .before .before .before .args .t2) (c .before .before .before .args .count))
 
 pub write-all-spec : {M : Type 1} → statement M

@@ -2,7 +2,7 @@
 use native.Mathlib.Omega.{arith}
 use lib.ListN.{length-set}
 use borrow.Author.Needs.{needs}
-use Rattle.sheet_format.specs.Format.{record-bytes}
+use Rattle.sheet_format.specs.Format.{recordBytes}
 use Rattle.sheet_format.proofs.Parts.{stored-whole}
 use Rattle.sheet_format.proofs.records.write_one.Statement.{statement}
 use Rattle.sheet_format.proofs.records.write_one.Tie as tie
@@ -65,8 +65,8 @@ same-length : tie.Need-same-length
 same-length c = simp length-set
 
 returns : tie.Need-returns
-unfolding record-bytes
-returns c = stored-whole (record-bytes (c .before .before .args .job)) (c .before .before .args .part .now) (c .before .before .pre)
+unfolding recordBytes
+returns c = stored-whole (recordBytes (c .before .before .args .job)) (c .before .before .args .part .now) (c .before .before .pre)
 
 pub write-one-spec : {M : Type 1} → statement M
 write-one-spec =

@@ -4,8 +4,8 @@ use Prim.Native.Nat.{_+_, _*_}
 use lib.ListN.{length}
 use borrow.Author.Tests.{lt-ltb, le-ltb, eq-eqb, ne-eqb}
 use borrow.Author.Needs.{needs}
-use Rattle.sheet_format.specs.Figures.{most-jobs, longest-sheet, record-size, trailer-size}
-use Rattle.sheet_format.specs.Checks.{first-failing}
+use Rattle.sheet_format.specs.Figures.{mostJobs, longestSheet, recordSize, trailerSize}
+use Rattle.sheet_format.specs.Checks.{firstFailing}
 use Rattle.sheet_format.proofs.Bounds.{inside}
 use Rattle.sheet_format.proofs.trailer.refusal.Statement.{statement}
 use Rattle.sheet_format.proofs.trailer.refusal.Tie as tie
@@ -14,30 +14,30 @@ outside-requires : tie.Need-outside-requires
 outside-requires c κs = search needs
 
 returns : tie.Need-returns
-unfolding first-failing
+unfolding firstFailing
 returns c = rw (sym (c .before .outside .ensures) ∙ c .if1 .taken)
 
 count-requires : tie.Need-count-requires
 count-requires c κs =
-    inside trailer-size longest-sheet (length (c .before .before .before .args .sheet .now)) (sym (c .before .outside .ensures) ∙
+    inside trailerSize longestSheet (length (c .before .before .before .args .sheet .now)) (sym (c .before .outside .ensures) ∙
     c .if1 .left) .0
 
 cast-n : tie.Need-cast-n
 cast-n c = search needs
 
 returns-2 : tie.Need-returns-2
-unfolding first-failing
+unfolding firstFailing
 returns-2 c =
     rw (
       sym (c .before .before .before .outside .ensures) ∙ c .before .before .if1 .left,
       ← c .before .count .ensures,
       lt-ltb
-          most-jobs (c .before .count .result) (c .if2 .taken),
+          mostJobs (c .before .count .result) (c .if2 .taken),
     )
 
 modules-requires : tie.Need-modules-requires
 modules-requires c κs =
-    inside trailer-size longest-sheet (length (c .before .before .before .before .before .args .sheet .now)) (sym
+    inside trailerSize longestSheet (length (c .before .before .before .before .before .args .sheet .now)) (sym
     (c .before .before .before .outside .ensures) ∙ c .before .before .if1 .left) .0
 
 cast-outside : tie.Need-cast-outside
@@ -47,12 +47,12 @@ outside-requires-2 : tie.Need-outside-requires-2
 outside-requires-2 c κs = search needs
 
 returns-3 : tie.Need-returns-3
-unfolding first-failing
+unfolding firstFailing
 returns-3 c =
     rw (
       sym (c .before .before .before .before .before .before .outside .ensures) ∙ c .before .before .before .before .before .if1 .left,
       ← c .before .before .before .before .count .ensures,
-      le-ltb most-jobs (c .before .before .before .before .count .result)
+      le-ltb mostJobs (c .before .before .before .before .count .result)
           (c .before .before .before .if2 .left),
       ← c .before .before .modules .ensures,
       sym (c .before .outside2 .ensures) ∙ c .if3 .taken,
@@ -60,7 +60,7 @@ returns-3 c =
 
 offset-requires : tie.Need-offset-requires
 offset-requires c κs =
-    inside trailer-size longest-sheet (length (c .before .before .before .before .before .before .before .before .args .sheet .now))
+    inside trailerSize longestSheet (length (c .before .before .before .before .before .before .before .before .args .sheet .now))
     (sym (c .before .before .before .before .before .before .outside .ensures) ∙
     c .before .before .before .before .before .if1 .left) .0
 
@@ -77,40 +77,40 @@ add-if4-2 : tie.Need-add-if4-2
 add-if4-2 c = search needs
 
 returns-4 : tie.Need-returns-4
-unfolding first-failing
+unfolding firstFailing
 returns-4 c =
     rw (
       sym (c .before .before .before .before .before .before .before .before .outside .ensures) ∙
           c .before .before .before .before .before .before .before .if1 .left,
       ←
           c .before .before .before .before .before .before .count .ensures,
-      le-ltb most-jobs
+      le-ltb mostJobs
           (c .before .before .before .before .before .before .count .result) (c .before .before .before .before .before .if2 .left),
       ←
           c .before .before .before .before .modules .ensures,
       sym (c .before .before .before .outside2 .ensures) ∙ c .before .before .if3 .left,
       ← c .before .offset .ensures,
-      ne-eqb (c .before .offset .result + record-size * c .before .before .before .before .before .before .count .result +
-          trailer-size) (length (c .before .before .before .before .before .before .before .before .before .before .args .sheet .now))
+      ne-eqb (c .before .offset .result + recordSize * c .before .before .before .before .before .before .count .result +
+          trailerSize) (length (c .before .before .before .before .before .before .before .before .before .before .args .sheet .now))
           (c .if4 .taken),
     )
 
 returns-5 : tie.Need-returns-5
-unfolding first-failing
+unfolding firstFailing
 returns-5 c =
     rw (
       sym (c .before .before .before .before .before .before .before .before .outside .ensures) ∙
           c .before .before .before .before .before .before .before .if1 .left,
       ←
           c .before .before .before .before .before .before .count .ensures,
-      le-ltb most-jobs
+      le-ltb mostJobs
           (c .before .before .before .before .before .before .count .result) (c .before .before .before .before .before .if2 .left),
       ←
           c .before .before .before .before .modules .ensures,
       sym (c .before .before .before .outside2 .ensures) ∙ c .before .before .if3 .left,
       ← c .before .offset .ensures,
-      eq-eqb (c .before .offset .result + record-size * c .before .before .before .before .before .before .count .result +
-          trailer-size) (length (c .before .before .before .before .before .before .before .before .before .before .args .sheet .now))
+      eq-eqb (c .before .offset .result + recordSize * c .before .before .before .before .before .before .count .result +
+          trailerSize) (length (c .before .before .before .before .before .before .before .before .before .before .args .sheet .now))
           (c .if4 .left),
     )
 

@@ -2,7 +2,7 @@
 use native.Mathlib.Omega.{arith}
 use lib.ListN.{length-set}
 use borrow.Author.Needs.{needs}
-use Rattle.sheet_format.specs.Format.{trailer-bytes}
+use Rattle.sheet_format.specs.Format.{trailerBytes}
 use Rattle.sheet_format.proofs.Parts.{stored-whole}
 use Rattle.sheet_format.proofs.trailer.write.Statement.{statement}
 use Rattle.sheet_format.proofs.trailer.write.Tie as tie
@@ -59,8 +59,8 @@ same-length : tie.Need-same-length
 same-length c = search needs
 
 returns : tie.Need-returns
-unfolding trailer-bytes
-returns c = stored-whole (trailer-bytes (c .args .offset) (c .args .count) (c .args .modules)) (c .args .part .now) (c .pre)
+unfolding trailerBytes
+returns c = stored-whole (trailerBytes (c .args .offset) (c .args .count) (c .args .modules)) (c .args .part .now) (c .pre)
 
 pub write-spec : {M : Type 1} → statement M
 write-spec =
