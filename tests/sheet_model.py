@@ -1,9 +1,14 @@
 #!/usr/bin/env python3
 """A model of job sheets, written from document 01 alone: reading, labels, writing and their refusals.
 
-Run as a program it tries the round trip, both ways, on random sheets, sheets at the edges and damaged sheets."""
+Run as a program it tries the round trip, both ways, on random sheets, sheets at the edges and damaged sheets, and writes
+rows, a sheet and what is read of it, that the checker computes by the definitions; with --check it compares them instead."""
+import pathlib
 import random
 import struct
+import sys
+
+SAMPLES = pathlib.Path(__file__).parent.parent / 'crates/sheet/proofs/Samples.antt'
 
 MOST_JOBS, MOST_MODULES, LONGEST_SHEET = 20, 64, 448
 RECORD, TRAILER = struct.Struct('<BBHIH'), struct.Struct('<IHH')
@@ -77,23 +82,85 @@ def try_bytes(sheet):
     return refusal
 
 
-def main():
-    rng = random.Random(1)
+def damage(rng, sheet):
+    damaged = bytearray(sheet)
+    for _ in range(rng.randint(1, 3)):
+        damaged[rng.randrange(len(damaged))] = rng.choice([0, 1, 12, 13, 32, 127, 255, rng.randrange(256)])
+    return bytes(damaged)
+
+
+def random_sheet(rng, n):
+    """Legal jobs, their labels and modules, and the sheet that they are written as."""
+    jobs, modules = random_jobs(rng, n), rng.randint(1, 64)
+    labels = bytes(rng.choice([33, 126, rng.randint(33, 126)]) for _ in range(sum(j[0] for j in jobs)))
+    refusal, sheet = write(jobs, labels, modules)
+    assert refusal == 0 and read(sheet) == (0, jobs, modules)
+    assert b''.join(label(sheet, i)[1] for i in range(n)) == labels
+    return sheet
+
+
+def try_sheets(rng):
     seen = set()
     for _ in range(2000):
-        n = rng.choice([0, 1, 20, rng.randint(0, 20)])
-        jobs, modules = random_jobs(rng, n), rng.randint(1, 64)
-        labels = bytes(rng.choice([33, 126, rng.randint(33, 126)]) for _ in range(sum(j[0] for j in jobs)))
-        refusal, sheet = write(jobs, labels, modules)
-        assert refusal == 0 and read(sheet) == (0, jobs, modules)
-        assert b''.join(label(sheet, i)[1] for i in range(n)) == labels
-        damaged = bytearray(sheet)
-        for _ in range(rng.randint(1, 3)):
-            damaged[rng.randrange(len(damaged))] = rng.choice([0, 1, 12, 13, 32, 127, 255, rng.randrange(256)])
-        seen.add(try_bytes(bytes(damaged[:rng.choice([len(damaged), rng.randint(0, len(damaged))])])))
-        seen.add(try_bytes(bytes(damaged) + bytes(rng.randint(0, 2) * 225)))
+        sheet = damage(rng, random_sheet(rng, rng.choice([0, 1, 20, rng.randint(0, 20)])))
+        seen.add(try_bytes(sheet[:rng.choice([len(sheet), rng.randint(0, len(sheet))])]))
+        seen.add(try_bytes(sheet + bytes(rng.randint(0, 2) * 225)))
     assert seen == set(range(8)), seen
-    print('sheet model: ok')
+
+
+def listed(numbers):
+    return ' ∷ '.join([*map(str, numbers), '[]'])
+
+
+def row(sheet):
+    """The sheet; the refusal, n, N and the jobs' figures; for each job and one number past them, the label call's answers."""
+    refusal, jobs, modules = read(sheet)
+    figures = [refusal, len(jobs), modules, *(x for job in jobs for x in job)]
+    shown = [x for i in range(len(jobs) + 1) for number, part in [label(sheet, i)] for x in [number, *part]]
+    return f'row ({listed(sheet)})\n    ({listed(figures)})\n    ({listed(shown)})'
+
+
+HEAD = """-- Random sheets, whole and damaged, and what tests/sheet_model.py, which reads the document on its own, says of them.
+-- Written by that model: its rows are compared with these by the gate.
+use mathlib.Core.Path.{_≡_, refl}
+use mathlib.Core.List.{List, [], _∷_}
+use Rattle.counting.specs.Counting.{sum, any}
+use Rattle.sheet_format.specs.Format.{u16At, u32At, recordAt, joined, places}
+use Rattle.sheet_format.specs.Checks.{outside, faulty, firstFailing}
+use Rattle.sheet.specs.Read.{reading}
+use Rattle.sheet.specs.Label.{labelOf}
+use Rattle.sheet.proofs.Rows.{Row, row, found, told}
+
+pub rows : List Row
+rows =
+"""
+FOOT = """
+pub rows-right : found rows ≡ told rows
+unfolding rows found told reading labelOf firstFailing outside faulty any sum places joined recordAt u16At u32At
+rows-right = refl
+"""
+
+
+def samples(rng):
+    """Two rows or more of every answer, from short sheets."""
+    chosen = {refusal: [] for refusal in range(8)}
+    while any(len(sheets) < 2 for sheets in chosen.values()):
+        sheet = random_sheet(rng, rng.randint(0, 2))
+        for s in [sheet, damage(rng, sheet), sheet[:rng.randint(0, len(sheet))]]:
+            sheets = chosen[read(s)[0]]
+            if len(sheets) < 2 or (read(s)[0] == 0 and len(sheets) < 4):
+                sheets.append(s)
+    return HEAD + '    ' + '\n    ∷ '.join(row(s) for refusal in chosen for s in chosen[refusal]) + '\n    ∷ []\n' + FOOT
+
+
+def main():
+    rng = random.Random(1)
+    try_sheets(rng)
+    text = samples(rng)
+    if '--check' not in sys.argv:
+        SAMPLES.write_text(text)
+    elif SAMPLES.read_text() != text:
+        sys.exit(f'{SAMPLES} is not what the model writes')
 
 
 if __name__ == '__main__':

@@ -7,3 +7,5 @@ pub mod Layouts
 pub mod WrittenReads
 pub mod ReadIsWritten
 pub mod Examples
+pub mod Rows
+pub mod Samples
