@@ -1,5 +1,5 @@
 // Runs the edges of the job sheet and prints a line a case: what was tried, and the number that the call gave.
-ghost use Prim.Native.Nat.{_<_};
+ghost use Prim.Native.Nat.{_<_, _≤_};
 use libc::STDOUT_FILENO;
 use sheet::Job;
 
@@ -117,8 +117,38 @@ fn read_front(name: &[u8], s: &[u8], count: usize) {
     }
 }
 
+fn one_if(yes: bool) -> usize
+    ensures { λ r. ⌜ r ≤ 1 ⌝ }
+{
+    if yes { 1 } else { 0 }
+}
+
+// Reads every front of a sheet, from no byte to all but one, and counts those that get the number.
+fn count_fronts(s: &[u8], number: u32) -> usize {
+    let mut found: usize = 0;
+    let mut count: usize = 0;
+    while count < s.len() {
+        found += one_if(sheet::read(&s[0..count]).refusal == number);
+        count += 1;
+    }
+    found
+}
+
+fn print_fronts(s: &[u8], number: u32) {
+    print(b"fronts of the longest sheet that get ");
+    io::print_decimal(STDOUT_FILENO, number as u64);
+    print(b": ");
+    io::print_decimal(STDOUT_FILENO, count_fronts(s, number) as u64);
+    print(b"\n");
+}
+
 fn read_lengths() {
     let long = long();
+    print_fronts(&long, 0);
+    print_fronts(&long, 1);
+    print_fronts(&long, 2);
+    print_fronts(&long, 3);
+    print_fronts(&long, 4);
     read_front(b"20 jobs, labels of 12 bytes, 448 bytes", &long, 448);
     read_front(b"449 bytes", &long, 449);
     let short = short();
