@@ -8,12 +8,11 @@ writes crates/desk/proofs/Samples.antt, whose rows the checker computes by those
     python3 tests/desk_model.py --check    fail where the rows in the repository are not the model's
 """
 import functools
-import pathlib
 import random
-import sys
 from collections import Counter, namedtuple
 
-SAMPLES = pathlib.Path(__file__).parent.parent / "crates/desk/proofs/Samples.antt"
+from rows import numbers, settle, table
+
 PLACES = 8
 
 # five figures as firmware sees them; the lists have eight places
@@ -144,18 +143,14 @@ def random_desk(rng):
 # ---- rows as antt text
 
 
-def numbers(values):
-    return "(" + " ∷ ".join([str(v) for v in values] + ["[]"]) + ")"
-
-
 def desk_text(desk):
-    return f"(desk {desk.count} {desk.limit} {numbers(desk.held)} {numbers(desk.assured)} {numbers(desk.ceiling)})"
+    return f"(desk {desk.count} {desk.limit} ({numbers(desk.held)}) ({numbers(desk.assured)}) ({numbers(desk.ceiling)}))"
 
 
 def step_text(step):
     kind, controller, modules, number, figure, held = step
     what = f"look {controller}" if kind == "look" else f"{kind} {controller} {modules}"
-    return f"step ({what}) {number} {figure} {numbers(held)}"
+    return f"step ({what}) {number} {figure} ({numbers(held)})"
 
 
 def run_text(desk, steps):
@@ -187,7 +182,7 @@ def samples():
     for _ in range(40):
         limit, assured, ceilings = random_opening(rng)
         number, desk = open_desk(limit, assured, ceilings)
-        openings.append(f"opens {limit} {numbers(assured)} {numbers(ceilings)} {number} {desk_text(desk)}")
+        openings.append(f"opens {limit} ({numbers(assured)}) ({numbers(ceilings)}) {number} {desk_text(desk)}")
     while len(runs) < 20:
         number, desk = open_desk(*random_opening(rng))
         if number == 0:
@@ -199,20 +194,10 @@ def samples():
         desks.append(run_text(desk, [(kind, controller, modules) + call(desk, kind, controller, modules, False)]))
     text = HEADER
     for name, rows in [("openings", openings), ("lists", runs), ("desks", desks)]:
-        text += f"\npub {name} : List Row\n{name} =\n    " + "\n    ∷ ".join(rows + ["[]"]) + "\n"
+        text += table(name, "Row", rows)
         text += f"\npub {name}-right : allHold {name} ≡ true\n{OPENED.replace('unfolding sum', f'unfolding {name} sum')}{name}-right = refl\n"
     return text
 
 
-def main():
-    text = samples()
-    if "--check" in sys.argv:
-        if SAMPLES.read_text() != text:
-            sys.exit(f"{SAMPLES} is not what the model writes")
-        print("1 passed, 0 failed")
-    else:
-        SAMPLES.write_text(text)
-
-
 if __name__ == "__main__":
-    main()
+    settle("desk", samples())

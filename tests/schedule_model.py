@@ -8,12 +8,10 @@ whose rows the checker computes by those definitions.
     python3 tests/schedule_model.py --check    fail where the rows in the repository are not the model's
 """
 import itertools
-import pathlib
 import random
-import sys
 from dataclasses import dataclass
 
-SAMPLES = pathlib.Path(__file__).parent.parent / "crates/schedule/proofs/Samples.antt"
+from rows import numbers, settle, table
 
 
 @dataclass
@@ -135,10 +133,6 @@ def random_slots(rng, sheet):
 # ---- rows as antt text
 
 
-def numbers(values):
-    return " ∷ ".join([str(v) for v in values] + ["[]"])
-
-
 def sheet_text(sheet):
     jobs = " ∷ ".join(f"late {j.need} {j.minutes} ({numbers(j.earlier)}) {j.arrival}" for j in sheet.jobs)
     return f"(restingSheet ({jobs + ' ∷ ' if jobs else ''}[]) {sheet.modules} {sheet.rest})"
@@ -191,20 +185,10 @@ def samples():
     text = HEADER
     for name, kind, rows in lists:
         test = "allJudged" if kind == "Judged" else "allHold"
-        text += f"\npub {name} : List {kind}\n{name} =\n    " + "\n    ∷ ".join(rows + ["[]"]) + "\n"
+        text += table(name, kind, rows)
         text += f"\npub {name}-right : {test} {name} ≡ true\nunfolding {name} {opened}\n{name}-right = refl\n"
     return text
 
 
-def main():
-    text = samples()
-    if "--check" in sys.argv:
-        if SAMPLES.read_text() != text:
-            sys.exit(f"{SAMPLES} is not what the model writes")
-        print("1 passed, 0 failed")
-    else:
-        SAMPLES.write_text(text)
-
-
 if __name__ == "__main__":
-    main()
+    settle("schedule", samples())

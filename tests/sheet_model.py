@@ -3,12 +3,10 @@
 
 Run as a program it tries the round trip, both ways, on random sheets, sheets at the edges and damaged sheets, and writes
 rows, a sheet and what is read of it, that the checker computes by the definitions; with --check it compares them instead."""
-import pathlib
 import random
 import struct
-import sys
 
-SAMPLES = pathlib.Path(__file__).parent.parent / 'crates/sheet/proofs/Samples.antt'
+from rows import numbers, settle, table
 
 MOST_JOBS, MOST_MODULES, LONGEST_SHEET = 20, 64, 448
 RECORD, TRAILER = struct.Struct('<BBHIH'), struct.Struct('<IHH')
@@ -108,16 +106,12 @@ def try_sheets(rng):
     assert seen == set(range(8)), seen
 
 
-def listed(numbers):
-    return ' ∷ '.join([*map(str, numbers), '[]'])
-
-
 def row(sheet):
     """The sheet; the refusal, n, N and the jobs' figures; for each job and one number past them, the label call's answers."""
     refusal, jobs, modules = read(sheet)
     figures = [refusal, len(jobs), modules, *(x for job in jobs for x in job)]
     shown = [x for i in range(len(jobs) + 1) for number, part in [label(sheet, i)] for x in [number, *part]]
-    return f'row ({listed(sheet)})\n    ({listed(figures)})\n    ({listed(shown)})'
+    return f'row ({numbers(sheet)})\n    ({numbers(figures)})\n    ({numbers(shown)})'
 
 
 HEAD = """-- Random sheets, whole and damaged, and what tests/sheet_model.py, which reads the document on its own, says of them.
@@ -130,9 +124,6 @@ use Rattle.sheet_format.specs.Checks.{outside, faulty, firstFailing}
 use Rattle.sheet.specs.Read.{reading}
 use Rattle.sheet.specs.Label.{labelOf}
 use Rattle.sheet.proofs.Rows.{Row, row, found, told}
-
-pub rows : List Row
-rows =
 """
 FOOT = """
 pub rows-right : found rows ≡ told rows
@@ -150,17 +141,13 @@ def samples(rng):
             sheets = chosen[read(s)[0]]
             if len(sheets) < 2 or (read(s)[0] == 0 and len(sheets) < 4):
                 sheets.append(s)
-    return HEAD + '    ' + '\n    ∷ '.join(row(s) for refusal in chosen for s in chosen[refusal]) + '\n    ∷ []\n' + FOOT
+    return HEAD + table('rows', 'Row', [row(s) for refusal in chosen for s in chosen[refusal]]) + FOOT
 
 
 def main():
     rng = random.Random(1)
     try_sheets(rng)
-    text = samples(rng)
-    if '--check' not in sys.argv:
-        SAMPLES.write_text(text)
-    elif SAMPLES.read_text() != text:
-        sys.exit(f'{SAMPLES} is not what the model writes')
+    settle('sheet', samples(rng))
 
 
 if __name__ == '__main__':
