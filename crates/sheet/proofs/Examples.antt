@@ -24,7 +24,7 @@ use Rattle.sheet.proofs.ReadIsWritten.{rewrite-leaves, read-is-written-
 
 -- ---- E1
 
-pub labels : List ℕ
+unfoldable pub labels : List ℕ
 labels = 65 ∷ 66 ∷ 67 ∷ []
 
 pub job : ℕ → ℕ → ℕ → Job
@@ -34,7 +34,7 @@ job modules minutes departure =
 pub jobs : List Job
 jobs = job 1 10 30 ∷ job 2 20 25 ∷ job 1 10 30 ∷ []
 
-pub e1 : List ℕ
+unfoldable pub e1 : List ℕ
 e1 =
     labels
     ++ (1 ∷ 1 ∷ 10 ∷ 0 ∷ 0 ∷ 0 ∷ 0 ∷ 0 ∷ 30 ∷ 0 ∷ [])

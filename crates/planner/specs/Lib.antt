@@ -1,0 +1,2 @@
+-- What planning answers.
+pub mod Planning
