@@ -96,6 +96,26 @@ fn read_fields() {
     read_range(b"modules", TRAILER + 6, true, 1, 64);
 }
 
+// Check 5 before 6 before 7: minutes, label length and label byte are wrong at once, then one after another is put right.
+fn read_first() {
+    let mut s = changed(LABEL, false, 32);
+    s[RECORD] = 12;
+    s[RECORD + 2] = 0;
+    print_case(
+        b"minutes, label length and label byte wrong",
+        sheet::read(&s).refusal,
+    );
+    s[RECORD + 2] = 10;
+    print_case(
+        b"label length and label byte wrong",
+        sheet::read(&s).refusal,
+    );
+    s[RECORD] = 1;
+    print_case(b"label byte wrong", sheet::read(&s).refusal);
+    s[LABEL] = b'A';
+    print_case(b"nothing wrong", sheet::read(&s).refusal);
+}
+
 // The longest sheet, of twenty jobs with labels of twelve bytes, and a byte more.
 fn long() -> [u8; 449] {
     let mut s = [0u8; 449];
@@ -222,6 +242,7 @@ fn show_labels() {
 
 fn main() {
     read_fields();
+    read_first();
     read_lengths();
     write_fields();
     write_sizes();
