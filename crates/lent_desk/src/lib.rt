@@ -25,6 +25,20 @@ fn opened_over(kept: Desk, limit: u32, assured: &[u32], ceilings: &[u32]) -> Boo
     }
 }
 
+// A claim by value on the kept desk.
+fn claim_on(kept: Desk, controller: u32, modules: u32) -> Booked
+    ensures { λ r. ⌜ r ≡ claimed kept controller modules ⌝ }
+{
+    kept.claim(controller, modules)
+}
+
+// A hand-back by value on the kept desk.
+fn hand_back_on(kept: Desk, controller: u32, modules: u32) -> Booked
+    ensures { λ r. ⌜ r ≡ handedBack kept controller modules ⌝ }
+{
+    kept.hand_back(controller, modules)
+}
+
 // Shows a figure where the number is 0, and gives the number.
 fn show(refusal: u32, figure: u32, modules: &mut u32) -> u32
     ensures { λ r. ⌜ (r ≡ refusal) × (now (modules .exit) ≡ shownOver (now (modules .entry)) refusal figure) ⌝ }
@@ -52,7 +66,7 @@ pub extern "C" fn desk_claim(desk: &mut Desk, controller: u32, modules: u32) -> 
     ensures { λ r. ⌜ (r ≡ claimed (now (desk .entry)) controller modules .refusal)
         × (now (desk .exit) ≡ claimed (now (desk .entry)) controller modules .desk) ⌝ }
 {
-    let answer = (*desk).claim(controller, modules);
+    let answer = claim_on(*desk, controller, modules);
     *desk = answer.desk;
     answer.refusal
 }
@@ -63,7 +77,7 @@ pub extern "C" fn desk_hand_back(desk: &mut Desk, controller: u32, modules: u32)
     ensures { λ r. ⌜ (r ≡ handedBack (now (desk .entry)) controller modules .refusal)
         × (now (desk .exit) ≡ handedBack (now (desk .entry)) controller modules .desk) ⌝ }
 {
-    let answer = (*desk).hand_back(controller, modules);
+    let answer = hand_back_on(*desk, controller, modules);
     *desk = answer.desk;
     answer.refusal
 }

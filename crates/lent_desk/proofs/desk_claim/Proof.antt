@@ -1,11 +1,11 @@
--- `lent_desk::desk_claim` meets its contract, by the law of the thin calls at `claim`.
+-- `lent_desk::desk_claim` meets its contract, by the law of the thin calls at `claim_on`.
 use contract.Running.{givenOf, tables, tablesOf}
 use denote.Triple.Spec.{tripleOf}
 use denote.Triple.Table.{entered, cited}
 use Rattle.desk.specs.Calls.{claimed}
-use Rattle.desk.proofs.Desk.claim.Symbol as by-value
-use Rattle.desk.proofs.Desk.claim.Symbol.{name as #desk·Desk·claim}
-use Rattle.desk.proofs.Desk.claim.Met as by-value-met
+use Rattle.lent_desk.proofs.claim_on.Symbol as by-value
+use Rattle.lent_desk.proofs.claim_on.Symbol.{name as #lent-desk·claim-on}
+use Rattle.lent_desk.proofs.claim_on.Met as by-value-met
 use Rattle.lent_desk.proofs.InPlace.{ByValue, in-place}
 use Rattle.lent_desk.proofs.desk_claim as thin
 use Rattle.lent_desk.proofs.desk_claim.Key.{name as #lent-desk·desk-claim}
@@ -17,6 +17,6 @@ unfolding code.routine tablesOf
 desk-claim-spec 𝓤 H 𝓜 𝓖 𝓡 =
     entered 𝓤 H (tripleOf 𝓤 H (𝓖 .A) thin.signature (thin.spec 𝓤 H (𝓖 .A) (𝓜 .mem) (𝓡 .run)))
     (tables 𝓤 H 𝓜 𝓡 code.env .C) (tables 𝓤 H 𝓜 𝓡 code.env .Λ) #lent-desk·desk-claim code.function (code.unfolded 𝓤 H 𝓜 𝓡)
-    (in-place 𝓤 H (𝓖 .A) (givenOf 𝓤 H 𝓜 𝓖) #desk·Desk·claim claimed (tablesOf 𝓤 H 𝓜 (tables 𝓤 H 𝓜 𝓡 code.env))
-    (cited 𝓤 H (ByValue 𝓤 H (𝓖 .A) claimed) 𝓜 𝓡 code.env #desk·Desk·claim by-value.routine code.calls-desk·Desk·claim
+    (in-place 𝓤 H (𝓖 .A) (givenOf 𝓤 H 𝓜 𝓖) #lent-desk·claim-on claimed (tablesOf 𝓤 H 𝓜 (tables 𝓤 H 𝓜 𝓡 code.env))
+    (cited 𝓤 H (ByValue 𝓤 H (𝓖 .A) claimed) 𝓜 𝓡 code.env #lent-desk·claim-on by-value.routine code.calls-lent-desk·claim-on
     (by-value-met.met 𝓤 H 𝓜 𝓖 𝓡)))
