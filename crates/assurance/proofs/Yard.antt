@@ -9,6 +9,7 @@ use borrow.Author.Tests.{ltb-true, leb-true}
 use Rattle.counting.specs.Counting.{sum, largest, every, any}
 use Rattle.counting.proofs.Tests.{clash}
 use Rattle.counting.proofs.Ranges.{every-at}
+use Rattle.checking.specs.Checking.{firstFailing}
 use Rattle.schedule.specs.Plan.{Sheet, Plan, Valid}
 use Rattle.schedule.specs.ListPlan.{Order, ready, firstMinute, startOf, placeAll, listPlan}
 use Rattle.schedule.specs.Rows.{job, sheet}
@@ -58,7 +59,7 @@ abbrev yardDesk : Desk
 yardDesk = newDesk 10 (4 ∷ 3 ∷ []) (10 ∷ 10 ∷ [])
 
 yard-opened : Reachable yardDesk
-unfolding sum any wrongLengths wrongFigures sharesExceed
+unfolding sum any firstFailing wrongLengths wrongFigures sharesExceed
 yard-opened = opening 10 (4 ∷ 3 ∷ []) (10 ∷ 10 ∷ []) refl
 
 abbrev yardCalls : List Call
@@ -104,5 +105,5 @@ numbers d (x ∷ l) = refusalOf d x ∷ numbers (deskAfter d x) l
 
 -- Of the other calls controller 0's first claim is granted, and the rest are refused: 17, 18, 14, 17 and 15.
 pub yard-numbers : numbers yardDesk yardCalls ≡ 0 ∷ 17 ∷ 0 ∷ 0 ∷ 0 ∷ 18 ∷ 14 ∷ 0 ∷ 17 ∷ 0 ∷ 0 ∷ 15 ∷ 0 ∷ []
-unfolding sum every any deskOk notOfDesk claimRefusal claimed handBackRefusal handedBack lookRefusal looked
+unfolding sum every any firstFailing deskOk notOfDesk claimRefusal claimed handBackRefusal handedBack lookRefusal looked
 yard-numbers = refl

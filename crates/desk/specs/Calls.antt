@@ -4,12 +4,13 @@ use mathlib.Core.List.{List, [], _∷_}
 use Prim.Native.Nat.{ℕ, _+_, _-_, min}
 use lib.Dec.{eqb}
 use Rattle.counting.specs.Counting.{only}
+use Rattle.checking.specs.Checking.{firstFailing}
 use Rattle.desk.specs.declared.Desk.{Desk}
 use Rattle.desk.specs.declared.Opened.{Opened}
 use Rattle.desk.specs.declared.Booked.{Booked}
 use Rattle.desk.specs.declared.Looked.{Looked}
 use Rattle.desk.specs.Desk.{holding, ceilingOf, reservedForOthers, newDesk, noDesk, withHolding}
-use Rattle.desk.specs.Checks.{firstFailing, openChecks, claimChecks, handBackChecks, lookChecks}
+use Rattle.desk.specs.Checks.{openChecks, claimChecks, handBackChecks, lookChecks}
 
 -- ---- one call
 

@@ -2,9 +2,10 @@
 use mathlib.Core.Path.{_≡_}
 use mathlib.Core.List.{List}
 use Prim.Native.Nat.{ℕ, _+_, _-_, _<_}
+use Rattle.checking.specs.Checking.{firstFailing}
 use Rattle.desk.specs.declared.Desk.{Desk}
 use Rattle.desk.specs.Desk.{holding, newDesk, withHolding}
-use Rattle.desk.specs.Checks.{firstFailing, openChecks, bookingChecks, returnChecks}
+use Rattle.desk.specs.Checks.{openChecks, bookingChecks, returnChecks}
 
 -- An answered opening, then later calls by controllers of the desk: a claim or a hand-back of which no check fails.
 -- Refused calls and looks leave the desk, so they add none.

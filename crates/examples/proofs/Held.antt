@@ -9,6 +9,7 @@ use borrow.Author.Tests.{eqb-true}
 use Rattle.counting.specs.Counting.{sum, largest, every, any}
 use Rattle.counting.proofs.Tests.{and-left, and-right}
 use Rattle.counting.proofs.Ranges.{every-at}
+use Rattle.checking.specs.Checking.{firstFailing}
 use Rattle.schedule.specs.Plan.{overWide}
 use Rattle.schedule.specs.ListPlan.{ready, firstMinute, startOf, placeAll}
 use Rattle.schedule.specs.TieRule.{ordersAfter, earliestOf, answerOf}
@@ -47,7 +48,7 @@ holds-right (desk limit assured ceilings n l) e =
 
 table-holds : every (length table) (λ k. holds (getD table k noRow)) ≡ true
 unfolding table sum largest every any overWide ready firstMinute startOf placeAll ordersAfter earliestOf answerOf
-    wrongLengths wrongFigures sharesExceed deskOk notOfDesk openRefusal opened claimRefusal claimed handBackRefusal handedBack
+    firstFailing wrongLengths wrongFigures sharesExceed deskOk notOfDesk openRefusal opened claimRefusal claimed handBackRefusal handedBack
     lookRefusal looked
 table-holds = refl
 

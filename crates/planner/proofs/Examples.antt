@@ -10,7 +10,8 @@ use Rattle.schedule.specs.TieRule.{ordersAfter, earliestOf}
 use Rattle.card.specs.Card as card
 use Rattle.card.proofs.Samples as card-samples
 use Rattle.sheet_format.specs.Format.{u16At, u32At, recordAt, joined, places}
-use Rattle.sheet_format.specs.Checks.{outside, faulty, firstFailing}
+use Rattle.checking.specs.Checking.{firstFailing}
+use Rattle.sheet_format.specs.Checks.{outside, faulty}
 use Rattle.sheet.specs.Read.{reading}
 use Rattle.sheet.proofs.Examples.{e1, labels}
 use Rattle.planner.specs.Planning.{noOrder, planRefusal, bestCard, cardAfter}

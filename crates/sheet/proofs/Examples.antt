@@ -11,10 +11,11 @@ use borrow.Author.Tests.{leb-false}
 use Rattle.counting.specs.Counting.{sum, any}
 use Rattle.counting.proofs.Tests.{less-or-not}
 use Rattle.counting.proofs.Ranges.{any-none}
+use Rattle.checking.specs.Checking.{firstFailing}
 use Rattle.sheet_format.specs.declared.Job.{Job}
 use Rattle.sheet_format.specs.Format.{byteAt, u16At, u32At, recordAt, recordBytes, trailerBytes, joined, sheetBytes, jobsIn}
 use Rattle.sheet_format.specs.Format.{places}
-use Rattle.sheet_format.specs.Checks.{outside, faulty, firstFailing}
+use Rattle.sheet_format.specs.Checks.{outside, faulty}
 use Rattle.sheet.specs.declared.Reading.{Reading}
 use Rattle.sheet.specs.Read.{answered, reading}
 use Rattle.sheet.specs.Label.{labelRefusal, labelOf}

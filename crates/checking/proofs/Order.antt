@@ -1,6 +1,6 @@
--- The checking order: which number is given, and when none is (document 01, 'Checking order').
+-- Which number a list of checks gives: that of the first that fails, and 0 where none does.
 use mathlib.Core.Path.{_≡_, refl, ap, ap₂}
-use mathlib.Core.Logic.{_↔_}
+use mathlib.Core.Logic.{_↔_, _≢_}
 use mathlib.Core.Bool.{Bool, true, false, _&&_}
 use mathlib.Core.List.{List, [], _∷_, _++_}
 use Prim.Native.Nat.{ℕ, zero, suc, _<_}
@@ -9,28 +9,35 @@ use native.Mathlib.Omega.{arith}
 use lib.Dec.{ltb}
 use lib.ListN.{length, getD}
 use borrow.Author.Tests.{ltb-true}
-use Rattle.counting.proofs.Tests.{and-left, and-right}
-use Rattle.sheet_format.specs.Checks.{Check, firstFailing, FirstFails}
+use Rattle.counting.proofs.Tests.{and-left, and-right, clash}
+use Rattle.checking.specs.Checking.{Check, firstFailing, FirstFails, NoneFails}
 
 -- every check of the list passes
 abbrev pub Passed : List Check → Type 0
 Passed [] = Unit {0}
 Passed (c ∷ cs) = (c .1 ≡ false) × Passed cs
 
--- no check has the number 0: it computes on a written list
-abbrev pub numbered : List Check → Bool
-numbered [] = true
-numbered (c ∷ cs) = ltb 0 (c .0) && numbered cs
+-- every check has a number above n: it computes on a written list
+abbrev pub numberedAbove : ℕ → List Check → Bool
+numberedAbove n [] = true
+numberedAbove n (c ∷ cs) = ltb n (c .0) && numberedAbove n cs
 
-pub all-passed : (cs : List Check) → numbered cs ≡ true → firstFailing cs ≡ 0 → Passed cs
+-- the first number, and those behind it
+above-first : (n : ℕ) (c : Check) (cs : List Check) → numberedAbove n (c ∷ cs) ≡ true → n < c .0
+above-first n c cs e = ltb-true n (c .0) (and-left (ltb n (c .0)) (numberedAbove n cs) e)
+
+above-rest : (n : ℕ) (c : Check) (cs : List Check) → numberedAbove n (c ∷ cs) ≡ true → numberedAbove n cs ≡ true
+above-rest n c cs e = and-right (ltb n (c .0)) (numberedAbove n cs) e
+
+pub all-passed : (cs : List Check) → numberedAbove 0 cs ≡ true → firstFailing cs ≡ 0 → Passed cs
 unfolding firstFailing
 all-passed [] n e = tt
-all-passed (c ∷ cs) n e = go (c .1) refl (all-passed cs (and-right (ltb 0 (c .0)) (numbered cs) n))
+all-passed (c ∷ cs) n e = go (c .1) refl (all-passed cs (above-rest 0 c cs n))
   where
     go : (b : Bool) → c .1 ≡ b → (firstFailing cs ≡ 0 → Passed cs) → Passed (c ∷ cs)
     go true q h =
         let z : c .0 ≡ 0 = rw q at e in
-        absurd (omega (arith, ltb-true 0 (c .0) (and-left (ltb 0 (c .0)) (numbered cs) n)))
+        absurd (omega (arith, above-first 0 c cs n))
     go false q h = let z : firstFailing cs ≡ 0 = rw q at e in (q, h z)
 
 pub none-failing : (cs : List Check) → Passed cs → firstFailing cs ≡ 0
@@ -91,15 +98,31 @@ refused-exactly cs k h = (refused-at cs k h, λ f. number-at cs k (f .place) (f 
 
 -- ---- and 0 exactly when none fails
 
-pub passed-at : (cs : List Check) → Passed cs → (i : ℕ) → i < length cs → getD cs i (0, false) .1 ≡ false
+passed-at : (cs : List Check) → Passed cs → NoneFails cs
 passed-at [] p i l = absurd (not-suc-le-zero l)
 passed-at (c ∷ cs) p zero l = p .0
 passed-at (c ∷ cs) p (suc i) l = passed-at cs (p .1) i (le-of-suc-le-suc l)
 
-at-passed : (cs : List Check) → ((i : ℕ) → i < length cs → getD cs i (0, false) .1 ≡ false) → Passed cs
+at-passed : (cs : List Check) → NoneFails cs → Passed cs
 at-passed [] h = tt
 at-passed (c ∷ cs) h = (h 0 (omega arith), at-passed cs (λ i l. h (suc i) (omega arith)))
 
-pub answered-exactly : (cs : List Check) → numbered cs ≡ true
-    → (firstFailing cs ≡ 0) ↔ ((i : ℕ) → i < length cs → getD cs i (0, false) .1 ≡ false)
+pub answered-exactly : (cs : List Check) → numberedAbove 0 cs ≡ true → (firstFailing cs ≡ 0) ↔ NoneFails cs
 answered-exactly cs n = (λ e. passed-at cs (all-passed cs n e), λ h. none-failing cs (at-passed cs h))
+
+-- ---- a list's first check, where the numbers behind it are above its own
+
+not-later : (n : ℕ) → 0 < n → (cs : List Check) → numberedAbove n cs ≡ true → firstFailing cs ≢ n
+unfolding firstFailing
+not-later n p [] a e = omega arith
+not-later n p (c ∷ cs) a e = go (c .1) refl (not-later n p cs (above-rest n c cs a))
+  where
+    go : (b : Bool) → c .1 ≡ b → firstFailing cs ≢ n → ⊥
+    go true q rest = let z : c .0 ≡ n = rw q at e in omega (arith, above-first n c cs a)
+    go false q rest = rest (rw q at e)
+
+-- its number is given exactly when it fails
+pub first-exactly : (n : ℕ) → 0 < n → (b : Bool) (cs : List Check) → numberedAbove n cs ≡ true → (firstFailing ((n, b) ∷ cs) ≡ n) ↔ (b ≡ true)
+unfolding firstFailing
+first-exactly n p true cs a = ((λ e. refl), λ e. refl)
+first-exactly n p false cs a = ((λ e. absurd (not-later n p cs a e)), λ e. clash false e refl)
