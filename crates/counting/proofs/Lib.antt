@@ -3,3 +3,4 @@ pub mod Tests
 pub mod Sums
 pub mod Ranges
 pub mod Counts
+pub mod Joins

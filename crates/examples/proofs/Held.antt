@@ -6,7 +6,7 @@ use Prim.Native.Nat.{ℕ, _<_}
 use lib.Dec.{eqb}
 use lib.ListN.{length, getD}
 use borrow.Author.Tests.{eqb-true}
-use Rattle.counting.specs.Counting.{sum, largest, every, any}
+use Rattle.counting.specs.Counting.{sum, largest, every, any, joined}
 use Rattle.counting.proofs.Tests.{and-left, and-right}
 use Rattle.counting.proofs.Ranges.{every-at}
 use Rattle.checking.specs.Checking.{firstFailing}
@@ -47,7 +47,7 @@ holds-right (desk limit assured ceilings n l) e =
 -- ---- the table
 
 table-holds : every (length table) (λ k. holds (getD table k noRow)) ≡ true
-unfolding table sum largest every any overWide ready firstMinute startOf placeAll ordersAfter earliestOf answerOf
+unfolding table sum largest every any joined overWide ready firstMinute startOf placeAll ordersAfter earliestOf answerOf
     firstFailing wrongLengths wrongFigures sharesExceed deskOk notOfDesk openRefusal opened claimRefusal claimed handBackRefusal handedBack
     lookRefusal looked
 table-holds = refl

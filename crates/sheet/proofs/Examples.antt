@@ -8,12 +8,12 @@ use native.Mathlib.Omega.{arith}
 use lib.Dec.{leb, lit≤}
 use lib.ListN.{length, replicate, List·getD-eq-default}
 use borrow.Author.Tests.{leb-false}
-use Rattle.counting.specs.Counting.{sum, any}
+use Rattle.counting.specs.Counting.{sum, any, joined}
 use Rattle.counting.proofs.Tests.{less-or-not}
 use Rattle.counting.proofs.Ranges.{any-none}
 use Rattle.checking.specs.Checking.{firstFailing}
 use Rattle.sheet_format.specs.declared.Job.{Job}
-use Rattle.sheet_format.specs.Format.{byteAt, u16At, u32At, recordAt, recordBytes, trailerBytes, joined, sheetBytes, jobsIn}
+use Rattle.sheet_format.specs.Format.{byteAt, u16At, u32At, recordAt, recordBytes, trailerBytes, sheetBytes, jobsIn}
 use Rattle.sheet_format.specs.Format.{places}
 use Rattle.sheet_format.specs.Checks.{outside, faulty}
 use Rattle.sheet.specs.declared.Reading.{Reading}

@@ -7,17 +7,18 @@ use native.Mathlib.Omega.{arith}
 use lib.ListN.{length, take, drop, length-drop, take-append-drop}
 use lib.Seq.{take-add, take-all, drop-drop, length-take-le}
 use borrow.Author.Tests.{le-ltb, eq-eqb}
-use Rattle.counting.specs.Counting.{sum}
+use Rattle.counting.specs.Counting.{sum, joined}
 use Rattle.counting.proofs.Sums.{sum-same}
 use Rattle.counting.proofs.Ranges.{none-any}
+use Rattle.counting.proofs.Joins.{joined-same}
 use Rattle.checking.proofs.Order.{none-failing}
 use Rattle.sheet_format.specs.declared.Job.{Job}
 use Rattle.sheet_format.specs.Figures.{mostJobs, mostModules, recordSize, trailerSize}
-use Rattle.sheet_format.specs.Format.{byteAt, recordBytes, trailerBytes, joined, labelLength, labelLengths, sheetBytes}
+use Rattle.sheet_format.specs.Format.{byteAt, recordBytes, trailerBytes, labelLength, labelLengths, sheetBytes}
 use Rattle.sheet_format.specs.Format.{jobsIn, places, trailerAt, offsetOf, countOf, modulesOf, jobOf, labelsOf}
 use Rattle.sheet_format.specs.Checks.{faulty}
 use Rattle.sheet_format.proofs.Bounds.{not-outside}
-use Rattle.sheet_format.proofs.Lists.{joined-same, job-in-place}
+use Rattle.sheet_format.proofs.Lists.{job-in-place}
 use Rattle.sheet_format.proofs.Digits.{record-back, trailer-back}
 use Rattle.sheet.specs.declared.Reading.{Reading}
 use Rattle.sheet.specs.declared.Written.{Written}

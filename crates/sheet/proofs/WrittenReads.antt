@@ -7,13 +7,13 @@ use native.Mathlib.Omega.{arith}
 use lib.ListN.{length, take, drop, length-drop}
 use lib.Seq.{take-append-seam, take-append-le, drop-append-le}
 use borrow.Author.Tests.{le-ltb, eq-eqb}
-use Rattle.counting.specs.Counting.{sum}
+use Rattle.counting.specs.Counting.{sum, joined}
 use Rattle.counting.proofs.Sums.{sum-same, sum-up}
 use Rattle.counting.proofs.Ranges.{none-any}
 use Rattle.checking.proofs.Order.{none-failing}
 use Rattle.sheet_format.specs.declared.Job.{Job}
 use Rattle.sheet_format.specs.Figures.{mostJobs, mostModules, longestSheet, recordSize, trailerSize}
-use Rattle.sheet_format.specs.Format.{recordBytes, trailerBytes, joined, labelLength, labelLengths, sheetBytes}
+use Rattle.sheet_format.specs.Format.{recordBytes, trailerBytes, labelLength, labelLengths, sheetBytes}
 use Rattle.sheet_format.specs.Format.{offsetOf, countOf, jobOf, labelsOf}
 use Rattle.sheet_format.specs.Checks.{outside, faulty, wrongBytes}
 use Rattle.sheet_format.proofs.Bounds.{not-outside}
