@@ -10,11 +10,10 @@ use Rattle.counting.specs.Counting.{sum, largest, every, any}
 use Rattle.counting.proofs.Tests.{clash}
 use Rattle.counting.proofs.Ranges.{every-at}
 use Rattle.checking.specs.Checking.{firstFailing}
-use Rattle.schedule.specs.Plan.{Sheet, Plan, Valid}
+use Rattle.schedule.specs.Plan.{Sheet, Plan, Valid, Narrow, Lasting, Needing}
 use Rattle.schedule.specs.ListPlan.{Order, ready, firstMinute, startOf, placeAll, listPlan}
 use Rattle.schedule.specs.Rows.{job, sheet}
-use Rattle.schedule.proofs.Sound.{Narrow, list-plan-valid}
-use Rattle.schedule.proofs.Earliest.{Lasting}
+use Rattle.schedule.proofs.Sound.{list-plan-valid}
 use Rattle.desk.specs.declared.Desk.{Desk}
 use Rattle.desk.specs.Desk.{newDesk}
 use Rattle.desk.specs.Checks.{wrongLengths, wrongFigures, sharesExceed, deskOk, notOfDesk}
@@ -23,7 +22,7 @@ use Rattle.desk.specs.Calls.{Call, claim, handBack, look, refusalOf, deskAfter}
 use Rattle.desk.specs.Calls.{claimRefusal, claimed, handBackRefusal, handedBack, lookRefusal, looked}
 use Rattle.assurance.specs.Following.{Event, begin, end, InOrder, FollowsPlan, AllGranted}
 use Rattle.assurance.proofs.Once.{eachOnce, once-says}
-use Rattle.assurance.proofs.Assured.{Needing, plan-granted}
+use Rattle.assurance.proofs.Assured.{plan-granted}
 
 -- ---- E1's sheet and plan: A and C from minute 0 to 10, B from 10 to 30
 

@@ -122,7 +122,8 @@ not-later n p (c ∷ cs) a e = go (c .1) refl (not-later n p cs (above-rest n c 
     go false q rest = rest (rw q at e)
 
 -- its number is given exactly when it fails
-pub first-exactly : (n : ℕ) → 0 < n → (b : Bool) (cs : List Check) → numberedAbove n cs ≡ true → (firstFailing ((n, b) ∷ cs) ≡ n) ↔ (b ≡ true)
+pub first-exactly : (n : ℕ) → 0 < n → (b : Bool) (cs : List Check) → numberedAbove n cs ≡ true
+    → (firstFailing ((n, b) ∷ cs) ≡ n) ↔ (b ≡ true)
 unfolding firstFailing
 first-exactly n p true cs a = ((λ e. refl), λ e. refl)
 first-exactly n p false cs a = ((λ e. absurd (not-later n p cs a e)), λ e. clash false e refl)

@@ -13,17 +13,13 @@ use Rattle.checking.proofs.Order.{first-exactly}
 use Rattle.desk.specs.declared.Desk.{Desk}
 use Rattle.desk.specs.Desk.{holding, ceilingOf, reservedForOthers, noDesk}
 use Rattle.desk.specs.Checks.{deskOk, notOfDesk, bookingChecks, returnChecks}
-use Rattle.desk.specs.Reachable.{Reachable}
+use Rattle.desk.specs.Reachable.{Reachable, Barred}
 use Rattle.desk.specs.Calls.{claimRefusal, claimed, handBackRefusal, handedBack, lookRefusal, looked, room}
 use Rattle.desk.proofs.Sound.{here, of-desk}
 use Rattle.desk.proofs.Grants.{claim-says, claim-granted, hand-back-says, hand-back-granted}
 use Rattle.desk.proofs.Reaches.{reached-sound, reachable-when}
 
 -- ---- 14
-
--- the number is not below the count of controllers, or no answered opening and later calls can leave the desk
-abbrev pub Barred : Desk → ℕ → Type 0
-Barred d c = (d .count ≤ c) ⊎ (Reachable d → ⊥)
 
 module _ (d : Desk) (c : ℕ) where
   barred-fails : Barred d c → notOfDesk d c ≡ true

@@ -14,17 +14,15 @@ use Rattle.counting.proofs.Tests.{true-or-false, clash, and-left, and-right, an
 use Rattle.counting.proofs.Sums.{sum-le, sum-same, sum-add, sum-swap, sum-const, sum-single}
 use Rattle.counting.proofs.Ranges.{le-largest, largest-le, argmin}
 use Rattle.counting.proofs.Counts.{count-le, count-insert, count-full, count-one, count-not, count-none, only-count}
-use Rattle.schedule.specs.Plan.{Sheet, Plan, Valid, finish, planEnd}
+use Rattle.schedule.specs.Plan.{Sheet, Plan, Valid, finish, planEnd, Narrow, Lasting}
 use Rattle.schedule.specs.ListPlan.{Order, PartPlan, noJobs, Follows, occupies, startOf, place, emptyPart, placeAll, listPlan}
+use Rattle.schedule.specs.ListPlan.{MayStart, occupied}
 use Rattle.schedule.specs.TieRule.{endOf}
-use Rattle.schedule.proofs.Starts.{Ready, ready-when, MayStart, start-le, start-may}
-use Rattle.schedule.proofs.Sound.{Narrow, Sound, place-sound, empty-sound}
-use Rattle.schedule.proofs.Occupied.{occupied, sum-room}
+use Rattle.schedule.proofs.Starts.{Ready, ready-when, start-le, start-may}
+use Rattle.schedule.proofs.Sound.{Sound, place-sound, empty-sound}
+use Rattle.schedule.proofs.Occupied.{sum-room}
 
--- every job lasts a minute or more
-abbrev pub Lasting : Sheet → Type 0
-Lasting S = (j : ℕ) → j < S .jobs → 0 < S .minutes j
-
+-- a sheet with a valid plan has no job that is wider than the cabinet
 pub valid-narrow : (S : Sheet) (P : Plan) → Valid S P → Narrow S
 valid-narrow S P v j l = omega (arith, v .enough j l, count-le (S .modules) (P .uses j))
 

@@ -7,7 +7,7 @@ use mathlib.Core.Option.{Option, none, some}
 use Prim.Native.Nat.{ℕ, zero, suc, _≤_, _<_}
 use lib.Dec.{leb}
 use Rattle.counting.specs.Counting.{joined}
-use Rattle.schedule.specs.Plan.{Sheet, planEnd, overWide}
+use Rattle.schedule.specs.Plan.{Sheet, Plan, Valid, planEnd, overWide}
 use Rattle.schedule.specs.ListPlan.{Order, noJobs, placing, ready, listPlan}
 
 -- the end of the list plan of an order
@@ -57,3 +57,10 @@ planAnswer S (some o) = planned o (endOf S o)
 
 unfoldable pub answerOf : Sheet → Answer
 answerOf S = elim (overWide S) [ true ↦ wide | false ↦ planAnswer S (bestOrder S) ]
+
+-- the plan on the card: the tie rule's, valid, and no valid plan ends earlier
+pub record Planned (S : Sheet) (o : List ℕ) (e : ℕ) : Type 0 where
+  pub best : Best S o
+  pub end : e ≡ endOf S o
+  pub valid : Valid S (listPlan S o)
+  pub earliest : (Q : Plan) → Valid S Q → e ≤ planEnd S Q
