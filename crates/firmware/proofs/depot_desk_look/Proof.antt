@@ -1,4 +1,4 @@
--- `lent_desk::desk_look` meets its contract: a walk of its code. It copies the lent desk, calls `look` by value with it, and gives the
+-- `firmware::depot_desk_look` meets its contract: a walk of its code. It copies the lent desk, calls `look` by value with it, and gives the
 -- lent figure on to `show`, which sets it where the number is 0. Of the two it knows that each meets its contract.
 use mathlib.Core.Path.{_≡_, refl, sym, ap, ap₂, _∙_}
 use mathlib.Core.List.{List, [], _∷_}
@@ -51,15 +51,15 @@ use Rattle.desk.proofs.Desk.look as by-value
 use Rattle.desk.proofs.Desk.look.Symbol as by-value-symbol
 use Rattle.desk.proofs.Desk.look.Symbol.{name as #desk·Desk·look}
 use Rattle.desk.proofs.Desk.look.Met as by-value-met
-use Rattle.lent_desk.specs.Lent.{shownOver}
-use Rattle.lent_desk.proofs.show as show
-use Rattle.lent_desk.proofs.show.Symbol as show-symbol
-use Rattle.lent_desk.proofs.show.Symbol.{name as #lent-desk·show}
-use Rattle.lent_desk.proofs.show.Met as show-met
-use Rattle.lent_desk.proofs.desk_look as thin
-use Rattle.lent_desk.proofs.desk_look.Key.{name as #lent-desk·desk-look}
-use Rattle.lent_desk.proofs.desk_look.Statement.{statement}
-use Rattle.lent_desk.proofs.desk_look.Code as code
+use Rattle.firmware.specs.Lent.{shownOver}
+use Rattle.firmware.proofs.show as show
+use Rattle.firmware.proofs.show.Symbol as show-symbol
+use Rattle.firmware.proofs.show.Symbol.{name as #firmware·show}
+use Rattle.firmware.proofs.show.Met as show-met
+use Rattle.firmware.proofs.depot_desk_look as thin
+use Rattle.firmware.proofs.depot_desk_look.Key.{name as #firmware·depot-desk-look}
+use Rattle.firmware.proofs.depot_desk_look.Statement.{statement}
+use Rattle.firmware.proofs.depot_desk_look.Code as code
 
 abbrev stayed : Stays (thin.ended .signature .params) (thin.ended .kept)
 stayed = (
@@ -166,7 +166,7 @@ module _ {M : Type 1} (𝓤 : URA M) (H : Heap 𝓤) (A : Atoms 𝓤) (W : Given
 
   module _ (C : Calls 𝓤 H) (Λ : Loops 𝓤 H) (fm : FmC 𝓤 H (W .laws) C)
       (known : Triple 𝓤 (C #desk·Desk·look) (ByValue 𝓤 H A memory run))
-      (known-show : Triple 𝓤 (C #lent-desk·show) (Show 𝓤 H A memory run)) where
+      (known-show : Triple 𝓤 (C #firmware·show) (Show 𝓤 H A memory run)) where
     walk : ent 𝓤 (onEntry 𝓤 H A thin.signature (κ₀, (κ₁, tt)) (q₀, (q₁, tt)) args values)
         (WpFn 𝓤 H C Λ code.function (vptr b o ∷ vint w32 c ∷ vptr b′ o′ ∷ []) Post)
     walk =
@@ -235,7 +235,7 @@ module _ {M : Type 1} (𝓤 : URA M) (H : Heap 𝓤) (A : Atoms 𝓤) (W : Given
 
 module _ {M : Type 1} (𝓤 : URA M) (H : Heap 𝓤) (A : Atoms 𝓤) (W : Given 𝓤 H A) (memory : Memory → SProp 𝓤) (run : Routine → Fun 𝓤) where
   walks : (C : Calls 𝓤 H) (Λ : Loops 𝓤 H) → FmC 𝓤 H (W .laws) C
-      → Triple 𝓤 (C #desk·Desk·look) (ByValue 𝓤 H A memory run) → Triple 𝓤 (C #lent-desk·show) (Show 𝓤 H A memory run)
+      → Triple 𝓤 (C #desk·Desk·look) (ByValue 𝓤 H A memory run) → Triple 𝓤 (C #firmware·show) (Show 𝓤 H A memory run)
       → Walks 𝓤 H A thin.ended stayed (WpFn 𝓤 H C Λ code.function) (thin.clauses 𝓤 H A memory run)
   walks C Λ fm known known-show =
       walked 𝓤 H A thin.ended stayed (thin.clauses 𝓤 H A memory run) (WpFn 𝓤 H C Λ code.function)
@@ -255,19 +255,19 @@ module _ {M : Type 1} (𝓤 : URA M) (H : Heap 𝓤) (A : Atoms 𝓤) (W : Given
   )
 
   meets : (𝓣 : Tables 𝓤 H) → Triple 𝓤 (𝓣 .C #desk·Desk·look) (ByValue 𝓤 H A memory run)
-      → Triple 𝓤 (𝓣 .C #lent-desk·show) (Show 𝓤 H A memory run)
+      → Triple 𝓤 (𝓣 .C #firmware·show) (Show 𝓤 H A memory run)
       → Meets 𝓤 H A thin.signature (WpFn 𝓤 H (𝓣 .C) (𝓣 .Λ) code.function) (thin.spec 𝓤 H A memory run)
   meets 𝓣 known known-show =
       walk-meets 𝓤 H A thin.ended stayed W goes (thin.clauses 𝓤 H A memory run) (WpFn 𝓤 H (𝓣 .C) (𝓣 .Λ) code.function)
       (WpFn-mono 𝓤 H (W .laws) 𝓣 code.function) (walks (𝓣 .C) (𝓣 .Λ) (fmOf 𝓤 H (W .laws) 𝓣) known known-show)
 
-pub desk-look-spec : {M : Type 1} → statement M
+pub depot-desk-look-spec : {M : Type 1} → statement M
 unfolding code.routine tablesOf
-desk-look-spec 𝓤 H 𝓜 𝓖 𝓡 =
+depot-desk-look-spec 𝓤 H 𝓜 𝓖 𝓡 =
     entered 𝓤 H (tripleOf 𝓤 H (𝓖 .A) thin.signature (thin.spec 𝓤 H (𝓖 .A) (𝓜 .mem) (𝓡 .run)))
-    (tables 𝓤 H 𝓜 𝓡 code.env .C) (tables 𝓤 H 𝓜 𝓡 code.env .Λ) #lent-desk·desk-look code.function (code.unfolded 𝓤 H 𝓜 𝓡)
+    (tables 𝓤 H 𝓜 𝓡 code.env .C) (tables 𝓤 H 𝓜 𝓡 code.env .Λ) #firmware·depot-desk-look code.function (code.unfolded 𝓤 H 𝓜 𝓡)
     (meets 𝓤 H (𝓖 .A) (givenOf 𝓤 H 𝓜 𝓖) (𝓜 .mem) (𝓡 .run) (tablesOf 𝓤 H 𝓜 (tables 𝓤 H 𝓜 𝓡 code.env))
     (cited 𝓤 H (ByValue 𝓤 H (𝓖 .A) (𝓜 .mem) (𝓡 .run)) 𝓜 𝓡 code.env #desk·Desk·look by-value-symbol.routine
     code.calls-desk·Desk·look (by-value-met.met 𝓤 H 𝓜 𝓖 𝓡))
-    (cited 𝓤 H (Show 𝓤 H (𝓖 .A) (𝓜 .mem) (𝓡 .run)) 𝓜 𝓡 code.env #lent-desk·show show-symbol.routine
-    code.calls-lent-desk·show (show-met.met 𝓤 H 𝓜 𝓖 𝓡)))
+    (cited 𝓤 H (Show 𝓤 H (𝓖 .A) (𝓜 .mem) (𝓡 .run)) 𝓜 𝓡 code.env #firmware·show show-symbol.routine
+    code.calls-firmware·show (show-met.met 𝓤 H 𝓜 𝓖 𝓡)))

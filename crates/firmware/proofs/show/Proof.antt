@@ -1,8 +1,8 @@
--- `lent_desk::show` meets its contract.
+-- `firmware::show` meets its contract.
 use mathlib.Core.Path.{refl}
 use borrow.Author.Tests.{eq-eqb, ne-eqb}
-use Rattle.lent_desk.proofs.show.Statement.{statement}
-use Rattle.lent_desk.proofs.show.Tie as tie
+use Rattle.firmware.proofs.show.Statement.{statement}
+use Rattle.firmware.proofs.show.Tie as tie
 
 returns : tie.Need-returns
 returns c = (refl, rw (eq-eqb _ 0 (c .if1 .taken)) refl)

@@ -1,4 +1,4 @@
--- `lent_desk::desk_open` meets its contract: a walk of its code. It copies the lent desk, calls `opened_over` by value with it and the two
+-- `firmware::depot_desk_open` meets its contract: a walk of its code. It copies the lent desk, calls `opened_over` by value with it and the two
 -- lent lists, stores the desk that this hands back, and returns the number. Of `opened_over` it knows that it meets its contract.
 use mathlib.Core.Path.{_≡_, refl, ap}
 use mathlib.Core.List.{List, [], _∷_}
@@ -49,15 +49,15 @@ use Rattle.desk.proofs.Desk as D
 use Rattle.desk.proofs.Desk.Laws as D′
 use Rattle.desk.proofs.Booked as B
 use Rattle.desk.proofs.Booked.Laws as B′
-use Rattle.lent_desk.specs.Lent.{openedOver}
-use Rattle.lent_desk.proofs.opened_over as by-value
-use Rattle.lent_desk.proofs.opened_over.Symbol as by-value-symbol
-use Rattle.lent_desk.proofs.opened_over.Symbol.{name as #lent-desk·opened-over}
-use Rattle.lent_desk.proofs.opened_over.Met as by-value-met
-use Rattle.lent_desk.proofs.desk_open as thin
-use Rattle.lent_desk.proofs.desk_open.Key.{name as #lent-desk·desk-open}
-use Rattle.lent_desk.proofs.desk_open.Statement.{statement}
-use Rattle.lent_desk.proofs.desk_open.Code as code
+use Rattle.firmware.specs.Lent.{openedOver}
+use Rattle.firmware.proofs.opened_over as by-value
+use Rattle.firmware.proofs.opened_over.Symbol as by-value-symbol
+use Rattle.firmware.proofs.opened_over.Symbol.{name as #firmware·opened-over}
+use Rattle.firmware.proofs.opened_over.Met as by-value-met
+use Rattle.firmware.proofs.depot_desk_open as thin
+use Rattle.firmware.proofs.depot_desk_open.Key.{name as #firmware·depot-desk-open}
+use Rattle.firmware.proofs.depot_desk_open.Statement.{statement}
+use Rattle.firmware.proofs.depot_desk_open.Code as code
 
 abbrev stayed : Stays (thin.ended .signature .params) (thin.ended .kept)
 stayed = (
@@ -152,7 +152,7 @@ module _ {M : Type 1} (𝓤 : URA M) (H : Heap 𝓤) (A : Atoms 𝓤) (W : Given
   desk-is r vs is = LL.owed B.the-type B′.the-laws r vs is .1 .0
 
   module _ (C : Calls 𝓤 H) (Λ : Loops 𝓤 H) (fm : FmC 𝓤 H (W .laws) C)
-      (known : Triple 𝓤 (C #lent-desk·opened-over) (ByValue 𝓤 H A memory run)) where
+      (known : Triple 𝓤 (C #firmware·opened-over) (ByValue 𝓤 H A memory run)) where
     walk : ent 𝓤 (onEntry 𝓤 H A thin.signature (κ₀, (κ₁, (κ₂, tt))) (q₀, (q₁, (q₂, tt))) args values)
         (WpFn 𝓤 H C Λ code.function (vptr b o ∷ vint w32 n ∷ sV ∷ tV ∷ []) Post)
     walk =
@@ -214,7 +214,7 @@ module _ {M : Type 1} (𝓤 : URA M) (H : Heap 𝓤) (A : Atoms 𝓤) (W : Given
         keep ! (0 ∷ 1 ∷ 2 ∷ 3 ∷ 5 ∷ 4 ∷ []) $ by ! (exits r e (number-fits r _ is)))))))))))))))
 
 module _ {M : Type 1} (𝓤 : URA M) (H : Heap 𝓤) (A : Atoms 𝓤) (W : Given 𝓤 H A) (memory : Memory → SProp 𝓤) (run : Routine → Fun 𝓤) where
-  walks : (C : Calls 𝓤 H) (Λ : Loops 𝓤 H) → FmC 𝓤 H (W .laws) C → Triple 𝓤 (C #lent-desk·opened-over) (ByValue 𝓤 H A memory run)
+  walks : (C : Calls 𝓤 H) (Λ : Loops 𝓤 H) → FmC 𝓤 H (W .laws) C → Triple 𝓤 (C #firmware·opened-over) (ByValue 𝓤 H A memory run)
       → Walks 𝓤 H A thin.ended stayed (WpFn 𝓤 H C Λ code.function) (thin.clauses 𝓤 H A memory run)
   walks C Λ fm known =
       walked 𝓤 H A thin.ended stayed (thin.clauses 𝓤 H A memory run) (WpFn 𝓤 H C Λ code.function)
@@ -243,17 +243,17 @@ module _ {M : Type 1} (𝓤 : URA M) (H : Heap 𝓤) (A : Atoms 𝓤) (W : Given
     ),
   )
 
-  meets : (𝓣 : Tables 𝓤 H) → Triple 𝓤 (𝓣 .C #lent-desk·opened-over) (ByValue 𝓤 H A memory run)
+  meets : (𝓣 : Tables 𝓤 H) → Triple 𝓤 (𝓣 .C #firmware·opened-over) (ByValue 𝓤 H A memory run)
       → Meets 𝓤 H A thin.signature (WpFn 𝓤 H (𝓣 .C) (𝓣 .Λ) code.function) (thin.spec 𝓤 H A memory run)
   meets 𝓣 known =
       walk-meets 𝓤 H A thin.ended stayed W goes (thin.clauses 𝓤 H A memory run) (WpFn 𝓤 H (𝓣 .C) (𝓣 .Λ) code.function)
       (WpFn-mono 𝓤 H (W .laws) 𝓣 code.function) (walks (𝓣 .C) (𝓣 .Λ) (fmOf 𝓤 H (W .laws) 𝓣) known)
 
-pub desk-open-spec : {M : Type 1} → statement M
+pub depot-desk-open-spec : {M : Type 1} → statement M
 unfolding code.routine tablesOf
-desk-open-spec 𝓤 H 𝓜 𝓖 𝓡 =
+depot-desk-open-spec 𝓤 H 𝓜 𝓖 𝓡 =
     entered 𝓤 H (tripleOf 𝓤 H (𝓖 .A) thin.signature (thin.spec 𝓤 H (𝓖 .A) (𝓜 .mem) (𝓡 .run)))
-    (tables 𝓤 H 𝓜 𝓡 code.env .C) (tables 𝓤 H 𝓜 𝓡 code.env .Λ) #lent-desk·desk-open code.function (code.unfolded 𝓤 H 𝓜 𝓡)
+    (tables 𝓤 H 𝓜 𝓡 code.env .C) (tables 𝓤 H 𝓜 𝓡 code.env .Λ) #firmware·depot-desk-open code.function (code.unfolded 𝓤 H 𝓜 𝓡)
     (meets 𝓤 H (𝓖 .A) (givenOf 𝓤 H 𝓜 𝓖) (𝓜 .mem) (𝓡 .run) (tablesOf 𝓤 H 𝓜 (tables 𝓤 H 𝓜 𝓡 code.env))
-    (cited 𝓤 H (ByValue 𝓤 H (𝓖 .A) (𝓜 .mem) (𝓡 .run)) 𝓜 𝓡 code.env #lent-desk·opened-over by-value-symbol.routine
-    code.calls-lent-desk·opened-over (by-value-met.met 𝓤 H 𝓜 𝓖 𝓡)))
+    (cited 𝓤 H (ByValue 𝓤 H (𝓖 .A) (𝓜 .mem) (𝓡 .run)) 𝓜 𝓡 code.env #firmware·opened-over by-value-symbol.routine
+    code.calls-firmware·opened-over (by-value-met.met 𝓤 H 𝓜 𝓖 𝓡)))

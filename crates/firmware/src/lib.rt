@@ -1,10 +1,10 @@
-// The desk where firmware keeps it: thin calls that copy the lent desk, make the call by value,
+// What firmware links. The desk where firmware keeps it: thin calls that copy the lent desk, make the call by value,
 // and put the desk that it hands back in its place.
 use desk::Booked;
 use desk::Desk;
 ghost use mathlib.Core.Path.{_≡_};
 ghost use Rattle.desk.specs.Calls.{claimed, handedBack, looked};
-ghost use Rattle.lent_desk.specs.Lent.{openedOver, shownOver};
+ghost use Rattle.firmware.specs.Lent.{openedOver, shownOver};
 
 // Opening by value where a desk is kept: refused, the kept desk is handed back.
 fn opened_over(kept: Desk, limit: u32, assured: &[u32], ceilings: &[u32]) -> Booked
@@ -37,7 +37,12 @@ fn show(refusal: u32, figure: u32, modules: &mut u32) -> u32
 
 // Opens the lent desk. Refused, it is as before.
 #[no_mangle]
-pub extern "C" fn desk_open(desk: &mut Desk, limit: u32, assured: &[u32], ceilings: &[u32]) -> u32
+pub extern "C" fn depot_desk_open(
+    desk: &mut Desk,
+    limit: u32,
+    assured: &[u32],
+    ceilings: &[u32],
+) -> u32
     ensures { λ r. ⌜ (r ≡ openedOver (now (desk .entry)) limit (now (assured .entry)) (now (ceilings .entry)) .refusal)
         × (now (desk .exit) ≡ openedOver (now (desk .entry)) limit (now (assured .entry)) (now (ceilings .entry)) .desk) ⌝ }
 {
@@ -48,7 +53,7 @@ pub extern "C" fn desk_open(desk: &mut Desk, limit: u32, assured: &[u32], ceilin
 
 // A claim on the lent desk. Refused, it is as before.
 #[no_mangle]
-pub extern "C" fn desk_claim(desk: &mut Desk, controller: u32, modules: u32) -> u32
+pub extern "C" fn depot_desk_claim(desk: &mut Desk, controller: u32, modules: u32) -> u32
     ensures { λ r. ⌜ (r ≡ claimed (now (desk .entry)) controller modules .refusal)
         × (now (desk .exit) ≡ claimed (now (desk .entry)) controller modules .desk) ⌝ }
 {
@@ -59,7 +64,7 @@ pub extern "C" fn desk_claim(desk: &mut Desk, controller: u32, modules: u32) -> 
 
 // A hand-back on the lent desk. Refused, it is as before.
 #[no_mangle]
-pub extern "C" fn desk_hand_back(desk: &mut Desk, controller: u32, modules: u32) -> u32
+pub extern "C" fn depot_desk_hand_back(desk: &mut Desk, controller: u32, modules: u32) -> u32
     ensures { λ r. ⌜ (r ≡ handedBack (now (desk .entry)) controller modules .refusal)
         × (now (desk .exit) ≡ handedBack (now (desk .entry)) controller modules .desk) ⌝ }
 {
@@ -70,7 +75,7 @@ pub extern "C" fn desk_hand_back(desk: &mut Desk, controller: u32, modules: u32)
 
 // A look at the lent desk: the figure goes where `modules` lies. Refused, what lies there is as before.
 #[no_mangle]
-pub extern "C" fn desk_look(desk: &Desk, controller: u32, modules: &mut u32) -> u32
+pub extern "C" fn depot_desk_look(desk: &Desk, controller: u32, modules: &mut u32) -> u32
     ensures { λ r. ⌜ (r ≡ looked (now (desk .entry)) controller .refusal)
         × (now (modules .exit) ≡ shownOver (now (modules .entry)) r (looked (now (desk .entry)) controller .modules)) ⌝ }
 {
