@@ -1,0 +1,155 @@
+//! Random job sheets, good ones and damaged ones.
+use depot_host::random::Random;
+use depot_host::sheet::{Job, Sheet};
+
+/// A sheet that reads, of up to 7 jobs: no job is too wide and none waits for itself.
+pub fn good(random: &mut Random) -> Sheet {
+    let n = random.place(8);
+    let most = random.pick(&[1, 2, 2, 3, 4, 5, 8, 64]);
+    let modules = random.between(1, most);
+    let long = n < 6 && random.percent(10);
+    let longest = if long { 1440 } else { random.pick(&[1, 2, 5, 12, 30]) };
+    let mut jobs: Vec<Job> = (0..n)
+        .map(|_| Job {
+            label_length: random.between(1, 12) as u8,
+            modules: random.between(1, modules) as u8,
+            minutes: random.between(1, longest) as u16,
+            earlier: 0,
+            departure: random.between(0, 2880) as u16,
+        })
+        .collect();
+    mark(random, &mut jobs);
+    let length = jobs.iter().map(|job| usize::from(job.label_length)).sum();
+    let labels: Vec<u8> = (0..length).map(|_| random.between(33, 126) as u8).collect();
+    Sheet {
+        offset: length as u32,
+        count: n as u16,
+        modules: modules as u16,
+        labels,
+        jobs,
+    }
+}
+
+/// Marks earlier jobs along a random order.
+fn mark(random: &mut Random, jobs: &mut [Job]) {
+    let percent = random.pick(&[0, 0, 10, 30, 60, 100]);
+    let mut rank: Vec<usize> = (0..jobs.len()).collect();
+    random.shuffle(&mut rank);
+    for j in 0..jobs.len() {
+        for i in 0..jobs.len() {
+            if rank[i] < rank[j] && random.percent(percent) {
+                jobs[j].earlier |= 1 << i;
+            }
+        }
+    }
+}
+
+/// The sheet's bytes with a fault that the check of this number, 1 to 9, looks for; where there is no job, perhaps none.
+pub fn damaged(random: &mut Random, mut sheet: Sheet, check: u32) -> Vec<u8> {
+    let job = random.place(sheet.jobs.len().max(1));
+    match check {
+        1 => return wrong_length(random, sheet),
+        2 => sheet.count = outside(random, 21),
+        3 => sheet.modules = if random.percent(30) { 0 } else { outside(random, 65) },
+        4 => return misplaced(random, sheet),
+        5 if !sheet.jobs.is_empty() => wrong_field(random, &mut sheet.jobs[job], sheet.count),
+        6 => wrong_lengths(random, &mut sheet, job),
+        7 if !sheet.labels.is_empty() => {
+            let place = random.place(sheet.labels.len());
+            sheet.labels[place] = random.pick(&[0, 10, 32, 127, 128, 255]);
+        }
+        8 if !sheet.jobs.is_empty() => sheet.jobs[job].modules = random.between(u32::from(sheet.modules) + 1, 255) as u8,
+        9 if !sheet.jobs.is_empty() => make_circle(random, &mut sheet.jobs),
+        _ => {}
+    }
+    sheet.bytes()
+}
+
+/// Some bytes of the sheet changed, no matter which.
+pub fn scrambled(random: &mut Random, sheet: Sheet) -> Vec<u8> {
+    let mut bytes = sheet.bytes();
+    for _ in 0..random.between(1, 3) {
+        let place = random.place(bytes.len());
+        bytes[place] = if random.percent(50) {
+            bytes[place] ^ (1 << random.place(8))
+        } else {
+            random.word() as u8
+        };
+    }
+    bytes
+}
+
+/// A number of 16 bits from `first` on, near it or far from it.
+fn outside(random: &mut Random, first: u32) -> u16 {
+    let last = random.pick(&[first, first + 3, 300, 65535]);
+    random.between(first, last.max(first)) as u16
+}
+
+fn wrong_length(random: &mut Random, sheet: Sheet) -> Vec<u8> {
+    let mut bytes = sheet.bytes();
+    if random.percent(50) {
+        bytes.truncate(random.place(8));
+    } else {
+        let longer = random.pick(&[449, 450, 600]);
+        let mut long = vec![0; longer - bytes.len()];
+        random.fill(&mut long);
+        long.append(&mut bytes);
+        return long;
+    }
+    bytes
+}
+
+/// The records are not where the trailer says.
+fn misplaced(random: &mut Random, mut sheet: Sheet) -> Vec<u8> {
+    let far = random.between(1, 400);
+    match random.place(4) {
+        0 => sheet.offset = sheet.offset.wrapping_sub(far),
+        1 => sheet.offset = sheet.offset.wrapping_add(far),
+        2 => sheet.count = (sheet.count + random.between(1, 20) as u16) % 21,
+        _ => {
+            let mut bytes = sheet.bytes();
+            let place = random.place(bytes.len() - 7);
+            if random.percent(50) {
+                bytes.insert(place, b'x');
+            } else {
+                bytes.remove(place);
+            }
+            return bytes;
+        }
+    }
+    sheet.bytes()
+}
+
+fn wrong_field(random: &mut Random, job: &mut Job, n: u16) {
+    match random.place(6) {
+        0 => job.label_length = 0,
+        1 => job.label_length = outside(random, 13).min(255) as u8,
+        2 => job.modules = 0,
+        3 => job.minutes = if random.percent(30) { 0 } else { outside(random, 1441) },
+        4 => job.earlier |= 1 << random.between(n.into(), 31),
+        _ => job.departure = outside(random, 2881),
+    }
+}
+
+/// The label lengths do not add up to the labels, by one of their bytes or by one of their lengths.
+fn wrong_lengths(random: &mut Random, sheet: &mut Sheet, job: usize) {
+    if sheet.jobs.is_empty() || random.percent(50) {
+        sheet.labels.push(b'y');
+        sheet.offset += 1;
+    } else {
+        let length = &mut sheet.jobs[job].label_length;
+        *length = 1 + *length % 12;
+    }
+}
+
+/// Each job of a random circle waits for the one before it; a circle of one is a job that waits for itself.
+fn make_circle(random: &mut Random, jobs: &mut [Job]) {
+    let mut circle: Vec<usize> = (0..jobs.len()).collect();
+    random.shuffle(&mut circle);
+    circle.truncate(1 + random.place(jobs.len()));
+    let mut before = circle[circle.len() - 1];
+    for job in circle {
+        jobs[job].earlier |= 1 << before;
+        before = job;
+    }
+}
