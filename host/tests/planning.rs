@@ -129,7 +129,11 @@ fn planning_is_what_document_01_says() {
             } else {
                 bench.random.place(100)
             };
-            let bytes = sheets::damaged(&mut bench.random, sheet, check);
+            let mut checks = vec![check];
+            if bench.random.percent(40) {
+                checks.push(bench.random.between(1, 9));
+            }
+            let bytes = sheets::damaged(&mut bench.random, sheet, &checks);
             bench.compare(&bytes, room);
         }
     }

@@ -44,25 +44,40 @@ fn mark(random: &mut Random, jobs: &mut [Job]) {
     }
 }
 
-/// The sheet's bytes with a fault that the check of this number, 1 to 9, looks for; where there is no job, perhaps none.
-pub fn damaged(random: &mut Random, mut sheet: Sheet, check: u32) -> Vec<u8> {
+/// The sheet's bytes with a fault for each of the checks, 1 to 9; a sheet without jobs cannot have all of them.
+pub fn damaged(random: &mut Random, mut sheet: Sheet, checks: &[u32]) -> Vec<u8> {
+    checks.iter().for_each(|check| put_fault(random, &mut sheet, *check));
+    let mut bytes = sheet.bytes();
+    if checks.contains(&1) {
+        if random.percent(50) {
+            bytes.truncate(random.place(8));
+        } else {
+            let longer = random.pick(&[449, 450, 600]) - bytes.len();
+            bytes.splice(0..0, vec![b'z'; longer]);
+        }
+    }
+    bytes
+}
+
+fn put_fault(random: &mut Random, sheet: &mut Sheet, check: u32) {
     let job = random.place(sheet.jobs.len().max(1));
     match check {
-        1 => return wrong_length(random, sheet),
         2 => sheet.count = outside(random, 21),
         3 => sheet.modules = if random.percent(30) { 0 } else { outside(random, 65) },
-        4 => return misplaced(random, sheet),
+        4 => misplace(random, sheet),
         5 if !sheet.jobs.is_empty() => wrong_field(random, &mut sheet.jobs[job], sheet.count),
-        6 => wrong_lengths(random, &mut sheet, job),
+        6 => wrong_lengths(random, sheet, job),
         7 if !sheet.labels.is_empty() => {
             let place = random.place(sheet.labels.len());
             sheet.labels[place] = random.pick(&[0, 10, 32, 127, 128, 255]);
         }
-        8 if !sheet.jobs.is_empty() => sheet.jobs[job].modules = random.between(u32::from(sheet.modules) + 1, 255) as u8,
+        8 if !sheet.jobs.is_empty() => {
+            let too_wide = u32::from(sheet.modules) + 1;
+            sheet.jobs[job].modules = random.between(too_wide.min(255), 255) as u8;
+        }
         9 if !sheet.jobs.is_empty() => make_circle(random, &mut sheet.jobs),
         _ => {}
     }
-    sheet.bytes()
 }
 
 /// Some bytes of the sheet changed, no matter which.
@@ -85,39 +100,16 @@ fn outside(random: &mut Random, first: u32) -> u16 {
     random.between(first, last.max(first)) as u16
 }
 
-fn wrong_length(random: &mut Random, sheet: Sheet) -> Vec<u8> {
-    let mut bytes = sheet.bytes();
-    if random.percent(50) {
-        bytes.truncate(random.place(8));
-    } else {
-        let longer = random.pick(&[449, 450, 600]);
-        let mut long = vec![0; longer - bytes.len()];
-        random.fill(&mut long);
-        long.append(&mut bytes);
-        return long;
-    }
-    bytes
-}
-
 /// The records are not where the trailer says.
-fn misplaced(random: &mut Random, mut sheet: Sheet) -> Vec<u8> {
+fn misplace(random: &mut Random, sheet: &mut Sheet) {
     let far = random.between(1, 400);
-    match random.place(4) {
+    match random.place(5) {
         0 => sheet.offset = sheet.offset.wrapping_sub(far),
         1 => sheet.offset = sheet.offset.wrapping_add(far),
         2 => sheet.count = (sheet.count + random.between(1, 20) as u16) % 21,
-        _ => {
-            let mut bytes = sheet.bytes();
-            let place = random.place(bytes.len() - 7);
-            if random.percent(50) {
-                bytes.insert(place, b'x');
-            } else {
-                bytes.remove(place);
-            }
-            return bytes;
-        }
+        3 if !sheet.labels.is_empty() => drop(sheet.labels.pop()),
+        _ => sheet.labels.push(b'x'),
     }
-    sheet.bytes()
 }
 
 fn wrong_field(random: &mut Random, job: &mut Job, n: u16) {
@@ -126,7 +118,7 @@ fn wrong_field(random: &mut Random, job: &mut Job, n: u16) {
         1 => job.label_length = outside(random, 13).min(255) as u8,
         2 => job.modules = 0,
         3 => job.minutes = if random.percent(30) { 0 } else { outside(random, 1441) },
-        4 => job.earlier |= 1 << random.between(n.into(), 31),
+        4 => job.earlier |= 1 << random.between(u32::from(n).min(31), 31),
         _ => job.departure = outside(random, 2881),
     }
 }
