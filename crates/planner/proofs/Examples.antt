@@ -1,7 +1,6 @@
 -- E1 of document 01 from the bytes of its sheet to the bytes of its card, and a lent card that is a byte too short.
 use mathlib.Core.Path.{_≡_, refl}
-use mathlib.Core.List.{List, [], _∷_, _++_}
-use Prim.Native.Nat.{ℕ}
+use mathlib.Core.List.{[], _∷_, _++_}
 use lib.ListN.{replicate}
 use Rattle.counting.specs.Counting.{sum, largest, every, any}
 use Rattle.bits.specs.Bits.{bit, setOf}

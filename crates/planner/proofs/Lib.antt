@@ -1,5 +1,7 @@
 -- Laws of planning.
 pub mod Tables
+pub mod Copies
 pub mod Planning
+pub mod Calls
 pub mod Granted
 pub mod Examples

@@ -5,27 +5,26 @@ use mathlib.Core.Logic.{_⊎_, inl, inr, ⊎-elim, _↔_}
 use mathlib.Core.Bool.{Bool, true, false}
 use mathlib.Core.List.{List, [], _∷_, _++_}
 use mathlib.Core.Option.{Option, none, some}
-use Prim.Native.Nat.{ℕ, _+_, _*_, _≤_, _<_}
+use Prim.Native.Nat.{ℕ, _+_, _≤_, _<_}
 use native.Mathlib.Omega.{arith}
-use lib.Dec.{ltb, eqb}
-use lib.ListN.{length, drop, getD}
+use lib.Dec.{ltb}
+use lib.ListN.{length, drop}
 use Rattle.counting.proofs.Tests.{true-or-false, clash}
 use Rattle.schedule.specs.Plan.{Sheet, Plan, Valid, Circular, planEnd, overWide}
 use Rattle.schedule.specs.ListPlan.{Order}
 use Rattle.schedule.specs.TieRule.{Best, bestOrder, endOf}
 use Rattle.schedule.proofs.Orders.{best-order}
 use Rattle.schedule.proofs.Existence.{narrow-says, has-plan}
-use Rattle.schedule.proofs.Theorems.{best-exists, none-circular, best-not-circular, best-earliest}
-use Rattle.tables.specs.Tables.{sheetOf}
+use Rattle.schedule.proofs.Theorems.{none-circular, best-not-circular, best-earliest}
 use Rattle.card.specs.Card.{cardOf}
-use Rattle.card.specs.Decoding.{numberAt, planOn, Decodes}
+use Rattle.card.specs.Decoding.{planOn, Decodes}
 use Rattle.card.proofs.Decoding.{card-length, card-decodes}
 use Rattle.card.proofs.OnCard.{card-valid, card-end}
-use Rattle.sheet_format.specs.Checks.{Check, firstFailing, FirstFails}
-use Rattle.sheet_format.proofs.Order.{Passed, all-passed, none-failing, first-behind, refused-exactly}
+use Rattle.sheet_format.specs.Checks.{firstFailing, FirstFails}
+use Rattle.sheet_format.proofs.Order.{all-passed, none-failing, first-behind, refused-exactly}
 use Rattle.sheet.specs.Read.{readChecks, readRefusal, reading}
-use Rattle.sheet.specs.Write.{over}
-use Rattle.planner.specs.Planning.{sheetOn, noOrder, cardSize, planChecks, planRefusal, bestCard, cardAfter, memoryAfter}
+use Rattle.planner.specs.Planning.{sheetOn, noOrder, cardSize, limitChecks, planChecks, planRefusal, bestCard, cardAfter}
+use Rattle.planner.specs.Planned.{Planned}
 use Rattle.planner.proofs.Tables.{needs, minutes, earliers, sheet-tables, lasting-read, fit-read}
 
 -- ---- the checks
@@ -37,7 +36,7 @@ circular-when S = (there (bestOrder S) refl, back (bestOrder S) refl)
   where
     there : (b : Option (List ℕ)) → bestOrder S ≡ b → noOrder S ≡ true → Circular S
     there none e h = none-circular S e
-    there (some o) e h = absurd (let z : _≡_ {A = Bool} false true = rw (e, noOrder) at h in let x : _≡_ {A = ℕ} 0 1 = cc in omega arith)
+    there (some o) e h = clash false (rw (e, noOrder) at h) refl
 
     back : (b : Option (List ℕ)) → bestOrder S ≡ b → Circular S → noOrder S ≡ true
     back none e c = rw (e, noOrder) refl
@@ -99,7 +98,7 @@ no-plan-exactly s room e = (
     S = sheetOn (reading s)
 
     late : ℕ
-    late = firstFailing ((8, overWide S) ∷ (9, noOrder S) ∷ (10, ltb room (cardSize S)) ∷ [])
+    late = firstFailing (limitChecks S room)
 
     behind : planRefusal s room ≡ late
     behind = first-behind (readChecks s) _ (all-passed (readChecks s) refl e)
@@ -119,19 +118,6 @@ no-plan-exactly s room e = (
 
 -- ---- the card
 
--- An answered call's card, and whatever stands behind it in the lent bytes.
-pub record Planned (s card : List ℕ) (order : List ℕ) : Type 0 where
-  -- "the one that document 01's tie rule names"
-  pub best : Best (sheetOn (reading s)) order
-  pub written : cardAfter s card ≡ cardOf (sheetOn (reading s)) order ++ drop (cardSize (sheetOn (reading s))) card
-  -- "A plan keeps constraints (2) to (5)"
-  pub valid : Valid (sheetOn (reading s)) (planOn (cardAfter s card))
-  -- the end in the trailer is the plan's
-  pub end : planEnd (sheetOn (reading s)) (planOn (cardAfter s card)) ≡ numberAt (cardAfter s card) (13 * sheetOn (reading s) .jobs + 4) 2
-  -- "every valid plan, whoever finds it and however, ends no earlier than ours"
-  pub earliest : (Q : Plan) → Valid (sheetOn (reading s)) Q
-      → planEnd (sheetOn (reading s)) (planOn (cardAfter s card)) ≤ planEnd (sheetOn (reading s)) Q
-
 module _ (s card : List ℕ) (e : planRefusal s (length card) ≡ 0) where
   abbrev S : Sheet
   S = sheetOn (reading s)
@@ -144,7 +130,7 @@ module _ (s card : List ℕ) (e : planRefusal s (length card) ≡ 0) where
   found = go (bestOrder S) refl
     where
       go : (b : Option (List ℕ)) → bestOrder S ≡ b → (o : List ℕ) × (bestOrder S ≡ some o)
-      go none f = absurd (let z : _≡_ {A = Bool} true false = rw (f, noOrder) at (p .ordered) in let x : _≡_ {A = ℕ} 0 1 = cc in omega arith)
+      go none f = clash true refl (rw (f, noOrder) at (p .ordered))
       go (some o) f = (o, f)
 
   abbrev o : List ℕ
@@ -157,10 +143,15 @@ module _ (s card : List ℕ) (e : planRefusal s (length card) ≡ 0) where
   unfolding bestCard
   best-card = rw (found .1, bestCard) refl
 
-  card-is : cardAfter s card ≡ cardOf S o ++ drop (cardSize S) card
+  size : length (bestCard S) ≡ cardSize S
+  size = ap length best-card ∙ card-length S o (best .order)
+
+  pub plan-written : cardAfter s card ≡ bestCard S ++ drop (cardSize S) card
   unfolding cardAfter
-  card-is =
-      rw e (ap (λ (c : List ℕ). over c card) best-card ∙ ap (λ (k : ℕ). cardOf S o ++ drop k card) (card-length S o (best .order)))
+  plan-written = rw e (ap (λ (k : ℕ). bestCard S ++ drop k card) size)
+
+  card-is : cardAfter s card ≡ cardOf S o ++ drop (cardSize S) card
+  card-is = plan-written ∙ ap (λ (c : List ℕ). c ++ drop (cardSize S) card) best-card
 
   decodes : Decodes S o (cardAfter s card)
   decodes =

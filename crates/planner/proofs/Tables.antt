@@ -1,12 +1,11 @@
 -- The figures of a sheet that reads: as tables, and within their ranges.
-use mathlib.Core.Path.{_≡_, refl, sym, ap, subst}
+use mathlib.Core.Path.{_≡_, sym, subst}
 use mathlib.Core.Bool.{false}
 use mathlib.Core.List.{List, map}
 use Prim.Native.Nat.{ℕ, _≤_, _<_}
-use native.Mathlib.Omega.{arith}
-use lib.ListN.{getD, List·getD-map}
+use lib.ListN.{List·getD-map}
 use Rattle.bits.specs.Bits.{bit}
-use Rattle.schedule.specs.Plan.{Sheet, overWide}
+use Rattle.schedule.specs.Plan.{overWide}
 use Rattle.schedule.proofs.Earliest.{Lasting}
 use Rattle.schedule.proofs.Existence.{narrow-says}
 use Rattle.tables.specs.Tables.{sheetOf, Fit}
@@ -49,7 +48,8 @@ module _ (s : List ℕ) (e : readRefusal s ≡ 0) where
 
   pub job-read : (j : ℕ) → j < r .count → Legal (countOf s) (jobsIn (r .jobs) j)
   job-read = subst (λ (r : Reading). (j : ℕ) → j < r .count → Legal (countOf s) (jobsIn (r .jobs) j)) (sym (read-answer s e))
-      (λ j l. subst (Legal (countOf s)) (sym (job-in-place (countOf s) (jobOf s) j l)) (legal (countOf s) (jobOf s j) (reads s e .sound j l)))
+      (λ j l. subst (Legal (countOf s)) (sym (job-in-place (countOf s) (jobOf s) j l))
+      (legal (countOf s) (jobOf s j) (reads s e .sound j l)))
 
   pub lasting-read : Lasting (sheetOn r)
   lasting-read j l = job-read j l .minutes-some
@@ -65,5 +65,6 @@ module _ (s : List ℕ) (e : readRefusal s ≡ 0) where
     narrow = λ j l. subst (λ (x : ℕ). x ≤ r .modules) (sym (List·getD-map (λ (x : Job). x .modules) (r .jobs) j noJob))
         (narrow-says (sheetOn r) w j l);
     lasting = λ j l. subst (λ (x : ℕ). 0 < x) (sym (List·getD-map (λ (x : Job). x .minutes) (r .jobs) j noJob)) (lasting-read j l);
-    short = λ j l. subst (λ (x : ℕ). x ≤ 1440) (sym (List·getD-map (λ (x : Job). x .minutes) (r .jobs) j noJob)) (job-read j l .minutes-most);
+    short = λ j l. subst (λ (x : ℕ). x ≤ 1440) (sym (List·getD-map (λ (x : Job). x .minutes) (r .jobs) j noJob))
+        (job-read j l .minutes-most);
   }

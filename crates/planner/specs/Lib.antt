@@ -1,2 +1,4 @@
 -- What planning answers.
+pub mod Tables
 pub mod Planning
+pub mod Planned

@@ -36,11 +36,16 @@ noOrder S = elim (bestOrder S) [ none ↦ true | some o ↦ false ]
 abbrev pub cardSize : Sheet → ℕ
 cardSize S = 13 * S .jobs + 8
 
--- "planning 1 to 10"; the last against the room in the lent card
+-- 8 to 10; the last against the room in the lent card
+abbrev pub limitChecks : Sheet → ℕ → List Check
+limitChecks S room = (8, overWide S) ∷ (9, noOrder S) ∷ (10, ltb room (cardSize S)) ∷ []
+
+unfoldable pub limitRefusal : Sheet → ℕ → ℕ
+limitRefusal S room = firstFailing (limitChecks S room)
+
+-- "planning 1 to 10"
 abbrev pub planChecks : List ℕ → ℕ → List Check
-planChecks s room =
-    let S = sheetOn (reading s) in
-    readChecks s ++ ((8, overWide S) ∷ (9, noOrder S) ∷ (10, ltb room (cardSize S)) ∷ [])
+planChecks s room = readChecks s ++ limitChecks (sheetOn (reading s)) room
 
 unfoldable pub planRefusal : List ℕ → ℕ → ℕ
 planRefusal s room = firstFailing (planChecks s room)
