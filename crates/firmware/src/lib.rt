@@ -1,10 +1,23 @@
-// What firmware links. The desk where firmware keeps it: thin calls that copy the lent desk, make the call by value,
+// What firmware links: planning, and the desk where firmware keeps it. The desk's calls copy the lent desk, make the call by value,
 // and put the desk that it hands back in its place.
 use desk::Booked;
 use desk::Desk;
 ghost use mathlib.Core.Path.{_≡_};
+ghost use lib.ListN.{length};
+ghost use Rattle.planner.specs.Planning.{planRefusal, cardAfter, memoryAfter};
 ghost use Rattle.desk.specs.Calls.{claimed, handedBack, looked};
 ghost use Rattle.firmware.specs.Lent.{openedOver, shownOver};
+
+// Planning: 0, or the first refusal of 1 to 10. Answered, the card of the tie rule's plan is at the front of the lent card and the
+// working memory, of any length, is all zero; refused, every lent byte is as before. The three buffers do not overlap.
+#[no_mangle]
+pub extern "C" fn depot_plan(sheet: &[u8], card: &mut [u8], work: &mut [u8]) -> u32
+    ensures refusal { λ r. ⌜ r ≡ planRefusal (now (sheet .entry)) (length (now (card .entry))) ⌝ }
+    ensures card { λ _. ⌜ now (card .exit) ≡ cardAfter (now (sheet .entry)) (now (card .entry)) ⌝ }
+    ensures work { λ _. ⌜ now (work .exit) ≡ memoryAfter (now (sheet .entry)) (length (now (card .entry))) (now (work .entry)) ⌝ }
+{
+    planner::plan(sheet, card, work)
+}
 
 // Opening by value where a desk is kept: refused, the kept desk is handed back.
 fn opened_over(kept: Desk, limit: u32, assured: &[u32], ceilings: &[u32]) -> Booked
