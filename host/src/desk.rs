@@ -30,16 +30,8 @@ impl Desk {
     pub fn open(limit: u32, assured: &[u32], ceilings: &[u32]) -> Result<Desk, Refusal> {
         let mut desk = Desk::default();
         // SAFETY: a live desk and two live slices; the library keeps no pointer.
-        let answer = unsafe {
-            ffi::depot_desk_open(
-                &mut desk,
-                limit,
-                assured.as_ptr(),
-                assured.len(),
-                ceilings.as_ptr(),
-                ceilings.len(),
-            )
-        };
+        let answer =
+            unsafe { ffi::depot_desk_open(&mut desk, limit, assured.as_ptr(), assured.len(), ceilings.as_ptr(), ceilings.len()) };
         Refusal::or_done(answer).map(|()| desk)
     }
 

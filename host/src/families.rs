@@ -1,7 +1,7 @@
 //! Families of job lists for the benchmark, from easy to hopeless.
 use crate::lists::List;
 use crate::random::Random;
-use crate::sheet::Job;
+use crate::sheet::{mark_earlier, Job};
 use std::ops::RangeInclusive;
 
 type Make = Box<dyn Fn(&mut Random, usize) -> Vec<Job>>;
@@ -21,11 +21,7 @@ impl Family {
     /// A list of n jobs, 1 or more, of its own for each seed.
     pub fn list(&self, seed: u64, n: usize) -> List {
         let mut random = Random::named(seed, &self.name);
-        List {
-            name: format!("{}#{seed}", self.name),
-            modules: self.modules,
-            jobs: (self.make)(&mut random, n),
-        }
+        List { name: format!("{}#{seed}", self.name), modules: self.modules, jobs: (self.make)(&mut random, n) }
     }
 }
 
@@ -36,11 +32,7 @@ fn draw(random: &mut Random, figures: &Figures) -> u32 {
 }
 
 fn job(modules: u32, minutes: u32) -> Job {
-    Job {
-        modules: modules as u8,
-        minutes: minutes as u16,
-        ..Job::default()
-    }
+    Job { modules: modules as u8, minutes: minutes as u16, ..Job::default() }
 }
 
 /// Jobs that wait for none.
@@ -48,19 +40,11 @@ fn independent(widths: Figures, minutes: Figures) -> impl Fn(&mut Random, usize)
     move |random, n| (0..n).map(|_| job(draw(random, &widths), draw(random, &minutes))).collect()
 }
 
-/// Marks of earlier jobs along a random order, each with this chance of a hundred.
+/// The same jobs with marks of earlier ones.
 fn marked(make: impl Fn(&mut Random, usize) -> Vec<Job>, percent: u32) -> impl Fn(&mut Random, usize) -> Vec<Job> {
     move |random, n| {
         let mut jobs = make(random, n);
-        let mut rank: Vec<usize> = (0..n).collect();
-        random.shuffle(&mut rank);
-        for j in 0..n {
-            for i in 0..n {
-                if rank[i] < rank[j] && random.percent(percent) {
-                    jobs[j].earlier |= 1 << i;
-                }
-            }
-        }
+        mark_earlier(random, &mut jobs, percent);
         jobs
     }
 }
@@ -144,78 +128,64 @@ fn around_half(modules: u32) -> impl Fn(&mut Random, usize) -> Vec<Job> {
     }
 }
 
-/// Every family.
+/// Jobs whose minutes are quarters of an hour.
+fn in_quarters(random: &mut Random, n: usize) -> Vec<Job> {
+    (0..n).map(|_| job(random.pick(&[2, 4, 4, 8]), 15 * random.between(2, 20))).collect()
+}
+
+/// Every family; N, the modules in the cabinet, is in the name.
 pub fn all() -> Vec<Family> {
     let mut families = Vec::new();
-    let mut add = |name: String, modules: u32, make: Make| {
-        families.push(Family {
-            name,
-            modules: modules as u16,
-            make,
-        })
+    let mut add = |kind: &str, modules: u32, rest: &str, make: Make| {
+        families.push(Family { name: format!("{kind}_N{modules}{rest}"), modules: modules as u16, make })
     };
-    for n in [2, 3, 4, 5, 8, 10, 16, 32, 64] {
+    for modules in [2, 3, 4, 5, 8, 10, 16, 32, 64] {
         for longest in [10, 100, 1440] {
-            add(format!("ind_N{n}_d{longest}"), n, Box::new(independent(1..=n, 1..=longest)));
+            add("ind", modules, &format!("_d{longest}"), Box::new(independent(1..=modules, 1..=longest)));
         }
-        add(format!("indH_N{n}"), n, Box::new(independent(1..=n / 2, 1..=100)));
-        add(format!("unitw_N{n}"), n, Box::new(independent(1..=1, 1..=100)));
+        add("indH", modules, "", Box::new(independent(1..=modules / 2, 1..=100)));
+        add("unitw", modules, "", Box::new(independent(1..=1, 1..=100)));
     }
-    for n in [4, 5, 8, 16, 64] {
-        let third = n / 3;
-        add(format!("neq_N{n}"), n, Box::new(independent(1..=n * 2 / 3, 95..=105)));
-        add(format!("halfplus_N{n}"), n, Box::new(around_half(n)));
-        add(
-            format!("thirdplus_N{n}"),
-            n,
-            Box::new(independent(third..=third + 1, 20..=100)),
-        );
-        add(
-            format!("third3_N{n}"),
-            n,
-            Box::new(independent(1.max(third - 1)..=third + 1, 30..=60)),
-        );
+    for modules in [4, 5, 8, 16, 64] {
+        let third = modules / 3;
+        add("neq", modules, "", Box::new(independent(1..=modules * 2 / 3, 95..=105)));
+        add("halfplus", modules, "", Box::new(around_half(modules)));
+        add("thirdplus", modules, "", Box::new(independent(third..=third + 1, 20..=100)));
+        add("third3", modules, "", Box::new(independent(1.max(third - 1)..=third + 1, 30..=60)));
     }
-    for n in [2, 4, 8, 64] {
+    for modules in [2, 4, 8, 64] {
         for percent in [5, 10, 20, 40] {
-            let make = independent(1..=1.max(n * 2 / 3), 1..=50);
-            add(format!("dag_N{n}_p{percent}"), n, Box::new(marked(make, percent)));
+            let make = independent(1..=1.max(modules * 2 / 3), 1..=50);
+            add("dag", modules, &format!("_p{percent}"), Box::new(marked(make, percent)));
         }
     }
-    for n in [4, 8] {
+    for modules in [4, 8] {
         for side_by_side in [3, 5, 10] {
-            add(
-                format!("chains_N{n}_c{side_by_side}"),
-                n,
-                Box::new(chains(1..=n * 2 / 3, 1..=50, side_by_side)),
-            );
+            let make = chains(1..=modules * 2 / 3, 1..=50, side_by_side);
+            add("chains", modules, &format!("_c{side_by_side}"), Box::new(make));
         }
     }
     for layers in [3, 5, 8] {
-        add(format!("layer_N4_L{layers}"), 4, Box::new(layered(1..=4, 1..=20, layers)));
+        add("layer", 4, &format!("_L{layers}"), Box::new(layered(1..=4, 1..=20, layers)));
     }
-    add("alleq_N7w2".into(), 7, Box::new(of_types(1, 2..=2, 5..=9)));
-    add("alleq_N64w9".into(), 64, Box::new(of_types(1, 9..=9, 60..=60)));
-    add("fewtypes_N10".into(), 10, Box::new(of_types(4, 1..=6, 10..=50)));
-    add("fewtypes_N64".into(), 64, Box::new(of_types(5, 5..=40, 10..=50)));
-    for n in [16, 24, 32, 64] {
-        add(format!("depot_N{n}"), n, Box::new(independent(1..=8, 30..=300)));
+    add("alleq", 7, "w2", Box::new(of_types(1, 2..=2, 5..=9)));
+    add("alleq", 64, "w9", Box::new(of_types(1, 9..=9, 60..=60)));
+    add("fewtypes", 10, "", Box::new(of_types(4, 1..=6, 10..=50)));
+    add("fewtypes", 64, "", Box::new(of_types(5, 5..=40, 10..=50)));
+    for modules in [16, 24, 32, 64] {
+        add("depot", modules, "", Box::new(independent(1..=8, 30..=300)));
     }
-    let quarters = |random: &mut Random, n: usize| {
-        let width = |random: &mut Random| random.pick(&[2, 4, 4, 8]);
-        (0..n).map(|_| job(width(random), 15 * random.between(2, 20))).collect()
-    };
-    add("depot_N16r".into(), 16, Box::new(quarters));
-    add("depot_N16dag".into(), 16, Box::new(marked(independent(1..=8, 30..=300), 5)));
-    for n in [5, 6, 7] {
-        add(format!("threepart_N{n}"), n, Box::new(independent(1..=1, 26..=49)));
+    add("depot", 16, "r", Box::new(in_quarters));
+    add("depot", 16, "dag", Box::new(marked(independent(1..=8, 30..=300), 5)));
+    for modules in [5, 6, 7] {
+        add("threepart", modules, "", Box::new(independent(1..=1, 26..=49)));
     }
-    for n in [6, 10, 20, 64] {
-        add(format!("perf_N{n}"), n, Box::new(cut(n, false)));
-        add(format!("perfp_N{n}"), n, Box::new(cut(n, true)));
+    for modules in [6, 10, 20, 64] {
+        add("perf", modules, "", Box::new(cut(modules, false)));
+        add("perfp", modules, "", Box::new(cut(modules, true)));
     }
-    for n in [9, 10] {
-        add(format!("pairs_N{n}"), n, Box::new(independent(1..=1, 50..=99)));
+    for modules in [9, 10] {
+        add("pairs", modules, "", Box::new(independent(1..=1, 50..=99)));
     }
     families
 }

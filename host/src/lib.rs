@@ -32,15 +32,7 @@ pub const fn card_length(jobs: usize) -> usize {
 /// more of it may make the search shorter, what it holds changes nothing, and it is left all zero. A refused call writes no byte.
 pub fn plan(sheet: &[u8], card: &mut [u8], work: &mut [u8]) -> Result<(), Refusal> {
     // SAFETY: three live slices, of which none overlaps another; the library keeps no pointer.
-    let answer = unsafe {
-        ffi::depot_plan(
-            sheet.as_ptr(),
-            sheet.len(),
-            card.as_mut_ptr(),
-            card.len(),
-            work.as_mut_ptr(),
-            work.len(),
-        )
-    };
+    let answer =
+        unsafe { ffi::depot_plan(sheet.as_ptr(), sheet.len(), card.as_mut_ptr(), card.len(), work.as_mut_ptr(), work.len()) };
     Refusal::or_done(answer)
 }

@@ -28,11 +28,8 @@ pub fn read(text: &str) -> Result<Vec<List>, String> {
     while let Some((number, line)) = lines.next() {
         let (mut list, count) = head(line).ok_or_else(|| wrong(number, "expected 'name n N'"))?;
         for _ in 0..count {
-            let (number, line) = lines
-                .next()
-                .ok_or_else(|| wrong(number, "the list has fewer jobs than it says"))?;
-            list.jobs
-                .push(job(line).ok_or_else(|| wrong(number, "expected 'modules minutes earlier-jobs'"))?);
+            let (number, line) = lines.next().ok_or_else(|| wrong(number, "the list has fewer jobs than it says"))?;
+            list.jobs.push(job(line).ok_or_else(|| wrong(number, "expected 'modules minutes earlier-jobs'"))?);
         }
         lists.push(list);
     }
@@ -48,14 +45,7 @@ fn head(line: &str) -> Option<(List, usize)> {
     let name = words.next()?.to_string();
     let count = words.next()?.parse().ok()?;
     let modules = words.next()?.parse().ok()?;
-    Some((
-        List {
-            name,
-            modules,
-            jobs: Vec::new(),
-        },
-        count,
-    ))
+    Some((List { name, modules, jobs: Vec::new() }, count))
 }
 
 fn job(line: &str) -> Option<Job> {

@@ -1,4 +1,5 @@
 //! Job sheets, written byte by byte; nothing is checked, so that wrong ones can be made too.
+use crate::random::Random;
 
 /// A job in the widths of its record.
 #[derive(Clone, Copy, Debug, Default)]
@@ -22,6 +23,19 @@ impl Job {
     }
 }
 
+/// Marks earlier jobs along a random order, each with this chance of a hundred, so that no job waits for itself.
+pub fn mark_earlier(random: &mut Random, jobs: &mut [Job], percent: u32) {
+    let mut rank: Vec<usize> = (0..jobs.len()).collect();
+    random.shuffle(&mut rank);
+    for (j, job) in jobs.iter_mut().enumerate() {
+        for i in 0..rank.len() {
+            if rank[i] < rank[j] && random.percent(percent) {
+                job.earlier |= 1 << i;
+            }
+        }
+    }
+}
+
 /// A sheet's parts: the labels run together, the jobs, and the trailer's three figures.
 #[derive(Clone, Debug)]
 pub struct Sheet {
@@ -37,13 +51,7 @@ impl Sheet {
     pub fn of(modules: u16, mut jobs: Vec<Job>) -> Sheet {
         let labels: Vec<u8> = (b'A'..).take(jobs.len()).collect();
         jobs.iter_mut().for_each(|job| job.label_length = 1);
-        Sheet {
-            offset: labels.len() as u32,
-            count: jobs.len() as u16,
-            labels,
-            jobs,
-            modules,
-        }
+        Sheet { offset: labels.len() as u32, count: jobs.len() as u16, labels, jobs, modules }
     }
 
     pub fn bytes(&self) -> Vec<u8> {

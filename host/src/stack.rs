@@ -17,32 +17,34 @@ extern "C" {
 const ROOM: usize = 4 << 20;
 const PAINT: u8 = 0xC3;
 
+/// What the thread is to call, and where its stack stood then.
+struct Task<'a> {
+    call: &'a mut dyn FnMut(),
+    from: usize,
+}
+
 extern "C" fn run(argument: *mut c_void) -> *mut c_void {
-    // SAFETY: `touched` passes a live reference to a closure.
-    let call = unsafe { &mut *argument.cast::<&mut dyn FnMut()>() };
-    call();
+    // SAFETY: `needed` passes a live task.
+    let task = unsafe { &mut *argument.cast::<Task>() };
+    task.from = ptr::from_ref(&task) as usize;
+    (task.call)();
     ptr::null_mut()
 }
 
-/// How many bytes of a painted stack a thread touches that makes the call.
-fn touched(mut call: &mut dyn FnMut()) -> usize {
+/// How many bytes of stack the call needs, by how deep it goes on a painted one.
+pub fn needed(call: &mut dyn FnMut()) -> usize {
     let mut stack = Guarded::new(ROOM);
     let lowest = stack.lend(Against::Front, &vec![PAINT; ROOM]).as_mut_ptr();
+    let mut task = Task { call, from: 0 };
     let mut attributes: Attributes = [0; 8];
     let mut thread = 0;
-    // SAFETY: the thread runs on memory of its own and is joined before that and the closure go.
+    // SAFETY: the thread runs on memory of its own and is joined before that memory and the task go.
     unsafe {
         assert_eq!(pthread_attr_init(&mut attributes), 0);
         assert_eq!(pthread_attr_setstack(&mut attributes, lowest.cast(), ROOM), 0);
-        let argument = ptr::from_mut(&mut call).cast();
-        assert_eq!(pthread_create(&mut thread, &attributes, run, argument), 0);
+        assert_eq!(pthread_create(&mut thread, &attributes, run, ptr::from_mut(&mut task).cast()), 0);
         assert_eq!(pthread_join(thread, ptr::null_mut()), 0);
     }
     let untouched = stack.left().iter().take_while(|byte| **byte == PAINT).count();
-    ROOM - untouched
-}
-
-/// How many bytes of stack the call needs, those of the thread's own start and end taken off.
-pub fn needed(call: &mut dyn FnMut()) -> usize {
-    touched(call) - touched(&mut || ())
+    task.from - (lowest as usize + untouched)
 }

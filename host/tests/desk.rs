@@ -23,17 +23,9 @@ fn figure(random: &mut Random, bound: u32) -> u32 {
 
 /// The figures of an opening that is often answered.
 fn opening(random: &mut Random) -> (u32, Vec<u32>, Vec<u32>) {
-    let count = if random.percent(90) {
-        random.between(2, 8)
-    } else {
-        random.between(0, 10)
-    } as usize;
+    let count = if random.percent(90) { random.between(2, 8) } else { random.between(0, 10) } as usize;
     let most = random.pick(&[1, 3, 10, 100, 4096, 4096]);
-    let limit = if random.percent(90) {
-        random.between(1, most)
-    } else {
-        figure(random, 4096)
-    };
+    let limit = if random.percent(90) { random.between(1, most) } else { figure(random, 4096) };
     let mut ceilings: Vec<u32> = (0..count).map(|_| random.between(0, limit.min(5_000))).collect();
     let share = |c: &u32| c.min(&(limit / 3)) / 2;
     let mut assured: Vec<u32> = ceilings.iter().map(share).collect();
@@ -96,16 +88,8 @@ impl Answers {
         let (limit, assured, ceilings) = opening(random);
         let before = *desk;
         // SAFETY: live slices and a live desk.
-        let answer = unsafe {
-            ffi::depot_desk_open(
-                desk,
-                limit,
-                assured.as_ptr(),
-                assured.len(),
-                ceilings.as_ptr(),
-                ceilings.len(),
-            )
-        };
+        let answer =
+            unsafe { ffi::depot_desk_open(desk, limit, assured.as_ptr(), assured.len(), ceilings.as_ptr(), ceilings.len()) };
         self.same(0, answer, desk, &before, reference::open(limit, &assured, &ceilings));
     }
 
@@ -144,10 +128,7 @@ fn calls_answer_what_document_01_says() {
     let mut random = Random::new(SEED);
     let mut answers = Answers::default();
     for _ in 0..DESKS {
-        let mut desk = Desk {
-            count: random.word() as u32,
-            ..Desk::default()
-        };
+        let mut desk = Desk { count: random.word() as u32, ..Desk::default() };
         answers.open(&mut random, &mut desk);
         while !reference::can_be_left(&desk) && random.percent(90) {
             answers.open(&mut random, &mut desk);
@@ -156,11 +137,8 @@ fn calls_answer_what_document_01_says() {
             desk = any_desk(&mut random, desk);
         }
         for _ in 1..CALLS {
-            let controller = if random.percent(95) {
-                random.between(0, desk.count.clamp(1, 8) - 1)
-            } else {
-                figure(&mut random, 8)
-            };
+            let controller =
+                if random.percent(95) { random.between(0, desk.count.clamp(1, 8) - 1) } else { figure(&mut random, 8) };
             match random.place(5) {
                 0 | 1 => answers.claim(&mut random, &mut desk, controller),
                 2 | 3 => answers.hand_back(&mut random, &mut desk, controller),
@@ -168,12 +146,7 @@ fn calls_answer_what_document_01_says() {
             }
         }
     }
-    let kinds = [
-        (0, [0, 11, 12, 13].as_slice()),
-        (1, &[0, 14, 15, 16, 17]),
-        (2, &[0, 14, 15, 18]),
-        (3, &[0, 14]),
-    ];
+    let kinds = [(0, [0, 11, 12, 13].as_slice()), (1, &[0, 14, 15, 16, 17]), (2, &[0, 14, 15, 18]), (3, &[0, 14])];
     for (kind, numbers) in kinds {
         let times: Vec<usize> = numbers.iter().map(|number| answers.by[kind][*number as usize]).collect();
         println!("kind {kind}: answers {numbers:?}, {times:?} times");
@@ -205,7 +178,7 @@ fn left_by_calls(opened: Desk) -> HashSet<[u32; 8]> {
 }
 
 /// All lists of this length of the numbers 0 to `most`.
-fn lists(length: usize, most: u32) -> Vec<Vec<u32>> {
+fn all_lists(length: usize, most: u32) -> Vec<Vec<u32>> {
     let longer = |list: Vec<u32>| (0..=most).map(move |x| [list.clone(), vec![x]].concat());
     (0..length).fold(vec![vec![]], |all, _| all.into_iter().flat_map(longer).collect())
 }
@@ -214,13 +187,13 @@ fn lists(length: usize, most: u32) -> Vec<Vec<u32>> {
 #[test]
 fn check_14_knows_the_desks_that_calls_leave() {
     for (count, limit) in [(2, 1), (2, 2), (2, 3), (2, 4), (3, 2), (3, 3)] {
-        for assured in lists(count, limit) {
-            for ceilings in lists(count, limit) {
+        for assured in all_lists(count, limit) {
+            for ceilings in all_lists(count, limit) {
                 let Ok(opened) = Desk::open(limit, &assured, &ceilings) else {
                     continue;
                 };
                 let left = left_by_calls(opened);
-                for held in lists(count, limit + 1) {
+                for held in all_lists(count, limit + 1) {
                     let mut desk = opened;
                     desk.held[..count].copy_from_slice(&held);
                     assert_eq!(reference::can_be_left(&desk), left.contains(&desk.held), "{desk:?}");

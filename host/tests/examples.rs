@@ -4,12 +4,7 @@ use depot_host::{card_length, plan, Desk, Refusal};
 
 /// A job of so many modules and minutes that waits for the jobs of a set.
 fn job(modules: u8, minutes: u16, earlier: u32) -> Job {
-    Job {
-        modules,
-        minutes,
-        earlier,
-        ..Job::default()
-    }
+    Job { modules, minutes, earlier, ..Job::default() }
 }
 
 /// The end and the order on the card of these jobs.
@@ -17,10 +12,7 @@ fn planned(modules: u16, jobs: Vec<Job>) -> Result<(u16, Vec<u8>), Refusal> {
     let n = jobs.len();
     let mut card = vec![0; card_length(n)];
     plan(&Sheet::of(modules, jobs).bytes(), &mut card, &mut [0; 4096])?;
-    Ok((
-        u16::from_le_bytes([card[13 * n + 4], card[13 * n + 5]]),
-        card[12 * n..13 * n].to_vec(),
-    ))
+    Ok((u16::from_le_bytes([card[13 * n + 4], card[13 * n + 5]]), card[12 * n..13 * n].to_vec()))
 }
 
 #[test]
@@ -32,11 +24,8 @@ fn e1() {
     ];
     let mut card = [0xEE; 48];
     assert_eq!(plan(&sheet, &mut card, &mut []), Ok(()));
-    let rows = [
-        [0, 0, 10, 0, 1, 0, 0, 0, 0, 0, 0, 0],
-        [10, 0, 30, 0, 3, 0, 0, 0, 0, 0, 0, 0],
-        [0, 0, 10, 0, 2, 0, 0, 0, 0, 0, 0, 0],
-    ];
+    let rows =
+        [[0, 0, 10, 0, 1, 0, 0, 0, 0, 0, 0, 0], [10, 0, 30, 0, 3, 0, 0, 0, 0, 0, 0, 0], [0, 0, 10, 0, 2, 0, 0, 0, 0, 0, 0, 0]];
     assert_eq!(card[..36], rows.concat());
     assert_eq!(card[36..], [0, 2, 1, 36, 0, 0, 0, 30, 0, 3, 0, 0xEE]);
 }
@@ -50,10 +39,7 @@ fn e2_to_e8() {
     assert_eq!(planned(1, vec![job(1, 1, 2), job(1, 1, 1)]), Err(Refusal::Circular));
     assert_eq!(planned(1, vec![job(1, 1, 1)]), Err(Refusal::Circular));
     assert_eq!(planned(1, vec![job(1, 1, 2), job(2, 1, 1)]), Err(Refusal::OverWide));
-    assert_eq!(
-        planned(2, vec![job(1, 10, 0), job(1, 10, 0), job(1, 20, 0)]),
-        Ok((20, vec![0, 2, 1]))
-    );
+    assert_eq!(planned(2, vec![job(1, 10, 0), job(1, 10, 0), job(1, 20, 0)]), Ok((20, vec![0, 2, 1])));
     let e8 = vec![job(1, 1, 0), job(1, 10, 0), job(2, 1, 1), job(1, 10, 4)];
     assert_eq!(planned(2, e8), Ok((12, vec![0, 2, 1, 3])));
 }
@@ -86,17 +72,8 @@ fn edges() {
 /// The longest sheet, of 448 bytes, plans; with a byte more it is too long.
 #[test]
 fn longest_sheet() {
-    let long_label = Job {
-        label_length: 12,
-        ..job(1, 1, 0)
-    };
-    let mut sheet = Sheet {
-        labels: vec![b'~'; 240],
-        jobs: vec![long_label; 20],
-        offset: 240,
-        count: 20,
-        modules: 64,
-    };
+    let long_label = Job { label_length: 12, ..job(1, 1, 0) };
+    let mut sheet = Sheet { labels: vec![b'~'; 240], jobs: vec![long_label; 20], offset: 240, count: 20, modules: 64 };
     let mut card = [0; card_length(20)];
     assert_eq!(sheet.bytes().len(), 448);
     assert_eq!(plan(&sheet.bytes(), &mut card, &mut []), Ok(()));

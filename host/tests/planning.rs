@@ -15,7 +15,7 @@ const WORK_LENGTHS: [usize; 5] = [0, 1, 47, 4096, 1 << 20];
 const LARGEST: usize = WORK_LENGTHS[4];
 
 /// Lent memory between guard pages, and noise to fill it with.
-struct Bench {
+struct Comparison {
     random: Random,
     noise: Vec<u8>,
     sheet: Guarded,
@@ -26,12 +26,12 @@ struct Bench {
     answers: [usize; 11],
 }
 
-impl Bench {
-    fn new() -> Bench {
+impl Comparison {
+    fn new() -> Comparison {
         let mut random = Random::new(SEED);
         let mut noise = vec![0; 2 * LARGEST];
         random.fill(&mut noise);
-        Bench {
+        Comparison {
             random,
             noise,
             sheet: Guarded::new(1024),
@@ -100,7 +100,7 @@ impl Bench {
     }
 }
 
-/// Puts part-plans into working memory, laid out as the search lays them out, that would end every other: one for each set of up
+/// Puts part-plans into working memory, laid out as the search lays them out, that would cut every other: one for each set of up
 /// to 7 jobs, all of them ended at minute 0.
 fn remember_all(work: &mut [u8]) {
     const ENTRY: usize = 46;
@@ -115,55 +115,47 @@ fn remember_all(work: &mut [u8]) {
 
 #[test]
 fn planning_is_what_document_01_says() {
-    let mut bench = Bench::new();
+    let mut comparison = Comparison::new();
     for _ in 0..GOOD {
-        let sheet = sheets::good(&mut bench.random);
-        let room = bench.enough(sheet.jobs.len());
-        bench.compare(&sheet.bytes(), room);
+        let sheet = sheets::good(&mut comparison.random);
+        let room = comparison.enough(sheet.jobs.len());
+        comparison.compare(&sheet.bytes(), room);
     }
     for check in 1..=9 {
         for _ in 0..DAMAGED {
-            let sheet = sheets::good(&mut bench.random);
-            let room = if bench.random.percent(90) {
-                bench.enough(MOST_JOBS)
-            } else {
-                bench.random.place(100)
-            };
+            let sheet = sheets::good(&mut comparison.random);
+            let room = if comparison.random.percent(90) { comparison.enough(MOST_JOBS) } else { comparison.random.place(100) };
             let mut checks = vec![check];
-            if bench.random.percent(40) {
-                checks.push(bench.random.between(1, 9));
+            if comparison.random.percent(40) {
+                checks.push(comparison.random.between(1, 9));
             }
-            let bytes = sheets::damaged(&mut bench.random, sheet, &checks);
-            bench.compare(&bytes, room);
+            let bytes = sheets::damaged(&mut comparison.random, sheet, &checks);
+            comparison.compare(&bytes, room);
         }
     }
     for _ in 0..DAMAGED {
-        let sheet = sheets::good(&mut bench.random);
-        let room = bench.random.place(card_length(sheet.jobs.len()));
-        bench.compare(&sheet.bytes(), room);
+        let sheet = sheets::good(&mut comparison.random);
+        let room = comparison.random.place(card_length(sheet.jobs.len()));
+        comparison.compare(&sheet.bytes(), room);
     }
     for _ in 0..SCRAMBLED {
-        let sheet = sheets::good(&mut bench.random);
-        let room = bench.enough(MOST_JOBS);
-        let bytes = sheets::scrambled(&mut bench.random, sheet);
-        bench.compare(&bytes, room);
+        let sheet = sheets::good(&mut comparison.random);
+        let room = comparison.enough(MOST_JOBS);
+        let bytes = sheets::scrambled(&mut comparison.random, sheet);
+        comparison.compare(&bytes, room);
     }
-    println!("{} sheets, answers 0 to 10: {:?}", bench.compared, bench.answers);
-    assert!(bench.answers[0] >= GOOD);
-    assert!(
-        bench.answers[1..].iter().all(|times| *times >= DAMAGED / 2),
-        "{:?}",
-        bench.answers
-    );
+    println!("{} sheets, answers 0 to 10: {:?}", comparison.compared, comparison.answers);
+    assert!(comparison.answers[0] >= GOOD);
+    assert!(comparison.answers[1..].iter().all(|times| *times >= DAMAGED / 2), "{:?}", comparison.answers);
 }
 
 #[test]
 fn bytes_of_no_sheet_are_refused() {
-    let mut bench = Bench::new();
+    let mut comparison = Comparison::new();
     for length in 0..=460 {
-        let bytes = bench.noise(length);
-        let room = bench.enough(MOST_JOBS);
-        bench.compare(&bytes, room);
+        let bytes = comparison.noise(length);
+        let room = comparison.enough(MOST_JOBS);
+        comparison.compare(&bytes, room);
     }
 }
 

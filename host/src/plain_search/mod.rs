@@ -62,10 +62,7 @@ impl Tables {
     }
 
     fn starts(&self, part: &Part) -> Starts {
-        let mut starts = Starts {
-            at: [NONE; MOST_JOBS],
-            least: NONE,
-        };
+        let mut starts = Starts { at: [NONE; MOST_JOBS], least: NONE };
         for j in (0..self.jobs).filter(|j| part.may_follow(self.earlier[*j], *j)) {
             let start = part.start_of(self.jobs, self.earlier[j], self.need[j]);
             starts.at[j] = start;
@@ -82,12 +79,7 @@ impl Tables {
     fn tails(&self) -> [u16; MOST_JOBS] {
         let mut tails = [0; MOST_JOBS];
         for _ in 0..self.jobs {
-            let behind = |j: usize| {
-                (0..self.jobs)
-                    .filter(move |i| self.earlier[*i] >> j & 1 == 1)
-                    .map(|i| tails[i])
-                    .max()
-            };
+            let behind = |j: usize| (0..self.jobs).filter(move |i| self.earlier[*i] >> j & 1 == 1).map(|i| tails[i]).max();
             tails = std::array::from_fn(|j| self.minutes[j] + behind(j).unwrap_or(0));
         }
         tails
@@ -154,20 +146,9 @@ pub fn run(tables: &Tables, memory: &mut [u8]) -> Option<Found> {
     memory.fill(0);
     let tails = tables.tails();
     let end = tables.limit(&tails)?;
-    let mut search = Search {
-        tables,
-        tails,
-        memory: Memory::new(memory, tables.jobs),
-        end,
-        order: [0; MOST_JOBS],
-        visited: 0,
-    };
+    let mut search = Search { tables, tails, memory: Memory::new(memory, tables.jobs), end, order: [0; MOST_JOBS], visited: 0 };
     search.visit(&Part::first(tables));
-    let found = Found {
-        end: search.end,
-        order: search.order[..tables.jobs].to_vec(),
-        visited: search.visited,
-    };
+    let found = Found { end: search.end, order: search.order[..tables.jobs].to_vec(), visited: search.visited };
     memory.fill(0);
     Some(found)
 }

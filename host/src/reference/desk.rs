@@ -35,11 +35,7 @@ pub fn open(limit: u32, assured: &[u32], ceilings: &[u32]) -> Result<Desk, u32> 
     if assured.iter().map(|a| u64::from(*a)).sum::<u64>() > u64::from(limit) {
         return Err(13);
     }
-    let mut desk = Desk {
-        count: assured.len() as u32,
-        limit,
-        ..Desk::default()
-    };
+    let mut desk = Desk { count: assured.len() as u32, limit, ..Desk::default() };
     desk.assured[..assured.len()].copy_from_slice(assured);
     desk.ceiling[..ceilings.len()].copy_from_slice(ceilings);
     Ok(desk)
@@ -59,8 +55,7 @@ pub fn can_be_left(desk: &Desk) -> bool {
     }
     let all = places(desk);
     let (controllers, past) = all.split_at(count);
-    past.iter()
-        .all(|place| place.held == 0 && place.assured == 0 && place.ceiling == 0)
+    past.iter().all(|place| place.held == 0 && place.assured == 0 && place.ceiling == 0)
         && controllers.iter().all(|place| place.held <= place.ceiling)
         && controllers.iter().map(Place::reserved).sum::<u64>() <= u64::from(desk.limit)
 }

@@ -60,11 +60,7 @@ fn try_every_order(sheet: &Sheet, placed: &mut Vec<Slot>, best: &mut Option<Fini
         let end = placed.iter().map(|slot| slot.end).max().unwrap_or(0);
         let order: Vec<usize> = placed.iter().map(|slot| slot.job).collect();
         if best.as_ref().is_none_or(|found| (end, &order) < (found.end, &found.order)) {
-            *best = Some(Finished {
-                end,
-                order,
-                slots: placed.clone(),
-            });
+            *best = Some(Finished { end, order, slots: placed.clone() });
         }
         return;
     }
@@ -92,12 +88,7 @@ fn next_slot(sheet: &Sheet, placed: &[Slot], job: usize) -> Slot {
         }
         let modules: Vec<usize> = (0..sheet.modules).filter(|m| free[*m]).take(wanted.modules).collect();
         if modules.len() == wanted.modules {
-            return Slot {
-                job,
-                start,
-                end: start + wanted.minutes,
-                modules,
-            };
+            return Slot { job, start, end: start + wanted.minutes, modules };
         }
         start += 1;
     }

@@ -53,10 +53,7 @@ pub fn read(bytes: &[u8]) -> Result<Sheet, u32> {
         return Err(7);
     }
     let jobs = records.iter().map(|record| job(record)).collect();
-    Ok(Sheet {
-        jobs,
-        modules: modules as usize,
-    })
+    Ok(Sheet { jobs, modules: modules as usize })
 }
 
 /// Whether a field of the record is outside its range, or it waits for a job that there is not.

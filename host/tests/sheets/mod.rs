@@ -1,6 +1,6 @@
 //! Random job sheets, good ones and damaged ones.
 use depot_host::random::Random;
-use depot_host::sheet::{Job, Sheet};
+use depot_host::sheet::{mark_earlier, Job, Sheet};
 
 /// A sheet that reads, of up to 7 jobs: no job is too wide and none waits for itself.
 pub fn good(random: &mut Random) -> Sheet {
@@ -18,30 +18,11 @@ pub fn good(random: &mut Random) -> Sheet {
             departure: random.between(0, 2880) as u16,
         })
         .collect();
-    mark(random, &mut jobs);
+    let percent = random.pick(&[0, 0, 10, 30, 60, 100]);
+    mark_earlier(random, &mut jobs, percent);
     let length = jobs.iter().map(|job| usize::from(job.label_length)).sum();
     let labels: Vec<u8> = (0..length).map(|_| random.between(33, 126) as u8).collect();
-    Sheet {
-        offset: length as u32,
-        count: n as u16,
-        modules: modules as u16,
-        labels,
-        jobs,
-    }
-}
-
-/// Marks earlier jobs along a random order.
-fn mark(random: &mut Random, jobs: &mut [Job]) {
-    let percent = random.pick(&[0, 0, 10, 30, 60, 100]);
-    let mut rank: Vec<usize> = (0..jobs.len()).collect();
-    random.shuffle(&mut rank);
-    for j in 0..jobs.len() {
-        for i in 0..jobs.len() {
-            if rank[i] < rank[j] && random.percent(percent) {
-                jobs[j].earlier |= 1 << i;
-            }
-        }
-    }
+    Sheet { offset: length as u32, count: n as u16, modules: modules as u16, labels, jobs }
 }
 
 /// The sheet's bytes with a fault for each of the checks, 1 to 9; a sheet without jobs cannot have all of them.
@@ -85,11 +66,7 @@ pub fn scrambled(random: &mut Random, sheet: Sheet) -> Vec<u8> {
     let mut bytes = sheet.bytes();
     for _ in 0..random.between(1, 3) {
         let place = random.place(bytes.len());
-        bytes[place] = if random.percent(50) {
-            bytes[place] ^ (1 << random.place(8))
-        } else {
-            random.word() as u8
-        };
+        bytes[place] = if random.percent(50) { bytes[place] ^ (1 << random.place(8)) } else { random.word() as u8 };
     }
     bytes
 }

@@ -64,29 +64,17 @@ pub fn call(side: Side, list: &List, memory: usize, cutoff: Duration) -> Option<
     child.wait().expect("the child ends");
     reader.join().expect("the reader ends").ok();
     let said = said.ok()?;
-    let (seconds, visited) = said
-        .trim()
-        .split_once(' ')
-        .unwrap_or_else(|| panic!("{}: the child failed", list.name));
-    Some(Took {
-        seconds: seconds.parse().expect("seconds"),
-        visited: visited.parse().expect("a count"),
-    })
+    let (seconds, visited) = said.trim().split_once(' ').unwrap_or_else(|| panic!("{}: the child failed", list.name));
+    Some(Took { seconds: seconds.parse().expect("seconds"), visited: visited.parse().expect("a count") })
 }
 
 /// The child: makes the call and writes how long it took and how many part-plans it visited.
 pub fn answer(words: &[String]) {
-    let [side, memory] = words else {
-        panic!("{OPTION} takes a side and a length")
-    };
+    let [side, memory] = words else { panic!("{OPTION} takes a side and a length") };
     let mut work = vec![0xA5; memory.parse().expect("a length")];
     let text = io::read_to_string(io::stdin()).expect("a list");
     let list = lists::read(&text).expect("a list").remove(0);
-    let took = if side == "plain" {
-        plain(&list, &mut work)
-    } else {
-        library(&list, &mut work)
-    };
+    let took = if side == "plain" { plain(&list, &mut work) } else { library(&list, &mut work) };
     println!("{:.9} {}", took.seconds, took.visited);
 }
 

@@ -13,10 +13,7 @@ pub fn measure() {
     println!("  claim, hand-back {claims:>7.1}");
     println!("  look             {:>7.1}", nanoseconds(|i| desk.look(i % 8).is_ok()));
     let mut refused = desk;
-    println!(
-        "  claim refused    {:>7.1}",
-        nanoseconds(|i| refused.claim(i % 8, 4000).is_ok())
-    );
+    println!("  claim refused    {:>7.1}", nanoseconds(|i| refused.claim(i % 8, 4000).is_ok()));
     let opening = nanoseconds(|i| Desk::open(4096, &[i % 500; 8], &[4096; 8]).is_ok());
     println!("  opening          {opening:>7.1}");
 }

@@ -60,12 +60,7 @@ impl Options {
             cutoff: Duration::from_secs(1),
             each: false,
         };
-        let mut asked = Asked {
-            sizes: vec![10, 12],
-            family: String::new(),
-            seed: 1,
-            file: None,
-        };
+        let mut asked = Asked { sizes: vec![10, 12], family: String::new(), seed: 1, file: None };
         let mut words = words.iter();
         while let Some(word) = words.next() {
             let mut value = || words.next().ok_or(format!("{word} needs a value"));
@@ -104,29 +99,20 @@ impl Asked {
             let name = file.rsplit('/').next().unwrap_or(file).to_string();
             return Ok(vec![Group { name, lists }]);
         }
-        let families: Vec<_> = families::all()
-            .into_iter()
-            .filter(|family| has_family(family.name()))
-            .collect();
+        let families: Vec<_> = families::all().into_iter().filter(|family| has_family(family.name())).collect();
         if families.is_empty() {
             return Err(format!("no family's name has '{}'", self.family));
         }
         let group = |n: &usize| {
             let lists = families.iter().map(|family| family.list(self.seed, *n)).collect();
-            Group {
-                name: format!("n = {n}"),
-                lists,
-            }
+            Group { name: format!("n = {n}"), lists }
         };
         Ok(self.sizes.iter().map(group).collect())
     }
 }
 
 fn numbers(words: &str, one: fn(&str) -> Option<usize>) -> Result<Vec<usize>, String> {
-    words
-        .split(',')
-        .map(|word| one(word).ok_or(format!("'{word}' is out of place")))
-        .collect()
+    words.split(',').map(|word| one(word).ok_or(format!("'{word}' is out of place"))).collect()
 }
 
 fn size(word: &str) -> Option<usize> {
@@ -144,7 +130,5 @@ fn bytes(word: &str) -> Option<usize> {
 
 fn seconds(word: &str) -> Option<Duration> {
     let seconds: f64 = word.parse().ok()?;
-    Duration::try_from_secs_f64(seconds)
-        .ok()
-        .filter(|duration| !duration.is_zero())
+    Duration::try_from_secs_f64(seconds).ok().filter(|duration| !duration.is_zero())
 }

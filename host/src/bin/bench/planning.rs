@@ -39,15 +39,9 @@ fn solve(list: &List, memory: usize, cutoff: Duration) -> Option<Solved> {
 
 fn print_one(list: &List, run: &Option<Solved>) {
     match run {
-        Some(Solved {
-            library,
-            plain: Some(plain),
-        }) => {
+        Some(Solved { library, plain: Some(plain) }) => {
             let ratio = library.seconds / plain.seconds;
-            println!(
-                "  {:28} {:>10.6} {:>14} {ratio:>7.2}",
-                list.name, library.seconds, plain.visited
-            );
+            println!("  {:28} {:>10.6} {:>14} {ratio:>7.2}", list.name, library.seconds, plain.visited);
         }
         Some(Solved { library, plain: None }) => println!("  {:28} {:>10.6}", list.name, library.seconds),
         None => println!("  {:28} {:>10}", list.name, "-"),
@@ -61,11 +55,7 @@ fn print_line(group: &Group, memory: usize, runs: &[Option<Solved>], cutoff: Dur
     let beyond = format!("> {}", cutoff.as_secs_f64());
     let time = |place: usize| times.get(place).map_or(beyond.clone(), |seconds| format!("{seconds:.6}"));
     // the part-plans of the plain search are the library's: both make the same cuts in the same order
-    let both: Vec<(Took, Took)> = runs
-        .iter()
-        .flatten()
-        .filter_map(|run| Some((run.library, run.plain?)))
-        .collect();
+    let both: Vec<(Took, Took)> = runs.iter().flatten().filter_map(|run| Some((run.library, run.plain?))).collect();
     let visited: u64 = both.iter().map(|(_, plain)| plain.visited).sum();
     let library: f64 = both.iter().map(|(library, _)| library.seconds).sum();
     let plain: f64 = both.iter().map(|(_, plain)| plain.seconds).sum();

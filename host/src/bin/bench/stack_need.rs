@@ -3,26 +3,11 @@ use depot_host::sheet::{Job, Sheet};
 use depot_host::{card_length, plan, stack, MOST_JOBS};
 
 pub fn measure() {
-    let one_after_another = |j: usize| Job {
-        modules: 1,
-        minutes: 1440,
-        earlier: (1 << j) >> 1,
-        ..Job::default()
-    };
-    let at_once = |_| Job {
-        modules: 1,
-        minutes: 10,
-        ..Job::default()
-    };
+    let one_after_another = |j: usize| Job { modules: 1, minutes: 1440, earlier: (1 << j) >> 1, ..Job::default() };
+    let at_once = |_| Job { modules: 1, minutes: 10, ..Job::default() };
     println!("stack of planning at {MOST_JOBS} jobs");
-    println!(
-        "  one after another {:>8} bytes",
-        needed((0..MOST_JOBS).map(one_after_another).collect())
-    );
-    println!(
-        "  all at once       {:>8} bytes",
-        needed((0..MOST_JOBS).map(at_once).collect())
-    );
+    println!("  one after another {:>8} bytes", needed((0..MOST_JOBS).map(one_after_another).collect()));
+    println!("  all at once       {:>8} bytes", needed((0..MOST_JOBS).map(at_once).collect()));
 }
 
 fn needed(jobs: Vec<Job>) -> usize {
