@@ -8,7 +8,7 @@ use Rattle.counting.proofs.Tests.{clash}
 use Rattle.counting.proofs.Sums.{sum-zero}
 use Rattle.schedule.specs.Plan.{Sheet, Plan, Valid}
 use Rattle.schedule.specs.ListPlan.{noJobs, placing}
-use Rattle.schedule.proofs.Earliest.{Lasting}
+use Rattle.schedule.proofs.Timed.{Lasting}
 use Rattle.desk.specs.declared.Desk.{Desk}
 use Rattle.desk.specs.Desk.{holding, assuredShare}
 use Rattle.desk.specs.Reachable.{Reachable}

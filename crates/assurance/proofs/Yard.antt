@@ -13,7 +13,7 @@ use Rattle.schedule.specs.Plan.{Sheet, Plan, Valid}
 use Rattle.schedule.specs.ListPlan.{Order, ready, firstMinute, startOf, placeAll, listPlan}
 use Rattle.schedule.specs.Rows.{job, sheet}
 use Rattle.schedule.proofs.Sound.{Narrow, list-plan-valid}
-use Rattle.schedule.proofs.Earliest.{Lasting}
+use Rattle.schedule.proofs.Timed.{Lasting}
 use Rattle.desk.specs.declared.Desk.{Desk}
 use Rattle.desk.specs.Desk.{newDesk}
 use Rattle.desk.specs.Checks.{wrongLengths, wrongFigures, sharesExceed, deskOk, notOfDesk}

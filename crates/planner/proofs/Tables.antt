@@ -6,7 +6,7 @@ use Prim.Native.Nat.{ℕ, _≤_, _<_}
 use lib.ListN.{List·getD-map}
 use Rattle.bits.specs.Bits.{bit}
 use Rattle.schedule.specs.Plan.{overWide}
-use Rattle.schedule.proofs.Earliest.{Lasting}
+use Rattle.schedule.proofs.Timed.{Lasting}
 use Rattle.schedule.proofs.Existence.{narrow-says}
 use Rattle.tables.specs.Tables.{sheetOf, Fit}
 use Rattle.sheet_format.specs.declared.Job.{Job}

@@ -17,7 +17,8 @@ use Rattle.schedule.specs.Plan.{Sheet, Plan, Valid, overWide, MustPreced
 use Rattle.schedule.specs.ListPlan.{Order, noJobs, placing, ready, Follows, listPlan}
 use Rattle.schedule.proofs.Starts.{ready-says, ready-when}
 use Rattle.schedule.proofs.Sound.{Narrow, list-plan-valid}
-use Rattle.schedule.proofs.Earliest.{Lasting, valid-narrow}
+use Rattle.schedule.proofs.Timed.{Lasting}
+use Rattle.schedule.proofs.Earliest.{valid-narrow}
 
 -- ---- no job is wider than the cabinet
 

@@ -3,6 +3,7 @@ pub mod Starts
 pub mod Sound
 pub mod Occupied
 pub mod Dominance
+pub mod Timed
 pub mod Earliest
 pub mod Existence
 pub mod Dictionary
@@ -14,6 +15,9 @@ pub mod Prefixes
 pub mod Places
 pub mod Swept
 pub mod Cuts
+pub mod Settled
+pub mod SameMinute
+pub mod Idle
 pub mod Jumps
 pub mod Horizon
 pub mod Theorems

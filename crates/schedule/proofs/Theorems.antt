@@ -16,7 +16,8 @@ use Rattle.schedule.specs.ListPlan.{PartPlan, free, lowest, startOf, pla
 use Rattle.schedule.specs.TieRule.{endOf, Best, bestOrder, wide, circular, planned, planAnswer, answerOf}
 use Rattle.schedule.proofs.Starts.{MayStart, start-le, start-may}
 use Rattle.schedule.proofs.Sound.{list-plan-valid}
-use Rattle.schedule.proofs.Earliest.{Lasting, matched-end}
+use Rattle.schedule.proofs.Timed.{Lasting}
+use Rattle.schedule.proofs.Earliest.{matched-end}
 use Rattle.schedule.proofs.Existence.{narrow-says, order-or-circular, order-not-circular, has-plan}
 use Rattle.schedule.proofs.Orders.{best-found, best-order}
 
