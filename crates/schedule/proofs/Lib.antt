@@ -18,6 +18,8 @@ pub mod Cuts
 pub mod Settled
 pub mod SameMinute
 pub mod Idle
+pub mod Exchange
+pub mod Alike
 pub mod Jumps
 pub mod Horizon
 pub mod Theorems
