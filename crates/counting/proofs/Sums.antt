@@ -134,10 +134,19 @@ pub sum-two-le : (n : ℕ) (f g : ℕ → ℕ) (i j : ℕ) → i < n → j < n �
 sum-two-le n f g i j l m d two h =
     let each = sum-le n (λ k. f k + (only (eqb k i) (g k) + only (eqb k j) (g k))) (λ k. g k + (only (eqb k i) (f k) + only (eqb k j) (f k)))
     (λ k x. one k x (eqb k i) (eqb k j) refl refl) in
-    omega (arith, each, two, sum-add n f (λ k. only (eqb k i) (g k) + only (eqb k j) (g k)),
-      sum-add n (λ k. only (eqb k i) (g k)) (λ k. only (eqb k j) (g k)), sum-single n g i l, sum-single n g j m,
+    omega (
+      arith,
+      each,
+      two,
+      sum-add n f (λ k. only (eqb k i) (g k) + only (eqb k j) (g k)),
+      sum-add n (λ k. only (eqb k i) (g k)) (λ k. only (eqb k j) (g k)),
+      sum-single n g i l,
+      sum-single n g j m,
       sum-add n g (λ k. only (eqb k i) (f k) + only (eqb k j) (f k)),
-      sum-add n (λ k. only (eqb k i) (f k)) (λ k. only (eqb k j) (f k)), sum-single n f i l, sum-single n f j m)
+      sum-add n (λ k. only (eqb k i) (f k)) (λ k. only (eqb k j) (f k)),
+      sum-single n f i l,
+      sum-single n f j m,
+    )
   where
     one : (k : ℕ) → k < n → (a b : Bool) → eqb k i ≡ a → eqb k j ≡ b
         → f k + (only (eqb k i) (g k) + only (eqb k j) (g k)) ≤ g k + (only (eqb k i) (f k) + only (eqb k j) (f k))

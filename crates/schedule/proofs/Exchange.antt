@@ -31,7 +31,7 @@ module _ (Q : Plan) (i a j b : ℕ) (d : i ≢ j) where
 
   pub exchange-room : (S : Sheet) → Timed S Q → i < S .jobs → j < S .jobs → S .need i ≡ S .need j
       → ((t : ℕ) → only (runs S (exchanged Q i a j b) t i) (S .need i) + only (runs S (exchanged Q i a j b) t j) (S .need i)
-        ≤ only (runs S Q t i) (S .need i) + only (runs S Q t j) (S .need i))
+      ≤ only (runs S Q t i) (S .need i) + only (runs S Q t j) (S .need i))
       → (t : ℕ) → load S (exchanged Q i a j b) t ≤ S .modules
   exchange-room S q l m same two t =
       le-trans

@@ -15,11 +15,13 @@ pub mod Prefixes
 pub mod Places
 pub mod Swept
 pub mod Cuts
+pub mod Branch
 pub mod Settled
 pub mod SameMinute
 pub mod Idle
 pub mod Exchange
 pub mod Alike
+pub mod Swaps
 pub mod Jumps
 pub mod Horizon
 pub mod Theorems

@@ -8,7 +8,7 @@ use native.Mathlib.Omega.{arith}
 use lib.Dec.{eqb}
 use borrow.Author.Tests.{eqb-true}
 use Rattle.counting.specs.Counting.{count}
-use Rattle.counting.proofs.Tests.{clash, or-right}
+use Rattle.counting.proofs.Tests.{or-right}
 use Rattle.counting.proofs.Ranges.{le-largest, largest-le}
 use Rattle.counting.proofs.Counts.{count-le}
 use Rattle.schedule.specs.Plan.{Sheet, Plan, finish, planEnd}
@@ -20,6 +20,7 @@ use Rattle.schedule.proofs.Timed.{Lasting, Timed, KeepsUp, timed-narrow
 use Rattle.schedule.proofs.Earliest.{valid-timed}
 use Rattle.schedule.proofs.Along.{place-all-append, place-all-keeps, next-start-kept}
 use Rattle.schedule.proofs.Prefixes.{order-split, order-join, end-split, part-count, part-more, follows-more}
+use Rattle.schedule.proofs.Branch.{next-first}
 use Rattle.schedule.proofs.Swept.{CannotBeat}
 
 -- A plan that has the jobs of v no earlier than v's part-plan, and the others behind them, ends no earlier than v's completions.
@@ -80,34 +81,6 @@ module _ (S : Sheet) (w : Lasting S) (n : Narrow S) (u : List ℕ) (f : Follows 
 
 -- ---- completions
 
--- a job that is placed on the way starts no earlier than the last start before it
-placed-later : (S : Sheet) → Narrow S → (P : PartPlan) (o : List ℕ) → Follows S (P .placed) o
-    → (k : ℕ) → P .placed k ≡ false → placeAll S P o .placed k ≡ true → P .last ≤ placeAll S P o .plan .start k
-unfolding placeAll
-placed-later S n P [] f k a b = clash (P .placed k) b a
-placed-later S n P (j ∷ o) f k a b = go (eqb k j) refl (λ z. placed-later S n (place S P j (startOf S P j)) o (f .1) k z b)
-  where
-    Q : PartPlan
-    Q = place S P j (startOf S P j)
-
-    from : P .last ≤ startOf S P j
-    from = start-may S P j (n j (ready-says S (P .placed) j (f .0) .job)) .later
-
-    go : (c : Bool) → eqb k j ≡ c → (Q .placed k ≡ false → Q .last ≤ placeAll S Q o .plan .start k)
-        → P .last ≤ placeAll S Q o .plan .start k
-    go true e h = rw (eqb-true k j e) (omega (arith, from, next-start-kept S P j o f))
-    go false e h = omega (arith, from, h (rw e a))
-
--- the next job starts before the others that are not placed
-next-first : (S : Sheet) → Narrow S → (P : PartPlan) (j : ℕ) (o : List ℕ) → Completes S P (j ∷ o)
-    → (k : ℕ) → k < S .jobs → P .placed k ≡ false → startOf S P j ≤ placeAll S P (j ∷ o) .plan .start k
-unfolding placeAll
-next-first S n P j o c k l a = go (eqb k j) refl
-  where
-    go : (b : Bool) → eqb k j ≡ b → startOf S P j ≤ placeAll S P (j ∷ o) .plan .start k
-    go true e = rw (eqb-true k j e) (omega (arith, next-start-kept S P j o (c .0)))
-    go false e = placed-later S n (place S P j (startOf S P j)) o (c .0 .1) k (rw e a) (completes-all S P (j ∷ o) c k l)
-
 -- Q is the list plan of an order that begins with v and then j
 pub record Completion (S : Sheet) (v : List ℕ) (j : ℕ) (Q : Plan) : Type 0 where
   pub timed : Timed S Q
@@ -131,6 +104,6 @@ by-plans S n v j e h o d (p, q) =
       timed = subst (λ (X : Plan). Timed S X) same (valid-timed S _ (list-plan-valid S n (v ++ (j ∷ p)) ord));
       kept = λ i l z. place-all-keeps S A (j ∷ p) (c .0) i z .start;
       next = k;
-      first = λ i l z. subst (λ (t : ℕ). t ≤ Q .start i) (sym k) (next-first S n A j p c i l z);
+      first = λ i l z. subst (λ (t : ℕ). t ≤ Q .start i) (sym k) (next-first S n A j p (c .0) i z (completes-all S A (j ∷ p) c i l));
     } in
     omega (arith, ap (endOf S) g, end-split S v (j ∷ p), h Q is)
