@@ -22,6 +22,7 @@ pub mod Idle
 pub mod Exchange
 pub mod Alike
 pub mod Swaps
+pub mod Weights
 pub mod Jumps
 pub mod Horizon
 pub mod Theorems
