@@ -1,6 +1,6 @@
 -- Two next jobs of equal modules and minutes: where every job that waits for j waits for i, and i can start as early, i may as well come
 -- first.
-use mathlib.Core.Path.{_≡_, refl, sym, ap, _∙_}
+use mathlib.Core.Path.{_≡_, refl, _∙_}
 use mathlib.Core.Logic.{_≢_}
 use mathlib.Core.Bool.{Bool, true, false}
 use mathlib.Core.List.{List, [], _∷_, _++_}

@@ -23,6 +23,7 @@ pub mod Exchange
 pub mod Alike
 pub mod Swaps
 pub mod Weights
+pub mod Modulewise
 pub mod Jumps
 pub mod Horizon
 pub mod Theorems

@@ -5,9 +5,8 @@ use mathlib.Core.Logic.{_⊎_, inl, inr}
 use mathlib.Core.Bool.{Bool, true, false, not, _&&_}
 use Prim.Native.Nat.{ℕ, _+_, _-_, _*_, _≤_, _<_, zero-le, min}
 use native.Mathlib.Omega.{arith}
-use native.Mathlib.Nat.{le-refl, le-trans}
 use lib.Dec.{leb, ltb}
-use borrow.Author.Tests.{ltb-true, leb-true, lt-ltb, le-leb, lt-leb}
+use borrow.Author.Tests.{ltb-true, lt-ltb, le-leb, lt-leb}
 use Rattle.counting.specs.Counting.{only, sum}
 use Rattle.counting.proofs.Tests.{true-or-false, less-or-not, and-left, and-right, and-both, only-mono}
 use Rattle.counting.proofs.Sums.{sum-le, sum-same, sum-add, sum-swap, sum-zero}
@@ -16,7 +15,7 @@ use Rattle.counting.proofs.Ranges.{le-largest}
 use Rattle.schedule.specs.Plan.{Sheet, Plan, finish, planEnd}
 use Rattle.schedule.specs.ListPlan.{PartPlan, occupies}
 use Rattle.schedule.proofs.Occupied.{occupied}
-use Rattle.schedule.proofs.Timed.{runs, load, Timed}
+use Rattle.schedule.proofs.Timed.{runs, Timed}
 
 -- no set of jobs that fits on x modules weighs more than K x
 abbrev pub Holds : Sheet → (ℕ → ℕ) → (ℕ → ℕ) → Type 0
@@ -57,14 +56,14 @@ module _ (S : Sheet) (P : PartPlan) (l : ℕ) (Q : Plan) (h : GoesOn S P l Q) (T
           → only (left t k) (S .need k) + only (occupies S P t k) (S .need k) ≤ only (runs S Q t k) (S .need k)
       one k x (inl p) =
           let on = only-mono (ltb t (finish S (P .plan) k + S .rest)) (runs S Q t k) (S .need k) (λ b.
-            let z = ltb-true t (finish S (P .plan) k + S .rest) b in
-            let s = h .kept k x p in
-            and-both _ _ (le-leb (Q .start k) t (omega (arith, h .early k x p))) (lt-ltb t (finish S Q k + S .rest) (omega arith))) in
+          let z = ltb-true t (finish S (P .plan) k + S .rest) b in
+          let s = h .kept k x p in
+          and-both _ _ (le-leb (Q .start k) t (omega (arith, h .early k x p))) (lt-ltb t (finish S Q k + S .rest) (omega arith))) in
           rw p (omega (arith, on))
       one k x (inr p) =
           let on = only-mono (inside (Q .start k) (finish S Q k) t) (runs S Q t k) (S .need k) (λ b.
-            let z = ltb-true t (finish S Q k) (and-right (leb (Q .start k) t) _ b) in
-            and-both _ _ (and-left (leb (Q .start k) t) _ b) (lt-ltb t (finish S Q k + S .rest) (omega arith))) in
+          let z = ltb-true t (finish S Q k) (and-right (leb (Q .start k) t) _ b) in
+          and-both _ _ (and-left (leb (Q .start k) t) _ b) (lt-ltb t (finish S Q k + S .rest) (omega arith))) in
           rw p (omega (arith, on))
 
   -- The jobs that are left weigh no more than the free modules hold.
