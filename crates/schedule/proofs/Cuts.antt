@@ -41,7 +41,7 @@ module _ (S : Sheet) (n : Narrow S) (w : List ℕ) (f : Follows S noJobs w) wher
   P = partOf S w
 
   -- by the ends of all completions
-  by-completions : (e : ℕ) → ((p : List ℕ) → Completes S P p → e ≤ planEnd S (placeAll S P p .plan)) → CannotBeat S e w
+  pub by-completions : (e : ℕ) → ((p : List ℕ) → Completes S P p → e ≤ planEnd S (placeAll S P p .plan)) → CannotBeat S e w
   unfolding CannotBeat
   by-completions e h o d (p, q) =
       let c = order-split S w p (subst (λ (x : List ℕ). Order S x) q d) .1 in

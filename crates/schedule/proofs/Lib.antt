@@ -24,6 +24,7 @@ pub mod Alike
 pub mod Swaps
 pub mod Weights
 pub mod Modulewise
+pub mod Bounds
 pub mod Jumps
 pub mod Horizon
 pub mod Theorems

@@ -16,7 +16,7 @@ use Rattle.schedule.specs.Plan.{Sheet, Plan, finish, planEnd}
 use Rattle.schedule.specs.ListPlan.{PartPlan, noJobs, ready, Follows, startOf, partOf}
 use Rattle.schedule.proofs.Starts.{Ready, ready-says, start-may}
 use Rattle.schedule.proofs.Sound.{Narrow}
-use Rattle.schedule.proofs.Timed.{Lasting, runs, Timed}
+use Rattle.schedule.proofs.Timed.{Lasting, runs, runs-on, runs-not-yet, runs-no-more, Timed}
 use Rattle.schedule.proofs.Swept.{CannotBeat}
 use Rattle.schedule.proofs.Branch.{branch-follows, branch-kept, branch-placed, branch-start, branch-behind}
 use Rattle.schedule.proofs.Settled.{StartsNext, settled-next, Completion, by-plans}
@@ -25,47 +25,34 @@ use Rattle.schedule.proofs.Exchange.{exchanged, start-one, start-two, s
 -- one job behind the other on the same modules: at each minute, one of them runs whichever comes first
 module _ (S : Sheet) (Q R : Plan) (i j t : ℕ) (qi : Q .start i ≡ t) (qj : Q .start j ≡ t + S .minutes i + S .rest)
     (rj : R .start j ≡ t) (ri : R .start i ≡ t + S .minutes j + S .rest) where
-  on : (P : Plan) (k u : ℕ) → P .start k ≤ u → u < finish S P k + S .rest → runs S P u k ≡ true
-  on P k u a b = and-both _ _ (le-leb (P .start k) u a) (lt-ltb u (finish S P k + S .rest) b)
-
-  soon : (P : Plan) (k u : ℕ) → u < P .start k → runs S P u k ≡ false
-  soon P k u a = rw (lt-leb (P .start k) u a) refl
-
-  over : (P : Plan) (k u : ℕ) → finish S P k + S .rest ≤ u → runs S P u k ≡ false
-  over P k u a = rw (le-ltb u (finish S P k + S .rest) a) (and-no (leb (P .start k) u))
-    where
-      and-no : (b : Bool) → (b && false) ≡ false
-      and-no true = refl
-      and-no false = refl
-
   -- in R at most one runs, and then one runs in Q
   pub turned-round : (x u : ℕ) → only (runs S R u i) x + only (runs S R u j) x ≤ only (runs S Q u i) x + only (runs S Q u j) x
   turned-round x u = before (less-or-not u t)
     where
       in-q : t ≤ u → u < t + S .minutes i + S .rest + S .minutes j + S .rest
           → (u < t + S .minutes i + S .rest) ⊎ (t + S .minutes i + S .rest ≤ u) → x ≤ only (runs S Q u i) x + only (runs S Q u j) x
-      in-q a b (inl y) = let e = on Q i u (omega (arith, qi)) (omega (arith, qi)) in rw e (omega arith)
-      in-q a b (inr y) = let e = on Q j u (omega (arith, qj)) (omega (arith, qj)) in rw e (omega arith)
+      in-q a b (inl y) = let e = runs-on S Q i u (omega (arith, qi)) (omega (arith, qi)) in rw e (omega arith)
+      in-q a b (inr y) = let e = runs-on S Q j u (omega (arith, qj)) (omega (arith, qj)) in rw e (omega arith)
 
       in-r : t ≤ u → u < t + S .minutes i + S .rest + S .minutes j + S .rest
           → (u < t + S .minutes j + S .rest) ⊎ (t + S .minutes j + S .rest ≤ u) → only (runs S R u i) x + only (runs S R u j) x ≤ x
-      in-r a b (inl y) = let e = soon R i u (omega (arith, ri)) in rw (e, on R j u (omega (arith, rj)) (omega (arith, rj))) (omega arith)
-      in-r a b (inr y) = let e = over R j u (omega (arith, rj)) in rw (e, on R i u (omega (arith, ri)) (omega (arith, ri))) (omega arith)
+      in-r a b (inl y) = let e = runs-not-yet S R i u (omega (arith, ri)) in rw (e, runs-on S R j u (omega (arith, rj)) (omega (arith, rj))) (omega arith)
+      in-r a b (inr y) = let e = runs-no-more S R j u (omega (arith, rj)) in rw (e, runs-on S R i u (omega (arith, ri)) (omega (arith, ri))) (omega arith)
 
       within : t ≤ u → (u < t + S .minutes i + S .rest + S .minutes j + S .rest) ⊎ (t + S .minutes i + S .rest + S .minutes j + S .rest ≤ u)
           → only (runs S R u i) x + only (runs S R u j) x ≤ only (runs S Q u i) x + only (runs S Q u j) x
       within a (inl b) =
           le-trans (in-r a b (less-or-not u (t + S .minutes j + S .rest))) (in-q a b (less-or-not u (t + S .minutes i + S .rest)))
-      within a (inr b) = rw (over R i u (omega (arith, ri)), over R j u (omega (arith, rj))) zero-le
+      within a (inr b) = rw (runs-no-more S R i u (omega (arith, ri)), runs-no-more S R j u (omega (arith, rj))) zero-le
 
       before : (u < t) ⊎ (t ≤ u) → only (runs S R u i) x + only (runs S R u j) x ≤ only (runs S Q u i) x + only (runs S Q u j) x
-      before (inl a) = rw (soon R i u (omega (arith, ri)), soon R j u (omega (arith, rj))) zero-le
+      before (inl a) = rw (runs-not-yet S R i u (omega (arith, ri)), runs-not-yet S R j u (omega (arith, rj))) zero-le
       before (inr a) = within a (less-or-not u (t + S .minutes i + S .rest + S .minutes j + S .rest))
 
 module _ (S : Sheet) (w : Lasting S) (n : Narrow S) (u : List ℕ) (i : ℕ) (q : List ℕ) (f : Follows S noJobs (u ++ (i ∷ q))) (j : ℕ)
     (r : ready S (partOf S u .placed) j ≡ true) (new : partOf S (u ++ (i ∷ q)) .placed j ≡ false) (need : S .need i ≡ S .need j)
     (waits : (k : ℕ) → k < S .jobs → S .before i k ≡ true → S .before j k ≡ true)
-    (soon′ : startOf S (partOf S u) j ≤ partOf S (u ++ (i ∷ q)) .plan .start i)
+    (soon : startOf S (partOf S u) j ≤ partOf S (u ++ (i ∷ q)) .plan .start i)
     (then : startOf S (partOf S (u ++ (i ∷ q))) j ≡ partOf S (u ++ (i ∷ q)) .plan .start i + S .minutes i + S .rest) where
   abbrev P : PartPlan
   P = partOf S u
@@ -122,7 +109,7 @@ module _ (S : Sheet) (w : Lasting S) (n : Narrow S) (u : List ℕ) (i : ℕ) (q 
     before-j : (a : ℕ) → a < S .jobs → S .before a j ≡ true → finish S R a ≤ t
     before-j a l e =
         let k = kept a l (Rj .after a l e) in
-        omega (arith, k, soon′, start-may S P j (n j (Rj .job)) .after a l e)
+        omega (arith, k, soon, start-may S P j (n j (Rj .job)) .after a l e)
 
     after : (a b : ℕ) → a < S .jobs → b < S .jobs → S .before a b ≡ true → (x y x′ y′ : Bool)
         → eqb b i ≡ x → eqb b j ≡ y → eqb a i ≡ x′ → eqb a j ≡ y′ → finish S R a ≤ R .start b
@@ -150,7 +137,7 @@ module _ (S : Sheet) (w : Lasting S) (n : Narrow S) (u : List ℕ) (i : ℕ) (q 
     arrived : (k : ℕ) → k < S .jobs → (x y : Bool) → eqb k i ≡ x → eqb k j ≡ y → S .arrival k ≤ R .start k
     arrived k l true y p s = rw (eqb-true k i p) (omega (arith, at-i, q-i, c .timed .arrived i (Ri .job)))
     arrived k l false true p s =
-        rw (eqb-true k j s) (omega (arith, at-j, soon′, start-may S P j (n j (Rj .job)) .arrived))
+        rw (eqb-true k j s) (omega (arith, at-j, soon, start-may S P j (n j (Rj .job)) .arrived))
     arrived k l false false p s = omega (arith, other k (eqb-false k i p) (eqb-false k j s), c .timed .arrived k l)
 
     timed : Timed S R
@@ -173,7 +160,7 @@ module _ (S : Sheet) (w : Lasting S) (n : Narrow S) (u : List ℕ) (i : ℕ) (q 
     next = record {
       timed = timed;
       kept = kept;
-      reached = omega (arith, at-j, soon′);
+      reached = omega (arith, at-j, soon);
       first = λ k l p. first k l p (eqb k i) (eqb k j) refl refl (true-or-false (A .placed k));
     }
 

@@ -2,14 +2,14 @@
 -- starts, and no job starts later.
 use mathlib.Core.Path.{_≡_, refl, ap}
 use mathlib.Core.Logic.{_⊎_, inl, inr, ⊎-elim}
-use mathlib.Core.Bool.{Bool, true, false, not, _&&_}
+use mathlib.Core.Bool.{Bool, true, false, not, _&&_, and-false}
 use mathlib.Core.List.{List, [], _∷_}
 use Prim.Native.Nat.{ℕ, zero, suc, _+_, _≤_, _<_, zero-le}
 use native.Mathlib.Omega.{arith}
 use native.Mathlib.Nat.{le-refl}
 use lib.Dec.{ltb, leb, eqb}
 use lib.ListN.{length}
-use borrow.Author.Tests.{ltb-true, eqb-true, lt-ltb, le-leb, ne-eqb, not-true}
+use borrow.Author.Tests.{ltb-true, leb-true, eqb-true, lt-ltb, le-leb, lt-leb, le-ltb, ne-eqb, not-true}
 use Rattle.counting.specs.Counting.{only, sum, count}
 use Rattle.counting.proofs.Tests.{true-or-false, clash, and-left, and-right, and-both, or-right, not-of-false}
 use Rattle.counting.proofs.Sums.{sum-le, sum-add, sum-single, le-sum}
@@ -30,6 +30,22 @@ Lasting S = (j : ℕ) → j < S .jobs → 0 < S .minutes j
 -- job i has its modules at minute t, or they rest
 abbrev pub runs : Sheet → Plan → ℕ → ℕ → Bool
 runs S P t i = leb (P .start i) t && ltb t (finish S P i + S .rest)
+
+module _ (S : Sheet) (P : Plan) (k t : ℕ) where
+  pub runs-on : P .start k ≤ t → t < finish S P k + S .rest → runs S P t k ≡ true
+  runs-on a b = and-both _ _ (le-leb (P .start k) t a) (lt-ltb t (finish S P k + S .rest) b)
+
+  pub runs-not-yet : t < P .start k → runs S P t k ≡ false
+  runs-not-yet a = rw (lt-leb (P .start k) t a) refl
+
+  pub runs-no-more : finish S P k + S .rest ≤ t → runs S P t k ≡ false
+  runs-no-more a = rw (le-ltb t (finish S P k + S .rest) a) (and-false (leb (P .start k) t))
+
+  pub runs-from : runs S P t k ≡ true → P .start k ≤ t
+  runs-from e = leb-true (P .start k) t (and-left (leb (P .start k) t) _ e)
+
+  pub runs-to : runs S P t k ≡ true → t < finish S P k + S .rest
+  runs-to e = ltb-true t (finish S P k + S .rest) (and-right (leb (P .start k) t) _ e)
 
 -- the modules that the jobs need at minute t
 abbrev pub load : Sheet → Plan → ℕ → ℕ
