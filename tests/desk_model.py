@@ -164,6 +164,7 @@ use mathlib.Core.Path.{_≡_, refl}
 use mathlib.Core.Bool.{true}
 use mathlib.Core.List.{List, [], _∷_}
 use Rattle.counting.specs.Counting.{sum, every, any}
+use Rattle.checking.specs.Checking.{firstFailing}
 use Rattle.desk.specs.Checks.{wrongLengths, wrongFigures, sharesExceed, deskOk, notOfDesk}
 use Rattle.desk.specs.Calls.{claim, handBack, look}
 use Rattle.desk.specs.Calls.{openRefusal, opened, claimRefusal, claimed, handBackRefusal, handedBack, lookRefusal, looked}
@@ -171,7 +172,7 @@ use Rattle.desk.specs.Rows.{desk, step, Row, opens, runs, allHold}
 """
 
 OPENED = """\
-unfolding sum every any wrongLengths wrongFigures sharesExceed deskOk notOfDesk openRefusal opened
+unfolding sum every any firstFailing wrongLengths wrongFigures sharesExceed deskOk notOfDesk openRefusal opened
     claimRefusal claimed handBackRefusal handedBack lookRefusal looked
 """
 

@@ -150,7 +150,7 @@ use mathlib.Core.Path.{_≡_, refl}
 use mathlib.Core.Bool.{true, false}
 use mathlib.Core.List.{List, [], _∷_}
 use Prim.Native.Nat.{ℕ}
-use Rattle.counting.specs.Counting.{sum, largest, every, any}
+use Rattle.counting.specs.Counting.{sum, largest, every, any, joined}
 use Rattle.schedule.specs.Plan.{overWide}
 use Rattle.schedule.specs.ListPlan.{ready, firstMinute, startOf, placeAll}
 use Rattle.schedule.specs.TieRule.{wide, circular, planned, ordersAfter, earliestOf, answerOf}
@@ -181,7 +181,7 @@ def samples():
         ("placed", "Row", [f"places {sheet_text(s)} ({numbers(o)}) {slots_text(p)}" for s, o, p in placed]),
         ("plans", "Judged", [f"judged {sheet_text(s)} {slots_text(p)} {str(v).lower()}" for s, p, v in judged]),
     ]
-    opened = "sum largest every any overWide ready firstMinute startOf placeAll ordersAfter earliestOf answerOf isValid"
+    opened = "sum largest every any joined overWide ready firstMinute startOf placeAll ordersAfter earliestOf answerOf isValid"
     text = HEADER
     for name, kind, rows in lists:
         test = "allJudged" if kind == "Judged" else "allHold"

@@ -2,13 +2,12 @@
 use mathlib.Core.Path.{_≡_, refl, sym, _∙_, subst}
 use mathlib.Core.Bool.{Bool, true, false}
 use mathlib.Core.List.{List, [], _∷_, _++_, map}
-use Prim.Native.Nat.{ℕ, _-_, _≤_, _<_}
+use Prim.Native.Nat.{ℕ, _-_, _≤_}
 use native.Mathlib.Omega.{arith}
 use Rattle.counting.proofs.Tests.{clash}
 use Rattle.counting.proofs.Sums.{sum-zero}
-use Rattle.schedule.specs.Plan.{Sheet, Plan, Valid}
+use Rattle.schedule.specs.Plan.{Sheet, Plan, Valid, Lasting, Needing}
 use Rattle.schedule.specs.ListPlan.{noJobs, placing}
-use Rattle.schedule.proofs.Timed.{Lasting}
 use Rattle.desk.specs.declared.Desk.{Desk}
 use Rattle.desk.specs.Desk.{holding, assuredShare}
 use Rattle.desk.specs.Reachable.{Reachable}
@@ -17,10 +16,6 @@ use Rattle.assurance.specs.Following.{Event, begin, end, callOf, bears, 
 use Rattle.assurance.proofs.Turns.{Left, first-of-left, begins-job, begins-new, after-begin, ends-job, ends-new, after-end}
 use Rattle.assurance.proofs.Course.{needed, Course, begin-fits, begin-needed, begin-course, end-begun, end-needed, end-course}
 use Rattle.assurance.proofs.Shares.{Ready, other-call, own-claim, own-hand-back}
-
--- every job needs a module or more
-abbrev pub Needing : Sheet → Type 0
-Needing S = (j : ℕ) → j < S .jobs → 0 < S .need j
 
 module _ (S : Sheet) (P : Plan) (v : Valid S P) (w : Lasting S) (some : Needing S) (c : ℕ) where
   -- from the middle of the list on: jobs b have begun, jobs e have ended, and l are the events that are left

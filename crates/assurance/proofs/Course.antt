@@ -10,9 +10,9 @@ use borrow.Author.Tests.{eqb-true, lt-ltb, le-leb, ne-eqb, not-true}
 use Rattle.counting.specs.Counting.{only, sum}
 use Rattle.counting.proofs.Tests.{true-or-false, clash, and-left, and-right, and-both, or-right}
 use Rattle.counting.proofs.Sums.{sum-le, sum-same, sum-add, sum-single}
-use Rattle.schedule.specs.Plan.{Sheet, Plan, Valid, finish}
+use Rattle.schedule.specs.Plan.{Sheet, Plan, Valid, finish, Lasting}
 use Rattle.schedule.specs.ListPlan.{placing}
-use Rattle.schedule.proofs.Timed.{Lasting, runs}
+use Rattle.schedule.proofs.Timed.{runs}
 use Rattle.schedule.proofs.Earliest.{load-le}
 use Rattle.assurance.specs.Following.{begin, end}
 use Rattle.assurance.proofs.Turns.{due, NotBefore}

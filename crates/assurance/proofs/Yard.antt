@@ -9,11 +9,11 @@ use borrow.Author.Tests.{ltb-true, leb-true}
 use Rattle.counting.specs.Counting.{sum, largest, every, any}
 use Rattle.counting.proofs.Tests.{clash}
 use Rattle.counting.proofs.Ranges.{every-at}
-use Rattle.schedule.specs.Plan.{Sheet, Plan, Valid}
+use Rattle.checking.specs.Checking.{firstFailing}
+use Rattle.schedule.specs.Plan.{Sheet, Plan, Valid, Narrow, Lasting, Needing}
 use Rattle.schedule.specs.ListPlan.{Order, ready, firstMinute, startOf, placeAll, listPlan}
 use Rattle.schedule.specs.Rows.{job, sheet}
-use Rattle.schedule.proofs.Sound.{Narrow, list-plan-valid}
-use Rattle.schedule.proofs.Timed.{Lasting}
+use Rattle.schedule.proofs.Sound.{list-plan-valid}
 use Rattle.desk.specs.declared.Desk.{Desk}
 use Rattle.desk.specs.Desk.{newDesk}
 use Rattle.desk.specs.Checks.{wrongLengths, wrongFigures, sharesExceed, deskOk, notOfDesk}
@@ -22,7 +22,7 @@ use Rattle.desk.specs.Calls.{Call, claim, handBack, look, refusalOf, deskAfter}
 use Rattle.desk.specs.Calls.{claimRefusal, claimed, handBackRefusal, handedBack, lookRefusal, looked}
 use Rattle.assurance.specs.Following.{Event, begin, end, InOrder, FollowsPlan, AllGranted}
 use Rattle.assurance.proofs.Once.{eachOnce, once-says}
-use Rattle.assurance.proofs.Assured.{Needing, plan-granted}
+use Rattle.assurance.proofs.Assured.{plan-granted}
 
 -- ---- E1's sheet and plan: A and C from minute 0 to 10, B from 10 to 30
 
@@ -58,7 +58,7 @@ abbrev yardDesk : Desk
 yardDesk = newDesk 10 (4 ∷ 3 ∷ []) (10 ∷ 10 ∷ [])
 
 yard-opened : Reachable yardDesk
-unfolding sum any wrongLengths wrongFigures sharesExceed
+unfolding sum any firstFailing wrongLengths wrongFigures sharesExceed
 yard-opened = opening 10 (4 ∷ 3 ∷ []) (10 ∷ 10 ∷ []) refl
 
 abbrev yardCalls : List Call
@@ -104,5 +104,5 @@ numbers d (x ∷ l) = refusalOf d x ∷ numbers (deskAfter d x) l
 
 -- Of the other calls controller 0's first claim is granted, and the rest are refused: 17, 18, 14, 17 and 15.
 pub yard-numbers : numbers yardDesk yardCalls ≡ 0 ∷ 17 ∷ 0 ∷ 0 ∷ 0 ∷ 18 ∷ 14 ∷ 0 ∷ 17 ∷ 0 ∷ 0 ∷ 15 ∷ 0 ∷ []
-unfolding sum every any deskOk notOfDesk claimRefusal claimed handBackRefusal handedBack lookRefusal looked
+unfolding sum every any firstFailing deskOk notOfDesk claimRefusal claimed handBackRefusal handedBack lookRefusal looked
 yard-numbers = refl

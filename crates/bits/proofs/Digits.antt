@@ -48,6 +48,11 @@ pub bit-none : (i : ℕ) → bit 0 i ≡ false
 unfolding bit
 bit-none i = ap (λ (y : ℕ). eqb (y % 2) 1) (zero-div (2 ^ i))
 
+-- a set that is only there where a test holds
+pub bit-only : (b : Bool) (x i : ℕ) → bit (only b x) i ≡ (b && bit x i)
+bit-only true x i = refl
+bit-only false x i = bit-none i
+
 -- a number of n digits has no member from n on
 pub bit-above : (n x i : ℕ) → x < 2 ^ n → n ≤ i → bit x i ≡ false
 unfolding bit

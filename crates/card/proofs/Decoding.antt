@@ -8,8 +8,10 @@ use lib.Dec.{lit≤}
 use lib.ListN.{length, getD, length-append, List·getD-append}
 use lib.Pow.{pow-mono}
 use lib.Seq.{getD-append-add}
+use Rattle.counting.specs.Counting.{joined}
 use Rattle.counting.proofs.Sums.{sum-same}
 use Rattle.counting.proofs.Ranges.{largest-le}
+use Rattle.counting.proofs.Joins.{joined-length}
 use Rattle.bits.proofs.Sets.{setOf-lt}
 use Rattle.schedule.specs.Plan.{Sheet, finish}
 use Rattle.schedule.specs.ListPlan.{Order, emptyPart, listPlan}
@@ -18,9 +20,9 @@ use Rattle.schedule.proofs.Sound.{completes-all, order-completes}
 use Rattle.schedule.proofs.Horizon.{ends-within}
 use Rattle.tables.specs.Tables.{sheetOf, Fit}
 use Rattle.tables.proofs.Laws.{all-minutes}
-use Rattle.card.specs.Card.{joined, bytesOf, rowBytes, trailerBytes, cardBytes, rowOf, cardOf}
+use Rattle.card.specs.Card.{bytesOf, rowBytes, trailerBytes, cardBytes, rowOf, cardOf}
 use Rattle.card.specs.Decoding.{numberAt, Decodes}
-use Rattle.card.proofs.Joins.{joined-length, bytes-length, row-length, trailer-length}
+use Rattle.card.proofs.Joins.{bytes-length, row-length, trailer-length}
 use Rattle.card.proofs.Numbers.{number-front, number-behind, number-first, number-next, number-last, number-joined}
 
 -- ---- rows and trailers

@@ -1,30 +1,13 @@
--- Lists of one length joined one behind another: their bytes, and numbers as bytes.
+-- Numbers as bytes, rows and trailers: their lengths, and a slice written with three numbers.
 use mathlib.Core.Path.{_≡_, refl, sym, ap, ap₂, _∙_}
 use mathlib.Core.List.{List, [], _∷_, _++_}
-use Prim.Native.Nat.{ℕ, zero, suc, _+_, _-_, _*_, _/_, _%_, _^_, _≤_, _<_}
+use Prim.Native.Nat.{ℕ, _+_, _-_, _*_, _/_, _%_, _^_, _≤_}
 use native.Mathlib.Omega.{arith}
-use native.Mathlib.Numerals.{add-one}
 use lib.ListN.{length, length-append}
 use borrow.Rule.Slice.PartMut.{putMid}
-use Rattle.counting.proofs.Tests.{below-suc}
-use Rattle.card.specs.Card.{joined, bytesOf, rowBytes, trailerBytes}
+use Rattle.counting.proofs.Joins.{joined-length}
+use Rattle.card.specs.Card.{bytesOf, rowBytes, trailerBytes}
 use Rattle.card.proofs.Parts.{three-parts, whole}
-
-pub joined-length : (n w : ℕ) (f : ℕ → List ℕ) → ((i : ℕ) → i < n → length (f i) ≡ w) → length (joined n f) ≡ w * n
-unfolding joined
-joined-length zero w f h = omega arith
-joined-length (suc n) w f h =
-    length-append (joined n f) (f n) ∙ omega (arith, joined-length n w f (below-suc n h), h n (omega arith))
-
-pub joined-same : (n : ℕ) (f g : ℕ → List ℕ) → ((i : ℕ) → i < n → f i ≡ g i) → joined n f ≡ joined n g
-unfolding joined
-joined-same zero f g h = refl
-joined-same (suc n) f g h = ap₂ _++_ (joined-same n f g (below-suc n h)) (h n (omega arith))
-
--- one more
-pub joined-more : (n : ℕ) (f : ℕ → List ℕ) → joined n f ++ f n ≡ joined (n + 1) f
-unfolding joined
-joined-more n f = ap (λ (k : ℕ). joined k f) (sym (add-one n))
 
 pub bytes-length : (k x : ℕ) → length (bytesOf k x) ≡ k
 bytes-length k x = joined-length k 1 (λ i. x / 2 ^ (8 * i) % 256 ∷ []) (λ i l. refl) ∙ omega arith

@@ -1,5 +1,5 @@
 -- The modules in sets: the union of sets, and the lowest modules outside a set.
-use mathlib.Core.Path.{_≡_, refl, sym, ap, ap₂, _∙_}
+use mathlib.Core.Path.{_≡_, sym, ap, ap₂, _∙_}
 use mathlib.Core.Bool.{Bool, true, false, cond, _&&_, _||_}
 use Prim.Native.Nat.{ℕ, zero, suc, _+_, _^_, _<_, min}
 use native.Mathlib.Omega.{arith}
@@ -10,7 +10,7 @@ use lib.Bits.{bitOr}
 use lib.Count.{ones}
 use borrow.Author.Tests.{lt-ltb, ltb-true}
 use Rattle.counting.specs.Counting.{only, sum, any, count}
-use Rattle.counting.proofs.Tests.{below-suc, same-test}
+use Rattle.counting.proofs.Tests.{same-test}
 use Rattle.counting.proofs.Counts.{count-same, count-lowest}
 use Rattle.bits.specs.Bits.{bit, withBit, setOf}
 use Rattle.bits.proofs.Digits.{bit-none, bit-or}
@@ -20,11 +20,7 @@ use Rattle.bits.proofs.Ones.{ones-setOf}
 use Rattle.schedule.specs.ListPlan.{lowest}
 use Rattle.card.specs.Slots.{union}
 
--- ---- tests of sets, and their union
-
-pub only-bit : (b : Bool) (x m : ℕ) → bit (only b x) m ≡ (b && bit x m)
-only-bit true x m = refl
-only-bit false x m = bit-none m
+-- ---- the union of sets
 
 pub bit-union : (n : ℕ) (f : ℕ → ℕ) (m : ℕ) → bit (union n f) m ≡ any n (λ i. bit (f i) m)
 unfolding union any

@@ -8,10 +8,12 @@ use native.Mathlib.Nat.{add-zero, add-assoc, le-refl, mod-one, mod-eq-of-lt, not
 use lib.ListN.{length, getD, List·getD-append}
 use lib.Pow.{mod-pow-add}
 use lib.Seq.{getD-append-add, getD-at}
+use Rattle.counting.specs.Counting.{joined}
 use Rattle.counting.proofs.Tests.{last-or-below, below-suc}
-use Rattle.card.specs.Card.{joined, bytesOf}
+use Rattle.counting.proofs.Joins.{joined-length}
+use Rattle.card.specs.Card.{bytesOf}
 use Rattle.card.specs.Decoding.{numberAt}
-use Rattle.card.proofs.Joins.{joined-length, bytes-length}
+use Rattle.card.proofs.Joins.{bytes-length}
 
 -- equal bytes, equal numbers
 number-same : (s r : List ℕ) (a b k : ℕ) → ((i : ℕ) → i < k → getD s (a + i) 0 ≡ getD r (b + i) 0) → numberAt s a k ≡ numberAt r b k

@@ -10,9 +10,9 @@ use Rattle.counting.proofs.Ranges.{largest-same}
 use Rattle.counting.proofs.Counts.{count-same}
 use Rattle.bits.specs.Bits.{bit, setOf}
 use Rattle.bits.proofs.Sets.{bit-setOf, bit-setOf-above}
-use Rattle.schedule.specs.Plan.{Sheet, Plan, Valid, finish, planEnd}
+use Rattle.schedule.specs.Plan.{Sheet, Plan, Valid, finish, planEnd, Narrow}
 use Rattle.schedule.specs.ListPlan.{Order, listPlan}
-use Rattle.schedule.proofs.Sound.{Narrow, list-plan-valid}
+use Rattle.schedule.proofs.Sound.{list-plan-valid}
 use Rattle.card.specs.Decoding.{numberAt, planOn, Decodes}
 
 -- ---- two plans that say the same of the sheet's jobs

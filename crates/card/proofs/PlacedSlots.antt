@@ -12,14 +12,14 @@ use borrow.Author.Tests.{eqb-true, eqb-false}
 use Rattle.counting.specs.Counting.{only}
 use Rattle.counting.proofs.Ranges.{any-same}
 use Rattle.bits.specs.Bits.{bit, setOf}
-use Rattle.bits.proofs.Digits.{bit-none}
+use Rattle.bits.proofs.Digits.{bit-none, bit-only}
 use Rattle.bits.proofs.Sets.{bit-setOf}
 use Rattle.schedule.specs.Plan.{Sheet, finish}
 use Rattle.schedule.specs.ListPlan.{PartPlan, occupies, free, lowest, place, placeAll, partOf}
 use Rattle.tables.specs.Tables.{sheetOf}
 use Rattle.card.specs.declared.Slots.{Slots}
 use Rattle.card.specs.Slots.{withSlot, busyAt, outside, lowestOutside}
-use Rattle.card.proofs.Modules.{bit-union, only-bit, lowest-same}
+use Rattle.card.proofs.Modules.{bit-union, lowest-same}
 
 -- no job has a slot
 unfoldable pub noSlots : Slots
@@ -72,7 +72,7 @@ module _ (need minutes earlier : List ℕ) (jobs modules : ℕ) where
     busy-is : (t m i : ℕ) → m < modules
         → bit (only (ltb t (getD (s .end) i 0)) (getD (s .modules) i 0)) m ≡ (occupies S P t i && P .plan .uses i m)
     busy-is t m i l =
-        only-bit (ltb t (getD (s .end) i 0)) (getD (s .modules) i 0) m
+        bit-only (ltb t (getD (s .end) i 0)) (getD (s .modules) i 0) m
         ∙ ap₂ (λ (x y : ℕ). ltb t x && bit y m) (is .end i) (is .modules i) ∙ go (P .placed i)
       where
         go : (b : Bool) → (ltb t (only b (finish S (P .plan) i)) && bit (only b (setOf modules (P .plan .uses i))) m)

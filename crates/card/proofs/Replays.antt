@@ -10,6 +10,7 @@ use lib.ListN.{length, getD, take, drop, set, length-take}
 use lib.Seq.{getD-take, take-take, split-at, take-suc}
 use borrow.Author.Tests.{eqb-true}
 use Rattle.counting.specs.Counting.{only}
+use Rattle.counting.proofs.Joins.{joined-same}
 use Rattle.bits.specs.Bits.{setOf}
 use Rattle.schedule.specs.Plan.{Sheet, finish}
 use Rattle.schedule.specs.ListPlan.{Order, PartPlan, Follows, ready, startOf, place, emptyPart, placeAll, partOf}
@@ -24,7 +25,6 @@ use Rattle.placement.proofs.Parts.{start-is, start-short, placeable, placed-par
 use Rattle.card.specs.declared.Slots.{Slots}
 use Rattle.card.specs.Card.{trailerBytes, cardBytes, rowOf, cardOf}
 use Rattle.card.specs.Slots.{withSlot, slotRow, busyAt, lowestOutside, Replayed}
-use Rattle.card.proofs.Joins.{joined-same}
 use Rattle.card.proofs.PlacedSlots.{SlotsOf, slot-more}
 
 -- ---- one turn: the order's next job is placed

@@ -6,13 +6,13 @@ use lib.Dec.{ltb, leb, lit<, lit≤}
 use lib.IntN.{negsuc}
 use lib.ListN.{getD}
 use borrow.Author.Tests.{ltb-true, leb-true}
-use Rattle.counting.specs.Counting.{sum, largest, every, any}
+use Rattle.counting.specs.Counting.{sum, largest, every, any, joined}
 use Rattle.counting.proofs.Ranges.{every-at}
 use Rattle.bits.specs.Bits.{bit, setOf}
 use Rattle.schedule.specs.Plan.{Sheet}
 use Rattle.schedule.specs.ListPlan.{Order, ready, firstMinute, startOf, placeAll}
 use Rattle.tables.specs.Tables.{sheetOf, Fit}
-use Rattle.card.specs.Card.{joined, rowBytes, trailerBytes, cardBytes, cardOf, latenessOf}
+use Rattle.card.specs.Card.{rowBytes, trailerBytes, cardBytes, cardOf, latenessOf}
 use Rattle.card.specs.Decoding.{Decodes}
 use Rattle.card.proofs.Decoding.{card-decodes}
 

@@ -1,16 +1,12 @@
 -- Document 01: plan card.
 use mathlib.Core.List.{List, [], _∷_, _++_}
-use Prim.Native.Nat.{ℕ, zero, suc, _*_, _/_, _%_, _^_}
+use Prim.Native.Nat.{ℕ, _*_, _/_, _%_, _^_}
 use lib.IntN.{ℤ, pos, _-ℤ_}
+use Rattle.counting.specs.Counting.{joined}
 use Rattle.bits.specs.Bits.{setOf}
 use Rattle.schedule.specs.Plan.{Sheet, finish}
 use Rattle.schedule.specs.ListPlan.{listPlan}
 use Rattle.schedule.specs.TieRule.{endOf}
-
--- f 0, then f 1, and so on below n, one behind another
-unfoldable pub joined : ℕ → (ℕ → List ℕ) → List ℕ
-joined zero f = []
-joined (suc n) f = joined n f ++ f n
 
 -- "Numbers of several bytes are little-endian": the k lowest bytes of x, the lowest first
 abbrev pub bytesOf : ℕ → ℕ → List ℕ

@@ -7,14 +7,14 @@ ghost use lib.Dec.{ltb};
 ghost use lib.Bits.{bitOr};
 ghost use lib.Count.{ones};
 ghost use lib.ListN.{length, take, drop};
-ghost use Rattle.counting.specs.Counting.{only};
+ghost use Rattle.counting.specs.Counting.{only, joined};
 ghost use Rattle.bits.specs.Bits.{bit, withBit};
 ghost use Rattle.schedule.specs.ListPlan.{Order};
 ghost use Rattle.schedule.specs.TieRule.{endOf};
 ghost use Rattle.tables.specs.Tables.{sheetOf, Fit};
 ghost use Rattle.placement.specs.Part.{StartFor};
 ghost use Rattle.placement.specs.Profile.{Profile};
-ghost use Rattle.card.specs.Card.{bytesOf, joined, rowBytes, trailerBytes, cardBytes, cardOf, latenessOf};
+ghost use Rattle.card.specs.Card.{bytesOf, rowBytes, trailerBytes, cardBytes, cardOf, latenessOf};
 ghost use Rattle.card.specs.Slots.{withSlot, slotRow, busyAt, lowestOutside, Replayed};
 
 // Each job's start, end and module set, at the job's place.

@@ -4,3 +4,4 @@ pub mod Sums
 pub mod Intervals
 pub mod Ranges
 pub mod Counts
+pub mod Joins

@@ -1,6 +1,7 @@
--- Sums, counts, the largest value and tests over the numbers below n.
+-- Sums, counts, the largest value, tests and joined lists over the numbers below n.
 -- Each is a fold from below, the shape of a loop `while i < n`: its invariant is `acc ≡ sum i f`.
 use mathlib.Core.Bool.{Bool, true, false, _&&_, _||_}
+use mathlib.Core.List.{List, [], _++_}
 use Prim.Native.Nat.{ℕ, zero, suc, _+_, max}
 
 -- x where the test holds, and 0 elsewhere
@@ -31,3 +32,8 @@ any (suc n) p = any n p || p n
 -- how many numbers below n pass the test
 abbrev pub count : ℕ → (ℕ → Bool) → ℕ
 count n p = sum n (λ i. only (p i) 1)
+
+-- f 0 ++ f 1 ++ … ++ f (n - 1)
+unfoldable pub joined {ℓ} : {A : Type ℓ} → ℕ → (ℕ → List A) → List A
+joined zero f = []
+joined (suc n) f = joined n f ++ f n

@@ -8,21 +8,18 @@ use native.Mathlib.Omega.{arith}
 use lib.Dec.{ltb}
 use borrow.Author.Tests.{le-ltb}
 use Rattle.counting.proofs.Tests.{clash, less-or-not}
+use Rattle.checking.specs.Checking.{firstFailing}
+use Rattle.checking.proofs.Order.{first-exactly}
 use Rattle.desk.specs.declared.Desk.{Desk}
 use Rattle.desk.specs.Desk.{holding, ceilingOf, reservedForOthers, noDesk}
 use Rattle.desk.specs.Checks.{deskOk, notOfDesk, bookingChecks, returnChecks}
-use Rattle.desk.specs.Reachable.{Reachable}
+use Rattle.desk.specs.Reachable.{Reachable, Barred}
 use Rattle.desk.specs.Calls.{claimRefusal, claimed, handBackRefusal, handedBack, lookRefusal, looked, room}
 use Rattle.desk.proofs.Sound.{here, of-desk}
-use Rattle.desk.proofs.Refusals.{first-when, booking-numbers, return-numbers}
 use Rattle.desk.proofs.Grants.{claim-says, claim-granted, hand-back-says, hand-back-granted}
 use Rattle.desk.proofs.Reaches.{reached-sound, reachable-when}
 
 -- ---- 14
-
--- the number is not below the count of controllers, or no answered opening and later calls can leave the desk
-abbrev pub Barred : Desk → ℕ → Type 0
-Barred d c = (d .count ≤ c) ⊎ (Reachable d → ⊥)
 
 module _ (d : Desk) (c : ℕ) where
   barred-fails : Barred d c → notOfDesk d c ≡ true
@@ -50,19 +47,19 @@ module _ (d : Desk) (c : ℕ) where
   pub claim-14 : (k : ℕ) → (claimed d c k .refusal ≡ 14) ↔ Barred d c
   unfolding claimed claimRefusal
   claim-14 k =
-      let e = first-when 14 (omega arith) (notOfDesk d c) (bookingChecks d c k) (booking-numbers 14 (omega arith) d c k) in
+      let e = first-exactly 14 (omega arith) (notOfDesk d c) (bookingChecks d c k) refl in
       ((λ q. fails-barred (e .0 q)), λ b. e .1 (barred-fails b))
 
   pub hand-back-14 : (k : ℕ) → (handedBack d c k .refusal ≡ 14) ↔ Barred d c
   unfolding handedBack handBackRefusal
   hand-back-14 k =
-      let e = first-when 14 (omega arith) (notOfDesk d c) (returnChecks d c k) (return-numbers 14 (omega arith) d c k) in
+      let e = first-exactly 14 (omega arith) (notOfDesk d c) (returnChecks d c k) refl in
       ((λ q. fails-barred (e .0 q)), λ b. e .1 (barred-fails b))
 
   pub look-14 : (looked d c .refusal ≡ 14) ↔ Barred d c
   unfolding looked lookRefusal
   look-14 =
-      let e = first-when 14 (omega arith) (notOfDesk d c) [] tt in
+      let e = first-exactly 14 (omega arith) (notOfDesk d c) [] refl in
       ((λ q. fails-barred (e .0 q)), λ b. e .1 (barred-fails b))
 
 -- The desk of zeros that a refused opening answers cannot be, so every call on it gives 14.
@@ -91,7 +88,7 @@ module _ (d : Desk) (r : Reachable d) (c : ℕ) (l : c < d .count) (k : ℕ) whe
   )
 
   look-shows : looked d c .modules ≡ room d c
-  unfolding looked lookRefusal
+  unfolding looked lookRefusal firstFailing
   look-shows = rw (of-desk d c (reached-sound r) l) refl
 
   -- A claim is granted exactly when it is for 1 to as many modules as a look shows: the look shows the largest, 0 if there is none.

@@ -9,12 +9,13 @@ use lib.ListN.{length, getD}
 use borrow.Author.Tests.{ltb-false, eqb-true, eqb-false, le-ltb, eq-eqb, ne-eqb, not-false}
 use Rattle.counting.proofs.Tests.{or-left, or-right}
 use Rattle.counting.proofs.Ranges.{any-none, none-any}
+use Rattle.checking.specs.Checking.{firstFailing}
+use Rattle.checking.proofs.Order.{all-passed, none-failing}
 use Rattle.desk.specs.declared.Desk.{Desk}
 use Rattle.desk.specs.Desk.{mostModules, fewestControllers, mostControllers, holding, ceilingOf, reservedForOthers}
 use Rattle.desk.specs.Checks.{inRange, wrongLengths, wrongPair, somePairWrong, wrongFigures, sharesInAll, sharesExceed}
-use Rattle.desk.specs.Checks.{notOfDesk, firstFailing, bookingChecks, returnChecks}
+use Rattle.desk.specs.Checks.{notOfDesk, openChecks, bookingChecks, returnChecks}
 use Rattle.desk.specs.Calls.{openRefusal, opened, claimRefusal, handBackRefusal}
-use Rattle.desk.proofs.Refusals.{none-fails, booking-numbers, return-numbers, open-answered}
 use Rattle.desk.proofs.Sound.{InRange, range-says, in-range, Sound, Here, of-desk-says, of-desk}
 
 -- ---- opening
@@ -44,9 +45,9 @@ module _ (limit : ℕ) (assured ceilings : List ℕ) where
       pair-says limit _ _ (any-none (length assured) (λ k. wrongPair limit (getD assured k 0) (getD ceilings k 0)) e i l)
 
   pub open-says : opened limit assured ceilings .refusal ≡ 0 → Opens limit assured ceilings
-  unfolding openRefusal wrongLengths wrongFigures sharesExceed
+  unfolding opened openRefusal wrongLengths wrongFigures sharesExceed
   open-says e =
-      let p = open-answered limit assured ceilings .0 e in
+      let p = all-passed (openChecks limit assured ceilings) refl e in
       let a = p .0 in
       let b = p .1 .0 in
       let few = inRange fewestControllers mostControllers (length assured) in
@@ -60,7 +61,7 @@ module _ (limit : ℕ) (assured ceilings : List ℕ) where
       }
 
   pub opens : Opens limit assured ceilings → openRefusal limit assured ceilings ≡ 0
-  unfolding openRefusal wrongLengths wrongFigures sharesExceed
+  unfolding openRefusal firstFailing wrongLengths wrongFigures sharesExceed
   opens o =
       let right : somePairWrong limit assured ceilings ≡ false =
       none-any (length assured) (λ i. wrongPair limit (getD assured i 0) (getD ceilings i 0))
@@ -89,25 +90,27 @@ pub record Holds (d : Desk) (c k : ℕ) : Type 0 where
 module _ (d : Desk) (c k : ℕ) where
   pub booking-says : firstFailing (bookingChecks d c k) ≡ 0 → Fits d c k
   booking-says e =
-      let p = none-fails (bookingChecks d c k) (booking-numbers 0 (omega arith) d c k) e in
+      let p = all-passed (bookingChecks d c k) refl e in
       let some : k ≡ 0 → ⊥ = eqb-false k 0 (p .0) in
       record { one = omega arith; under = ltb-false _ _ (p .1 .0); beside = ltb-false _ _ (p .1 .1 .0) }
 
   pub booking-fits : Fits d c k → firstFailing (bookingChecks d c k) ≡ 0
-  booking-fits f = rw (ne-eqb k 0 (λ q. omega (arith, f .one)), le-ltb _ _ (f .under), le-ltb _ _ (f .beside)) refl
+  booking-fits f =
+      none-failing (bookingChecks d c k)
+      (ne-eqb k 0 (λ q. omega (arith, f .one)), (le-ltb _ _ (f .under), (le-ltb _ _ (f .beside), tt)))
 
   pub return-says : firstFailing (returnChecks d c k) ≡ 0 → Holds d c k
   return-says e =
-      let p = none-fails (returnChecks d c k) (return-numbers 0 (omega arith) d c k) e in
+      let p = all-passed (returnChecks d c k) refl e in
       let some : k ≡ 0 → ⊥ = eqb-false k 0 (p .0) in
       record { one = omega arith; within = ltb-false _ _ (p .1 .0) }
 
   pub return-holds : Holds d c k → firstFailing (returnChecks d c k) ≡ 0
-  return-holds h = rw (ne-eqb k 0 (λ q. omega (arith, h .one)), le-ltb _ _ (h .within)) refl
+  return-holds h = none-failing (returnChecks d c k) (ne-eqb k 0 (λ q. omega (arith, h .one)), (le-ltb _ _ (h .within), tt))
 
   -- a granted call is by a controller of a desk that can be
   pub claim-says : claimRefusal d c k ≡ 0 → Here d c × Fits d c k
-  unfolding claimRefusal
+  unfolding claimRefusal firstFailing
   claim-says e = go (notOfDesk d c) refl
     where
       go : (b : Bool) → notOfDesk d c ≡ b → Here d c × Fits d c k
@@ -115,11 +118,11 @@ module _ (d : Desk) (c k : ℕ) where
       go false q = (of-desk-says d c q, booking-says (rw q at e))
 
   pub claim-granted : Sound d → c < d .count → Fits d c k → claimRefusal d c k ≡ 0
-  unfolding claimRefusal
+  unfolding claimRefusal firstFailing
   claim-granted s l f = rw (of-desk d c s l) (booking-fits f)
 
   pub hand-back-says : handBackRefusal d c k ≡ 0 → Here d c × Holds d c k
-  unfolding handBackRefusal
+  unfolding handBackRefusal firstFailing
   hand-back-says e = go (notOfDesk d c) refl
     where
       go : (b : Bool) → notOfDesk d c ≡ b → Here d c × Holds d c k
@@ -127,5 +130,5 @@ module _ (d : Desk) (c k : ℕ) where
       go false q = (of-desk-says d c q, return-says (rw q at e))
 
   pub hand-back-granted : Sound d → c < d .count → Holds d c k → handBackRefusal d c k ≡ 0
-  unfolding handBackRefusal
+  unfolding handBackRefusal firstFailing
   hand-back-granted s l h = rw (of-desk d c s l) (return-holds h)

@@ -8,5 +8,4 @@ pub mod Reaches
 pub mod Claims
 pub mod Lists
 pub mod Holdings
-pub mod Examples
 pub mod Samples

@@ -10,7 +10,7 @@ use Rattle.desk.specs.declared.Desk.{Desk}
 use Rattle.desk.specs.Desk.{holding, newDesk, noDesk, withHolding}
 use Rattle.desk.specs.Reachable.{Reachable, opening, claiming, handingBack}
 use Rattle.desk.specs.Calls.{openRefusal, opened, claimRefusal, claimed, handBackRefusal, handedBack, lookRefusal, looked}
-use Rattle.desk.specs.Calls.{Call, claim, handBack, look, refusalOf, deskAfter, deskAfterAll}
+use Rattle.desk.specs.Calls.{Call, claim, handBack, look, refusalOf, deskAfter, deskAfterAll, LeftByCalls}
 use Rattle.desk.proofs.Grants.{booking-fits, return-holds, claim-says, claim-granted, hand-back-says, hand-back-granted}
 use Rattle.desk.proofs.Grants.{booking-says, return-says}
 use Rattle.desk.proofs.Reaches.{reached-sound}
@@ -80,23 +80,30 @@ pub opened-reachable : (limit : ℕ) (assured ceilings : List ℕ) → opened li
 unfolding opened openRefusal
 opened-reachable limit assured ceilings e = rw e (opening limit assured ceilings e)
 
--- the desk that an answered opening and a list of calls leave, in the terms of the calls' own answers
-abbrev pub LeftByCalls : Desk → Type 0
-LeftByCalls d =
-    (limit : ℕ) × (assured : List ℕ) × (ceilings : List ℕ) × (calls : List Call)
-    × (opened limit assured ceilings .refusal ≡ 0) × (deskAfterAll (opened limit assured ceilings .desk) calls ≡ d)
-
 after-last : (d : Desk) (l : List Call) (x : Call) → deskAfterAll d (l ++ (x ∷ [])) ≡ deskAfter (deskAfterAll d l) x
 after-last d [] x = refl
 after-last d (y ∷ l) x = after-last (deskAfter d y) l x
 
 one-more : {d : Desk} → LeftByCalls d → (x : Call) → LeftByCalls (deskAfter d x)
-one-more (limit, assured, ceilings, calls, e, q) x =
-    (limit, assured, ceilings, calls ++ (x ∷ []), e, after-last _ calls x ∙ ap (λ (d : Desk). deskAfter d x) q)
+one-more h x = record {
+  limit = h .limit;
+  assured = h .assured;
+  ceilings = h .ceilings;
+  calls = h .calls ++ (x ∷ []);
+  answered = h .answered;
+  leaves = after-last _ (h .calls) x ∙ ap (λ (d : Desk). deskAfter d x) (h .leaves);
+}
 
 reachable-left : {d : Desk} → Reachable d → LeftByCalls d
 unfolding openRefusal opened
-reachable-left (opening limit assured ceilings e) = (limit, assured, ceilings, [], e, opened-new limit assured ceilings e)
+reachable-left (opening limit assured ceilings e) = record {
+  limit = limit;
+  assured = assured;
+  ceilings = ceilings;
+  calls = [];
+  answered = e;
+  leaves = opened-new limit assured ceilings e;
+}
 reachable-left (claiming {d = d} r c k l e) =
     subst LeftByCalls (claim-booked d c k (claim-granted d c k (reached-sound r) l (booking-says d c k e)))
     (one-more (reachable-left r) (claim c k))
@@ -108,5 +115,5 @@ reachable-left (handingBack {d = d} r c k l e) =
 pub reachable-by-calls : (d : Desk) → Reachable d ↔ LeftByCalls d
 reachable-by-calls d = (
   reachable-left,
-  λ (limit, assured, ceilings, calls, e, q). subst Reachable q (reachable-after-all (opened-reachable limit assured ceilings e) calls),
+  λ h. subst Reachable (h .leaves) (reachable-after-all (opened-reachable (h .limit) (h .assured) (h .ceilings) (h .answered)) (h .calls)),
 )

@@ -4,6 +4,7 @@ use mathlib.Core.Path.{_≡_, refl}
 use mathlib.Core.Bool.{true}
 use mathlib.Core.List.{List, [], _∷_}
 use Rattle.counting.specs.Counting.{sum, every, any}
+use Rattle.checking.specs.Checking.{firstFailing}
 use Rattle.desk.specs.Checks.{wrongLengths, wrongFigures, sharesExceed, deskOk, notOfDesk}
 use Rattle.desk.specs.Calls.{claim, handBack, look}
 use Rattle.desk.specs.Calls.{openRefusal, opened, claimRefusal, claimed, handBackRefusal, handedBack, lookRefusal, looked}
@@ -54,7 +55,7 @@ openings =
     ∷ []
 
 pub openings-right : allHold openings ≡ true
-unfolding openings sum every any wrongLengths wrongFigures sharesExceed deskOk notOfDesk openRefusal opened
+unfolding openings sum every any firstFailing wrongLengths wrongFigures sharesExceed deskOk notOfDesk openRefusal opened
     claimRefusal claimed handBackRefusal handedBack lookRefusal looked
 openings-right = refl
 
@@ -343,7 +344,7 @@ lists =
     ∷ []
 
 pub lists-right : allHold lists ≡ true
-unfolding lists sum every any wrongLengths wrongFigures sharesExceed deskOk notOfDesk openRefusal opened
+unfolding lists sum every any firstFailing wrongLengths wrongFigures sharesExceed deskOk notOfDesk openRefusal opened
     claimRefusal claimed handBackRefusal handedBack lookRefusal looked
 lists-right = refl
 
@@ -532,6 +533,6 @@ desks =
     ∷ []
 
 pub desks-right : allHold desks ≡ true
-unfolding desks sum every any wrongLengths wrongFigures sharesExceed deskOk notOfDesk openRefusal opened
+unfolding desks sum every any firstFailing wrongLengths wrongFigures sharesExceed deskOk notOfDesk openRefusal opened
     claimRefusal claimed handBackRefusal handedBack lookRefusal looked
 desks-right = refl

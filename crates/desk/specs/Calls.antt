@@ -1,15 +1,17 @@
 -- What the calls on a desk answer, and what a list of calls leaves: "each takes the desk that the one before it handed back".
+use mathlib.Core.Path.{_≡_}
 use mathlib.Core.Bool.{Bool, cond}
 use mathlib.Core.List.{List, [], _∷_}
 use Prim.Native.Nat.{ℕ, _+_, _-_, min}
 use lib.Dec.{eqb}
 use Rattle.counting.specs.Counting.{only}
+use Rattle.checking.specs.Checking.{firstFailing}
 use Rattle.desk.specs.declared.Desk.{Desk}
 use Rattle.desk.specs.declared.Opened.{Opened}
 use Rattle.desk.specs.declared.Booked.{Booked}
 use Rattle.desk.specs.declared.Looked.{Looked}
 use Rattle.desk.specs.Desk.{holding, ceilingOf, reservedForOthers, newDesk, noDesk, withHolding}
-use Rattle.desk.specs.Checks.{firstFailing, openChecks, claimChecks, handBackChecks, lookChecks}
+use Rattle.desk.specs.Checks.{openChecks, claimChecks, handBackChecks, lookChecks}
 
 -- ---- one call
 
@@ -81,6 +83,15 @@ deskAfter d (look c) = looked d c .desk
 abbrev pub deskAfterAll : Desk → List Call → Desk
 deskAfterAll d [] = d
 deskAfterAll d (x ∷ l) = deskAfterAll (deskAfter d x) l
+
+-- "a desk that an answered opening and later calls leave": `reachable-by-calls` says that these are the desks of `Reachable`
+pub record LeftByCalls (d : Desk) : Type 0 where
+  pub limit : ℕ
+  pub assured : List ℕ
+  pub ceilings : List ℕ
+  pub calls : List Call
+  pub answered : opened limit assured ceilings .refusal ≡ 0
+  pub leaves : deskAfterAll (opened limit assured ceilings .desk) calls ≡ d
 
 -- the call is granted, "which is to say not refused"
 abbrev pub granted : Desk → Call → Bool

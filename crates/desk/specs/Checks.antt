@@ -1,10 +1,11 @@
 -- Checks 11 to 18 of document 01, 'Checking order': each test is true where its check fails. A call gives the first that fails.
-use mathlib.Core.Bool.{Bool, not, cond, _&&_, _||_}
+use mathlib.Core.Bool.{Bool, not, _&&_, _||_}
 use mathlib.Core.List.{List, [], _∷_}
 use Prim.Native.Nat.{ℕ, _+_}
 use lib.Dec.{ltb, leb, eqb}
 use lib.ListN.{length, getD}
 use Rattle.counting.specs.Counting.{only, sum, every, any}
+use Rattle.checking.specs.Checking.{Check}
 use Rattle.desk.specs.declared.Desk.{Desk}
 use Rattle.desk.specs.Desk.{mostModules, fewestControllers, mostControllers, holding, assuredShare, ceilingOf, reserved}
 use Rattle.desk.specs.Desk.{reservedForOthers}
@@ -88,41 +89,25 @@ doesNotFit d c k = ltb (d .limit) (holding d c + k + reservedForOthers d c)
 abbrev pub exceedsHolding : Desk → ℕ → ℕ → Bool
 exceedsHolding d c k = ltb (holding d c) k
 
--- ---- the first that fails
-
--- a check of a call's list: its number, and whether it fails
-pub record Check : Type 0 where
-  pub number : ℕ
-  pub fails : Bool
-
-abbrev pub check : ℕ → Bool → Check
-check n b = record { number = n; fails = b }
-
--- "A refusal gives its number": that of the first check that fails, and 0 where none does
-abbrev pub firstFailing : List Check → ℕ
-firstFailing [] = 0
-firstFailing (x ∷ l) = cond (x .fails) (x .number) (firstFailing l)
+-- ---- in order
 
 -- "Opening checks 11 to 13; claims 14 to 17; hand-backs 14, 15, 18; looks 14."
 abbrev pub openChecks : ℕ → List ℕ → List ℕ → List Check
 openChecks limit assured ceilings =
-    check 11 (wrongLengths assured ceilings)
-    ∷ check 12 (wrongFigures limit assured ceilings)
-    ∷ check 13 (sharesExceed limit assured)
-    ∷ []
+    (11, wrongLengths assured ceilings) ∷ (12, wrongFigures limit assured ceilings) ∷ (13, sharesExceed limit assured) ∷ []
 
 -- the checks of a claim and of a hand-back on a desk that can be, by one of its controllers
 abbrev pub bookingChecks : Desk → ℕ → ℕ → List Check
-bookingChecks d c k = check 15 (forNothing k) ∷ check 16 (passesCeiling d c k) ∷ check 17 (doesNotFit d c k) ∷ []
+bookingChecks d c k = (15, forNothing k) ∷ (16, passesCeiling d c k) ∷ (17, doesNotFit d c k) ∷ []
 
 abbrev pub returnChecks : Desk → ℕ → ℕ → List Check
-returnChecks d c k = check 15 (forNothing k) ∷ check 18 (exceedsHolding d c k) ∷ []
+returnChecks d c k = (15, forNothing k) ∷ (18, exceedsHolding d c k) ∷ []
 
 abbrev pub claimChecks : Desk → ℕ → ℕ → List Check
-claimChecks d c k = check 14 (notOfDesk d c) ∷ bookingChecks d c k
+claimChecks d c k = (14, notOfDesk d c) ∷ bookingChecks d c k
 
 abbrev pub handBackChecks : Desk → ℕ → ℕ → List Check
-handBackChecks d c k = check 14 (notOfDesk d c) ∷ returnChecks d c k
+handBackChecks d c k = (14, notOfDesk d c) ∷ returnChecks d c k
 
 abbrev pub lookChecks : Desk → ℕ → List Check
-lookChecks d c = check 14 (notOfDesk d c) ∷ []
+lookChecks d c = (14, notOfDesk d c) ∷ []

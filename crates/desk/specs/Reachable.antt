@@ -1,10 +1,12 @@
 -- The desks that an answered opening and later calls can leave.
 use mathlib.Core.Path.{_≡_}
+use mathlib.Core.Logic.{_⊎_}
 use mathlib.Core.List.{List}
-use Prim.Native.Nat.{ℕ, _+_, _-_, _<_}
+use Prim.Native.Nat.{ℕ, _+_, _-_, _≤_, _<_}
+use Rattle.checking.specs.Checking.{firstFailing}
 use Rattle.desk.specs.declared.Desk.{Desk}
 use Rattle.desk.specs.Desk.{holding, newDesk, withHolding}
-use Rattle.desk.specs.Checks.{firstFailing, openChecks, bookingChecks, returnChecks}
+use Rattle.desk.specs.Checks.{openChecks, bookingChecks, returnChecks}
 
 -- An answered opening, then later calls by controllers of the desk: a claim or a hand-back of which no check fails.
 -- Refused calls and looks leave the desk, so they add none.
@@ -15,3 +17,8 @@ pub data Reachable : Desk → Type 0 where
       → Reachable (withHolding d c (holding d c + k))
   handingBack : {d : Desk} → Reachable d → (c k : ℕ) → c < d .count → firstFailing (returnChecks d c k) ≡ 0
       → Reachable (withHolding d c (holding d c - k))
+
+-- 14: "The controller … number is not below the count of controllers …,
+-- or the desk is one that no answered opening and later calls can leave."
+abbrev pub Barred : Desk → ℕ → Type 0
+Barred d c = (d .count ≤ c) ⊎ (Reachable d → ⊥)

@@ -1,5 +1,4 @@
--- Worked examples as rows: what is opened or called and the answer that is expected; what a row says, and the same as a test.
-use mathlib.Core.Path.{_≡_}
+-- Openings and calls as rows, with the answer that is expected, and the test that a row holds.
 use mathlib.Core.Bool.{Bool, true, false, _&&_}
 use mathlib.Core.List.{List, [], _∷_}
 use Prim.Native.Nat.{ℕ}
@@ -37,24 +36,7 @@ pub data Row : Type 0 where
 abbrev pub holdingOn : Desk → List ℕ → Desk
 holdingOn d h = desk (d .count) (d .limit) h (d .assured) (d .ceiling)
 
-abbrev pub StepsSay : Desk → List Step → Type 0
-StepsSay d [] = Unit {0}
-StepsSay d (s ∷ l) =
-    (refusalOf d (s .call) ≡ s .refusal)
-    × (figureOf d (s .call) ≡ s .figure)
-    × (deskAfter d (s .call) ≡ holdingOn d (s .held))
-    × StepsSay (holdingOn d (s .held)) l
-
--- what a row says of the definitions
-abbrev pub Says : Row → Type 0
-Says (opens limit assured ceilings r d) = opened limit assured ceilings ≡ record { refusal = r; desk = d }
-Says (runs d l) = StepsSay d l
-
-abbrev pub AllSay : List Row → Type 0
-AllSay [] = Unit {0}
-AllSay (r ∷ l) = Says r × AllSay l
-
--- ---- the same as a test
+-- ---- the test that a row holds
 
 abbrev pub sameList : List ℕ → List ℕ → Bool
 sameList [] [] = true

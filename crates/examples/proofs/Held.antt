@@ -1,20 +1,57 @@
 -- Every example of the table holds of the definitions: one computed test, and one law that gives each row.
 use mathlib.Core.Path.{_≡_, refl}
-use mathlib.Core.Bool.{true}
+use mathlib.Core.Bool.{true, _&&_}
+use mathlib.Core.List.{List, [], _∷_}
 use Prim.Native.Nat.{ℕ, _<_}
+use lib.Dec.{eqb}
 use lib.ListN.{length, getD}
-use Rattle.counting.specs.Counting.{sum, largest, every, any}
+use borrow.Author.Tests.{eqb-true}
+use Rattle.counting.specs.Counting.{sum, largest, every, any, joined}
+use Rattle.counting.proofs.Tests.{and-left, and-right}
+use Rattle.counting.proofs.Ranges.{every-at}
+use Rattle.checking.specs.Checking.{firstFailing}
 use Rattle.schedule.specs.Plan.{overWide}
 use Rattle.schedule.specs.ListPlan.{ready, firstMinute, startOf, placeAll}
 use Rattle.schedule.specs.TieRule.{ordersAfter, earliestOf, answerOf}
-use Rattle.schedule.specs.Rows.{allHold}
-use Rattle.schedule.proofs.RowLaws.{Right, noRow, rows-right}
+use Rattle.schedule.proofs.RowLaws as plans
+use Rattle.desk.specs.declared.Desk.{Desk}
+use Rattle.desk.specs.Checks.{wrongLengths, wrongFigures, sharesExceed, deskOk, notOfDesk}
+use Rattle.desk.specs.Calls.{Call, openRefusal, opened, claimRefusal, claimed, handBackRefusal, handedBack, lookRefusal, looked}
+use Rattle.desk.specs.Calls.{refusalOf, deskAfter}
+use Rattle.desk.specs.Rows.{figureOf}
+use Rattle.examples.specs.Rows.{Reply, Row, plan, desk, Answered, answered, Right, holds, noRow}
 use Rattle.examples.specs.Table.{table}
 
-table-holds : allHold table ≡ true
-unfolding table sum largest every any overWide ready firstMinute startOf placeAll ordersAfter earliestOf answerOf
+-- ---- a row that passes the test is right
+
+calls-answered : (d : Desk) (l : List (Call × Reply)) → answered d l ≡ true → Answered d l
+calls-answered d [] e = tt
+calls-answered d (x ∷ l) e =
+    let number = eqb (refusalOf d (x .0)) (x .1 .number) in
+    let figure = eqb (figureOf d (x .0)) (x .1 .figure) in
+    let rest = answered (deskAfter d (x .0)) l in
+    let r = and-right number (figure && rest) e in (
+      eqb-true _ _ (and-left number (figure && rest) e),
+      eqb-true _ _ (and-left figure rest r),
+      calls-answered (deskAfter d (x .0)) l (and-right figure rest r),
+    )
+
+pub holds-right : (r : Row) → holds r ≡ true → Right r
+holds-right (plan r) e = plans.holds-right r e
+holds-right (desk limit assured ceilings n l) e =
+    let o = opened limit assured ceilings in
+    let number = eqb (o .refusal) n in
+    let rest = answered (o .desk) l in
+    (eqb-true _ _ (and-left number rest e), calls-answered (o .desk) l (and-right number rest e))
+
+-- ---- the table
+
+table-holds : every (length table) (λ k. holds (getD table k noRow)) ≡ true
+unfolding table sum largest every any joined overWide ready firstMinute startOf placeAll ordersAfter earliestOf answerOf
+    firstFailing wrongLengths wrongFigures sharesExceed deskOk notOfDesk openRefusal opened claimRefusal claimed handBackRefusal handedBack
+    lookRefusal looked
 table-holds = refl
 
 -- Each row of the table is right.
 pub examples-hold : (k : ℕ) → k < length table → Right (getD table k noRow)
-examples-hold = rows-right table table-holds
+examples-hold k l = holds-right (getD table k noRow) (every-at (length table) (λ k. holds (getD table k noRow)) table-holds k l)

@@ -8,9 +8,9 @@ use lib.Dec.{ltb}
 use borrow.Author.Tests.{ltb-true}
 use Rattle.counting.specs.Counting.{every}
 use Rattle.counting.proofs.Ranges.{every-at}
-use Rattle.schedule.specs.Plan.{Sheet, Plan, Valid}
-use Rattle.schedule.proofs.Timed.{Lasting}
-use Rattle.schedule.proofs.Theorems.{Planned, planned-says, refused-exactly}
+use Rattle.schedule.specs.Plan.{Sheet, Plan, Valid, Lasting}
+use Rattle.schedule.specs.TieRule.{Planned}
+use Rattle.schedule.proofs.Theorems.{planned-says, refused-exactly}
 use Rattle.examples.specs.Table.{e1, e4, table}
 use Rattle.examples.proofs.Held.{examples-hold}
 

@@ -1,2 +1,3 @@
--- Document 01's examples.
+-- Document 01's examples, and what their rows say.
+pub mod Rows
 pub mod Table

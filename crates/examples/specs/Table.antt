@@ -1,8 +1,10 @@
 -- Document 01, 'Examples from the yard': a row an example, with what the document says of it.
-use mathlib.Core.List.{List, [], _∷_}
+use mathlib.Core.List.{List, [], _∷_, _++_}
 use Rattle.schedule.specs.Plan.{Sheet}
 use Rattle.schedule.specs.TieRule.{wide, circular, planned}
-use Rattle.schedule.specs.Rows.{job, sheet, slot, Row, answers, places}
+use Rattle.schedule.specs.Rows.{job, sheet, slot, answers, places}
+use Rattle.desk.specs.Calls.{Call, claim, handBack, look}
+use Rattle.examples.specs.Rows.{Reply, done, gives, refused, Row, plan, desk}
 
 -- E1's sheet, and E4's: "Two jobs each before the other"
 abbrev pub e1 : Sheet
@@ -11,23 +13,41 @@ e1 = sheet (job 1 10 [] ∷ job 2 20 [] ∷ job 1 10 [] ∷ []) 2
 abbrev pub e4 : Sheet
 e4 = sheet (job 1 1 (1 ∷ []) ∷ job 1 1 (0 ∷ []) ∷ []) 1
 
+-- E9's calls: "looks give 7 and 6; controller 0 claims 7, granted; 1 more, 17; controller 1 claims 3, granted; 1 more, 17"
+abbrev pub e9 : List (Call × Reply)
+e9 =
+    (look 0, gives 7)
+    ∷ (look 1, gives 6)
+    ∷ (claim 0 7, done)
+    ∷ (claim 0 1, refused 17)
+    ∷ (claim 1 3, done)
+    ∷ (claim 1 1, refused 17)
+    ∷ []
+
 unfoldable pub table : List Row
 table =
     -- E1: "plan 30 3 2", "Its order is 0, 2, 1", and each line's start and module set
-    answers e1 (planned (0 ∷ 2 ∷ 1 ∷ []) 30)
-    ∷ places e1 (0 ∷ 2 ∷ 1 ∷ []) (slot 0 (0 ∷ []) ∷ slot 10 (0 ∷ 1 ∷ []) ∷ slot 0 (1 ∷ []) ∷ [])
+    plan (answers e1 (planned (0 ∷ 2 ∷ 1 ∷ []) 30))
+    ∷ plan (places e1 (0 ∷ 2 ∷ 1 ∷ []) (slot 0 (0 ∷ []) ∷ slot 10 (0 ∷ 1 ∷ []) ∷ slot 0 (1 ∷ []) ∷ []))
     -- E2: no jobs, "end 0"
-    ∷ answers (sheet [] 1) (planned [] 0)
+    ∷ plan (answers (sheet [] 1) (planned [] 0))
     -- E3: "one job of 2 modules", N = 1
-    ∷ answers (sheet (job 2 1 [] ∷ []) 1) wide
+    ∷ plan (answers (sheet (job 2 1 [] ∷ []) 1) wide)
     -- E4
-    ∷ answers e4 circular
+    ∷ plan (answers e4 circular)
     -- E5: "one job before itself"
-    ∷ answers (sheet (job 1 1 (0 ∷ []) ∷ []) 1) circular
+    ∷ plan (answers (sheet (job 1 1 (0 ∷ []) ∷ []) 1) circular)
     -- E6: "E4 with one job too wide"
-    ∷ answers (sheet (job 2 1 (1 ∷ []) ∷ job 1 1 (0 ∷ []) ∷ []) 1) wide
+    ∷ plan (answers (sheet (job 2 1 (1 ∷ []) ∷ job 1 1 (0 ∷ []) ∷ []) 1) wide)
     -- E7: "end 20, order 0, 2, 1"
-    ∷ answers (sheet (job 1 10 [] ∷ job 1 10 [] ∷ job 1 20 [] ∷ []) 2) (planned (0 ∷ 2 ∷ 1 ∷ []) 20)
+    ∷ plan (answers (sheet (job 1 10 [] ∷ job 1 10 [] ∷ job 1 20 [] ∷ []) 2) (planned (0 ∷ 2 ∷ 1 ∷ []) 20))
     -- E8: "end 12, order 0, 2, 1, 3"
-    ∷ answers (sheet (job 1 1 [] ∷ job 1 10 [] ∷ job 2 1 (0 ∷ []) ∷ job 1 10 (2 ∷ []) ∷ []) 2) (planned (0 ∷ 2 ∷ 1 ∷ 3 ∷ []) 12)
+    ∷ plan (answers (sheet (job 1 1 [] ∷ job 1 10 [] ∷ job 2 1 (0 ∷ []) ∷ job 1 10 (2 ∷ []) ∷ []) 2) (planned (0 ∷ 2 ∷ 1 ∷ 3 ∷ []) 12))
+    -- E9: "L = 10, assured 4 and 3, ceilings 10"
+    ∷ desk 10 (4 ∷ 3 ∷ []) (10 ∷ 10 ∷ []) 0 e9
+    -- E10: "Then controller 0 hands back 8: 18; 7: done."
+    ∷ desk 10 (4 ∷ 3 ∷ []) (10 ∷ 10 ∷ []) 0 (e9 ++ ((handBack 0 8, refused 18) ∷ (handBack 0 7, done) ∷ []))
+    -- E11: "L = 10, ceilings 10, assured 6 and 5: 13; 5 and 5 opens."
+    ∷ desk 10 (6 ∷ 5 ∷ []) (10 ∷ 10 ∷ []) 13 []
+    ∷ desk 10 (5 ∷ 5 ∷ []) (10 ∷ 10 ∷ []) 0 []
     ∷ []

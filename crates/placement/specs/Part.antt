@@ -10,8 +10,7 @@ use lib.ListN.{length, getD, take, set, replicate}
 use Rattle.counting.specs.Counting.{only, sum, largest}
 use Rattle.bits.specs.Bits.{bit, withoutBit}
 use Rattle.schedule.specs.Plan.{Sheet, finish}
-use Rattle.schedule.specs.ListPlan.{PartPlan, noJobs, Follows, partOf}
-use Rattle.schedule.proofs.Occupied.{occupied}
+use Rattle.schedule.specs.ListPlan.{PartPlan, noJobs, Follows, partOf, occupied}
 use Rattle.placement.specs.declared.Part.{Part}
 use Rattle.placement.specs.Profile.{heldAt, heldAfter, Profile, FirstRoom, Inserted}
 

@@ -16,8 +16,8 @@ use Rattle.tables.specs.Tables.{sheetOf, Fit}
 use Rattle.search.specs.Search.{Reached}
 use Rattle.card.specs.Card.{cardOf}
 use Rattle.sheet_format.specs.Format.{countOf, jobOf}
-use Rattle.sheet_format.specs.Checks.{firstFailing}
-use Rattle.sheet_format.proofs.Order.{all-passed, first-in-front, first-behind}
+use Rattle.checking.specs.Checking.{firstFailing}
+use Rattle.checking.proofs.Order.{all-passed, first-in-front, first-behind}
 use Rattle.sheet_format.proofs.Lists.{length-places}
 use Rattle.sheet.specs.declared.Reading.{Reading}
 use Rattle.sheet.specs.Read.{readChecks, readRefusal, reading}

@@ -20,8 +20,8 @@ use Rattle.card.specs.Card.{cardOf}
 use Rattle.card.specs.Decoding.{planOn, Decodes}
 use Rattle.card.proofs.Decoding.{card-length, card-decodes}
 use Rattle.card.proofs.OnCard.{card-valid, card-end}
-use Rattle.sheet_format.specs.Checks.{firstFailing, FirstFails}
-use Rattle.sheet_format.proofs.Order.{all-passed, none-failing, first-behind, refused-exactly}
+use Rattle.checking.specs.Checking.{firstFailing, FirstFails}
+use Rattle.checking.proofs.Order.{all-passed, none-failing, first-behind, refused-exactly}
 use Rattle.sheet.specs.Read.{readChecks, readRefusal, reading}
 use Rattle.planner.specs.Planning.{sheetOn, noOrder, cardSize, limitChecks, planChecks, planRefusal, bestCard, cardAfter}
 use Rattle.planner.specs.Planned.{Planned}

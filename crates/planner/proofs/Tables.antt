@@ -5,8 +5,7 @@ use mathlib.Core.List.{List, map}
 use Prim.Native.Nat.{ℕ, _≤_, _<_}
 use lib.ListN.{List·getD-map}
 use Rattle.bits.specs.Bits.{bit}
-use Rattle.schedule.specs.Plan.{overWide}
-use Rattle.schedule.proofs.Timed.{Lasting}
+use Rattle.schedule.specs.Plan.{overWide, Lasting}
 use Rattle.schedule.proofs.Existence.{narrow-says}
 use Rattle.tables.specs.Tables.{sheetOf, Fit}
 use Rattle.sheet_format.specs.declared.Job.{Job}

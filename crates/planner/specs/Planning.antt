@@ -11,7 +11,7 @@ use Rattle.schedule.specs.Plan.{Sheet, overWide}
 use Rattle.schedule.specs.TieRule.{bestOrder}
 use Rattle.card.specs.Card.{cardOf}
 use Rattle.sheet_format.specs.Format.{jobsIn}
-use Rattle.sheet_format.specs.Checks.{Check, firstFailing}
+use Rattle.checking.specs.Checking.{Check, firstFailing}
 use Rattle.sheet.specs.declared.Reading.{Reading}
 use Rattle.sheet.specs.Read.{readChecks, reading}
 use Rattle.sheet.specs.Write.{over}

@@ -12,11 +12,10 @@ use borrow.Author.Tests.{eqb-true, eqb-false}
 use Rattle.counting.specs.Counting.{only}
 use Rattle.counting.proofs.Tests.{clash}
 use Rattle.counting.proofs.Ranges.{le-largest, largest-le}
-use Rattle.schedule.specs.Plan.{Sheet, Plan, finish, planEnd}
-use Rattle.schedule.specs.ListPlan.{PartPlan, noJobs, ready, Follows, startOf, partOf}
-use Rattle.schedule.proofs.Starts.{Ready, MayStart, ready-says, start-may}
-use Rattle.schedule.proofs.Sound.{Narrow}
-use Rattle.schedule.proofs.Timed.{Lasting, runs, Timed}
+use Rattle.schedule.specs.Plan.{Sheet, Plan, finish, planEnd, Narrow, Lasting}
+use Rattle.schedule.specs.ListPlan.{PartPlan, noJobs, ready, Follows, startOf, partOf, MayStart}
+use Rattle.schedule.proofs.Starts.{Ready, ready-says, start-may}
+use Rattle.schedule.proofs.Timed.{runs, Timed}
 use Rattle.schedule.proofs.Swept.{CannotBeat}
 use Rattle.schedule.proofs.Settled.{StartsNext, settled-next, Completion, by-plans}
 use Rattle.schedule.proofs.Exchange.{exchanged, start-one, start-two, start-other, exchange-room}

@@ -8,10 +8,10 @@ use lib.Dec.{eqb}
 use borrow.Author.Tests.{eqb-true, eq-eqb, ne-eqb}
 use Rattle.counting.specs.Counting.{only}
 use Rattle.counting.proofs.Tests.{clash}
-use Rattle.schedule.specs.Plan.{Sheet}
-use Rattle.schedule.specs.ListPlan.{Order, PartPlan, Follows, startOf, place, emptyPart, placeAll, listPlan}
+use Rattle.schedule.specs.Plan.{Sheet, Narrow}
+use Rattle.schedule.specs.ListPlan.{Order, PartPlan, Follows, startOf, place, emptyPart, placeAll, listPlan, times}
 use Rattle.schedule.proofs.Starts.{ready-says, start-may}
-use Rattle.schedule.proofs.Sound.{Narrow, completes-all, order-completes}
+use Rattle.schedule.proofs.Sound.{completes-all, order-completes}
 
 -- one order behind another
 pub place-all-append : (S : Sheet) (P : PartPlan) (w o : List ℕ) → placeAll S P (w ++ o) ≡ placeAll S (placeAll S P w) o
@@ -66,11 +66,6 @@ pub list-plan-rising : (S : Sheet) → Narrow S → (o : List ℕ) → Order S o
 list-plan-rising S w o h = place-all-rising S w emptyPart o (h .follows)
 
 -- ---- each job once
-
--- how often j stands in o
-abbrev pub times : ℕ → List ℕ → ℕ
-times j [] = 0
-times j (i ∷ o) = only (eqb j i) 1 + times j o
 
 -- a job that is placed at the end was placed before or stands in the rest, once
 pub times-placed : (S : Sheet) (P : PartPlan) (o : List ℕ) → Follows S (P .placed) o

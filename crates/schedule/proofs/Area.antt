@@ -13,11 +13,11 @@ use Rattle.counting.proofs.Tests.{true-or-false}
 use Rattle.counting.proofs.Sums.{sum-le, sum-same, sum-add, sum-mul, sum-zero, sum-const, sum-swap, le-sum}
 use Rattle.counting.proofs.Ranges.{le-largest, largest-le}
 use Rattle.counting.proofs.Counts.{count-insert}
-use Rattle.schedule.specs.Plan.{Sheet, finish, planEnd}
-use Rattle.schedule.specs.ListPlan.{PartPlan, occupies, startOf, place, placeAll}
+use Rattle.schedule.specs.Plan.{Sheet, finish, planEnd, Narrow}
+use Rattle.schedule.specs.ListPlan.{PartPlan, occupies, startOf, place, placeAll, occupied}
 use Rattle.schedule.proofs.Starts.{Ready, ready-says, start-may}
-use Rattle.schedule.proofs.Sound.{Narrow, Sound, part-end-le, place-sound, Completes, completes-all}
-use Rattle.schedule.proofs.Occupied.{occupied, free-count}
+use Rattle.schedule.proofs.Sound.{Sound, part-end-le, place-sound, Completes, completes-all}
+use Rattle.schedule.proofs.Occupied.{free-count}
 use Rattle.schedule.proofs.Dominance.{nextStart, last-le-next}
 
 -- the module-minutes of job i from minute l on: what is left of it if it is placed, and all of it if not

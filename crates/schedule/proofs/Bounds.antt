@@ -1,5 +1,5 @@
 -- The bounds by weights and by modules as cuts.
-use mathlib.Core.Path.{_≡_, refl, sym, ap, _∙_}
+use mathlib.Core.Path.{_≡_}
 use mathlib.Core.Logic.{_⊎_, inl, inr}
 use mathlib.Core.Bool.{true, false, not}
 use mathlib.Core.List.{List, [], _∷_}
@@ -7,21 +7,18 @@ use Prim.Native.Nat.{ℕ, suc, _+_, _-_, _*_, _≤_, _<_}
 use native.Mathlib.Omega.{arith}
 use native.Mathlib.Nat.{le-trans}
 use lib.Dec.{leb}
-use lib.ListN.{length}
 use Rattle.counting.specs.Counting.{only, sum}
 use Rattle.counting.proofs.Tests.{clash, less-or-not}
-use Rattle.schedule.specs.Plan.{Sheet, Plan, Valid, finish, planEnd}
-use Rattle.schedule.specs.ListPlan.{PartPlan, noJobs, Follows, occupies, startOf, placeAll, partOf}
-use Rattle.schedule.proofs.Sound.{Narrow, Sound, part-sound, place-all-sound, Completes, completes-all, complete-valid}
-use Rattle.schedule.proofs.Occupied.{occupied}
-use Rattle.schedule.proofs.Timed.{Lasting}
+use Rattle.schedule.specs.Plan.{Sheet, Plan, Valid, finish, planEnd, Narrow, Lasting}
+use Rattle.schedule.specs.ListPlan.{PartPlan, noJobs, Follows, occupies, placeAll, partOf, occupied}
+use Rattle.schedule.proofs.Sound.{Sound, part-sound, place-all-sound, Completes, completes-all, complete-valid}
 use Rattle.schedule.proofs.Earliest.{valid-timed}
 use Rattle.schedule.proofs.Along.{place-all-keeps}
 use Rattle.schedule.proofs.Branch.{next-first}
 use Rattle.schedule.proofs.Swept.{CannotBeat}
 use Rattle.schedule.proofs.Cuts.{NoneBefore, by-completions}
 use Rattle.schedule.proofs.Weights.{Holds, GoesOn, weights-bound}
-use Rattle.schedule.proofs.Modulewise.{Lasts, GoesOnWith, freeFrom, modules-bound, by-profile}
+use Rattle.schedule.proofs.Modulewise.{Lasts, GoesOnWith, modules-bound, by-profile}
 
 module _ (S : Sheet) (lasting : Lasting S) (n : Narrow S) (w : List ℕ) (f : Follows S noJobs w) (l : ℕ) (from : partOf S w .last ≤ l)
     (next : NoneBefore S n w f l) (T : ℕ) where

@@ -7,10 +7,9 @@ use native.Mathlib.Omega.{arith}
 use lib.Dec.{eqb}
 use borrow.Author.Tests.{eqb-true, eq-eqb}
 use Rattle.counting.proofs.Tests.{clash}
-use Rattle.schedule.specs.Plan.{Sheet}
+use Rattle.schedule.specs.Plan.{Sheet, Narrow}
 use Rattle.schedule.specs.ListPlan.{PartPlan, noJobs, Follows, startOf, place, emptyPart, placeAll, partOf}
 use Rattle.schedule.proofs.Starts.{ready-says, start-may}
-use Rattle.schedule.proofs.Sound.{Narrow}
 use Rattle.schedule.proofs.Along.{place-all-append, place-all-keeps, next-start-kept}
 use Rattle.schedule.proofs.Prefixes.{follows-split}
 

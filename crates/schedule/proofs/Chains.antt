@@ -13,10 +13,10 @@ use Rattle.counting.specs.Counting.{only, largest, count}
 use Rattle.counting.proofs.Tests.{true-or-false, clash, not-of-false}
 use Rattle.counting.proofs.Ranges.{le-largest, largest-le, any-none, none-any}
 use Rattle.counting.proofs.Counts.{count-mono, count-insert}
-use Rattle.schedule.specs.Plan.{Sheet, Plan, Valid, finish, planEnd}
-use Rattle.schedule.specs.ListPlan.{PartPlan, ready, occupies, free, startOf, place, placeAll}
-use Rattle.schedule.proofs.Starts.{Ready, ready-says, MayStart, start-le, start-may}
-use Rattle.schedule.proofs.Sound.{Narrow, Sound, place-all-sound, complete-valid, Completes, completes-all}
+use Rattle.schedule.specs.Plan.{Sheet, Plan, Valid, finish, planEnd, Narrow}
+use Rattle.schedule.specs.ListPlan.{PartPlan, ready, occupies, free, startOf, place, placeAll, MayStart}
+use Rattle.schedule.proofs.Starts.{Ready, ready-says, start-le, start-may}
+use Rattle.schedule.proofs.Sound.{Sound, place-all-sound, complete-valid, Completes, completes-all}
 use Rattle.schedule.proofs.Along.{next-start-kept}
 
 -- the minutes of the longest chain of at most k jobs, each an earlier job of the next, that begins with job j

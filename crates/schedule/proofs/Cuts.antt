@@ -11,11 +11,11 @@ use lib.ListN.{length}
 use Rattle.counting.specs.Counting.{count}
 use Rattle.counting.proofs.Tests.{less-or-not}
 use Rattle.counting.proofs.Counts.{count-same}
-use Rattle.schedule.specs.Plan.{Sheet, planEnd}
+use Rattle.schedule.specs.Plan.{Sheet, planEnd, Narrow}
 use Rattle.schedule.specs.ListPlan.{Order, PartPlan, noJobs, placing, ready, Follows, startOf, placeAll, partOf}
 use Rattle.schedule.specs.TieRule.{endOf}
 use Rattle.schedule.proofs.Starts.{ready-says, ready-when}
-use Rattle.schedule.proofs.Sound.{Narrow, part-sound, Completes}
+use Rattle.schedule.proofs.Sound.{part-sound, Completes}
 use Rattle.schedule.proofs.Dominance.{Ahead, nextStart, ahead-ends}
 use Rattle.schedule.proofs.Area.{work, area-bound}
 use Rattle.schedule.proofs.Chains.{chain, chain-bound}

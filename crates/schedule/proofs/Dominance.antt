@@ -11,11 +11,11 @@ use Rattle.counting.proofs.Tests.{and-left, and-right, and-both, only-mono}
 use Rattle.counting.proofs.Sums.{sum-le}
 use Rattle.counting.proofs.Ranges.{le-largest, largest-le}
 use Rattle.counting.proofs.Counts.{count-insert}
-use Rattle.schedule.specs.Plan.{Sheet, finish, planEnd}
-use Rattle.schedule.specs.ListPlan.{PartPlan, Follows, occupies, startOf, place, placeAll}
-use Rattle.schedule.proofs.Starts.{Ready, ready-says, MayStart, start-le, start-may}
-use Rattle.schedule.proofs.Sound.{Narrow, Sound, partEnd, part-end-le, place-sound, Completes, completes-all}
-use Rattle.schedule.proofs.Occupied.{occupied, room-sum, sum-room}
+use Rattle.schedule.specs.Plan.{Sheet, finish, planEnd, Narrow}
+use Rattle.schedule.specs.ListPlan.{PartPlan, Follows, occupies, startOf, place, placeAll, MayStart, occupied}
+use Rattle.schedule.proofs.Starts.{Ready, ready-says, start-le, start-may}
+use Rattle.schedule.proofs.Sound.{Sound, partEnd, part-end-le, place-sound, Completes, completes-all}
+use Rattle.schedule.proofs.Occupied.{room-sum, sum-room}
 
 -- From minute l on, A has placed the same jobs as B and keeps no module longer.
 pub record Ahead (S : Sheet) (A B : PartPlan) (l : ℕ) : Type 0 where

@@ -12,11 +12,11 @@ use Rattle.counting.proofs.Tests.{clash, and-left, and-right}
 use Rattle.counting.proofs.Sums.{sum-le, sum-same, sum-swap, sum-const}
 use Rattle.counting.proofs.Ranges.{le-largest, largest-le}
 use Rattle.counting.proofs.Counts.{count-le, count-one, count-none, only-count}
-use Rattle.schedule.specs.Plan.{Sheet, Plan, Valid, finish, planEnd}
+use Rattle.schedule.specs.Plan.{Sheet, Plan, Valid, finish, planEnd, Narrow, Lasting}
 use Rattle.schedule.specs.ListPlan.{Order, noJobs, emptyPart, listPlan}
 use Rattle.schedule.specs.TieRule.{endOf}
-use Rattle.schedule.proofs.Sound.{Narrow, empty-sound}
-use Rattle.schedule.proofs.Timed.{Lasting, runs, load, Timed, KeepsUp, keep-up}
+use Rattle.schedule.proofs.Sound.{empty-sound}
+use Rattle.schedule.proofs.Timed.{runs, load, Timed, KeepsUp, keep-up}
 
 pub valid-narrow : (S : Sheet) (P : Plan) → Valid S P → Narrow S
 valid-narrow S P v j l = omega (arith, v .enough j l, count-le (S .modules) (P .uses j))

@@ -13,11 +13,10 @@ use Rattle.counting.specs.Counting.{count}
 use Rattle.counting.proofs.Tests.{true-or-false, clash, and-left, and-right, and-both, not-of-false}
 use Rattle.counting.proofs.Ranges.{find, any-none, none-any}
 use Rattle.counting.proofs.Counts.{count-insert, count-full, count-none, count-not}
-use Rattle.schedule.specs.Plan.{Sheet, Plan, Valid, overWide, MustPrecede, directly, through, Circular}
+use Rattle.schedule.specs.Plan.{Sheet, Plan, Valid, overWide, MustPrecede, directly, through, Circular, Narrow, Lasting}
 use Rattle.schedule.specs.ListPlan.{Order, noJobs, placing, ready, Follows, listPlan}
 use Rattle.schedule.proofs.Starts.{ready-says, ready-when}
-use Rattle.schedule.proofs.Sound.{Narrow, list-plan-valid}
-use Rattle.schedule.proofs.Timed.{Lasting}
+use Rattle.schedule.proofs.Sound.{list-plan-valid}
 use Rattle.schedule.proofs.Earliest.{valid-narrow}
 
 -- ---- no job is wider than the cabinet

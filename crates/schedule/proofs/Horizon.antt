@@ -11,10 +11,9 @@ use Rattle.counting.specs.Counting.{only, sum}
 use Rattle.counting.proofs.Tests.{true-or-false, clash, only-le}
 use Rattle.counting.proofs.Sums.{sum-le, sum-insert}
 use Rattle.counting.proofs.Ranges.{largest-le}
-use Rattle.schedule.specs.Plan.{Sheet, finish}
+use Rattle.schedule.specs.Plan.{Sheet, finish, Narrow}
 use Rattle.schedule.specs.ListPlan.{PartPlan, noJobs, placing, Follows, allFreeFrom, startOf, place, emptyPart, placeAll, partOf}
 use Rattle.schedule.proofs.Starts.{Ready, ready-says, start-le, all-free}
-use Rattle.schedule.proofs.Sound.{Narrow}
 
 module _ (S : Sheet) (w : Narrow S) (a : ℕ) (arr : (j : ℕ) → j < S .jobs → S .arrival j ≤ a) where
   -- minute a, and then the jobs of d one after another

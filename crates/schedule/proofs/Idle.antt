@@ -12,12 +12,12 @@ use Rattle.counting.specs.Counting.{only}
 use Rattle.counting.proofs.Tests.{true-or-false, clash, and-left, and-right, and-both, only-mono, only-le}
 use Rattle.counting.proofs.Sums.{sum-le, sum-add, sum-single}
 use Rattle.counting.proofs.Ranges.{le-largest, largest-le}
-use Rattle.schedule.specs.Plan.{Sheet, Plan, finish, planEnd}
-use Rattle.schedule.specs.ListPlan.{PartPlan, noJobs, ready, Follows, occupies, startOf, partOf}
-use Rattle.schedule.proofs.Starts.{Ready, MayStart, ready-says, start-may}
-use Rattle.schedule.proofs.Sound.{Narrow, part-sound}
-use Rattle.schedule.proofs.Occupied.{occupied, occupied-falls, room-sum}
-use Rattle.schedule.proofs.Timed.{Lasting, runs, load, Timed}
+use Rattle.schedule.specs.Plan.{Sheet, Plan, finish, planEnd, Narrow, Lasting}
+use Rattle.schedule.specs.ListPlan.{PartPlan, noJobs, ready, Follows, occupies, startOf, partOf, MayStart, occupied}
+use Rattle.schedule.proofs.Starts.{Ready, ready-says, start-may}
+use Rattle.schedule.proofs.Sound.{part-sound}
+use Rattle.schedule.proofs.Occupied.{occupied-falls, room-sum}
+use Rattle.schedule.proofs.Timed.{runs, load, Timed}
 use Rattle.schedule.proofs.Swept.{CannotBeat}
 use Rattle.schedule.proofs.Settled.{StartsNext, settled-next, Completion, by-plans}
 

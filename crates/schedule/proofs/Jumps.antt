@@ -6,10 +6,10 @@ use native.Mathlib.Nat.{le-antisymm}
 use Rattle.counting.specs.Counting.{only}
 use Rattle.counting.proofs.Ranges.{le-largest}
 use Rattle.schedule.specs.Plan.{Sheet, finish}
-use Rattle.schedule.specs.ListPlan.{PartPlan, notBefore, startOf}
+use Rattle.schedule.specs.ListPlan.{PartPlan, notBefore, startOf, occupied}
 use Rattle.schedule.proofs.Starts.{start-le}
 use Rattle.schedule.proofs.Sound.{Sound}
-use Rattle.schedule.proofs.Occupied.{occupied, sum-room}
+use Rattle.schedule.proofs.Occupied.{sum-room}
 
 pub start-here : (S : Sheet) (P : PartPlan) → Sound S P → (j t : ℕ) → notBefore S P j ≤ t → t ≤ startOf S P j
     → occupied S P t + S .need j ≤ S .modules → startOf S P j ≡ t

@@ -13,11 +13,10 @@ use Rattle.counting.proofs.Sums.{sum-le, sum-same, sum-add, sum-swap, sum-zero,
 use Rattle.counting.proofs.Intervals.{inside, sum-inside}
 use Rattle.counting.proofs.Ranges.{le-largest, largest-le, any-some}
 use Rattle.counting.proofs.Counts.{count-one, count-none}
-use Rattle.schedule.specs.Plan.{Sheet, Plan, Valid, finish, planEnd}
-use Rattle.schedule.specs.ListPlan.{PartPlan, occupies, free}
+use Rattle.schedule.specs.Plan.{Sheet, Plan, Valid, finish, planEnd, Lasting}
+use Rattle.schedule.specs.ListPlan.{PartPlan, occupies, free, occupied}
 use Rattle.schedule.proofs.Sound.{Sound}
-use Rattle.schedule.proofs.Occupied.{occupied, free-count}
-use Rattle.schedule.proofs.Timed.{Lasting}
+use Rattle.schedule.proofs.Occupied.{free-count}
 use Rattle.schedule.proofs.Area.{availableFrom}
 
 -- no set of jobs that are left and last x minutes together weighs more than Z x

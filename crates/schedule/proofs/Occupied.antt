@@ -13,13 +13,9 @@ use Rattle.counting.proofs.Sums.{sum-le, sum-same, sum-swap}
 use Rattle.counting.proofs.Ranges.{any-none}
 use Rattle.counting.proofs.Counts.{count-one, count-not, count-none, any-le-count, only-count}
 use Rattle.schedule.specs.Plan.{Sheet, finish}
-use Rattle.schedule.specs.ListPlan.{PartPlan, occupies, free, notBefore, firstMinute, allFreeFrom, startOf}
-use Rattle.schedule.proofs.Starts.{MayStart, first-minute-same}
+use Rattle.schedule.specs.ListPlan.{PartPlan, occupies, free, occupied, MayStart, notBefore, firstMinute, allFreeFrom, startOf}
+use Rattle.schedule.proofs.Starts.{first-minute-same}
 use Rattle.schedule.proofs.Sound.{Sound}
-
--- how many modules the placed jobs need at minute t
-unfoldable pub occupied : Sheet → PartPlan → ℕ → ℕ
-occupied S P t = sum (S .jobs) (λ i. only (occupies S P t i) (S .need i))
 
 -- it never rises
 pub occupied-falls : (S : Sheet) (P : PartPlan) (t u : ℕ) → t ≤ u → occupied S P u ≤ occupied S P t

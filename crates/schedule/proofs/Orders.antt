@@ -10,10 +10,11 @@ use native.Mathlib.Nat.{le-refl, not-suc-le-zero}
 use lib.Dec.{leb}
 use lib.ListN.{length}
 use borrow.Author.Tests.{leb-true, leb-false}
+use Rattle.counting.specs.Counting.{joined}
 use Rattle.counting.proofs.Tests.{last-or-below}
 use Rattle.schedule.specs.Plan.{Sheet}
 use Rattle.schedule.specs.ListPlan.{Order, noJobs, placing, ready, Follows}
-use Rattle.schedule.specs.TieRule.{endOf, DictionaryLe, Best, joined, headed, ordersAfter, earliestOf, bestOrder}
+use Rattle.schedule.specs.TieRule.{endOf, DictionaryLe, Best, headed, ordersAfter, earliestOf, bestOrder}
 use Rattle.schedule.proofs.Starts.{ready-says}
 use Rattle.schedule.proofs.Dictionary.{dictionary-refl, best-unique}
 
@@ -75,6 +76,7 @@ sorted-headed j (o ∷ l) h = (
 -- ---- one list behind another
 
 in-joined : (n : ℕ) (f : ℕ → List (List ℕ)) (j : ℕ) → j < n → (o : List ℕ) → In o (f j) → In o (joined n f)
+unfolding joined
 in-joined zero f j l o i = absurd (not-suc-le-zero l)
 in-joined (suc n) f j l o i = go (last-or-below n j l) (λ k. in-joined n f j k o i)
   where
@@ -83,11 +85,13 @@ in-joined (suc n) f j l o i = go (last-or-below n j l) (λ k. in-joined n f j k 
     go (inr k) h = in-left o (joined n f) (f n) (h k)
 
 joined-in : (n : ℕ) (f : ℕ → List (List ℕ)) (o : List ℕ) → In o (joined n f) → (j : ℕ) × (j < n) × In o (f j)
+unfolding joined
 joined-in zero f o i = absurd i
 joined-in (suc n) f o i = ⊎-elim (λ x. let r = joined-in n f o x in (r .0, omega arith, r .2)) (λ x. (n, le-refl _, x))
     (in-either o (joined n f) (f n) i)
 
 sorted-joined : (n : ℕ) (f : ℕ → List (List ℕ)) → ((j : ℕ) → Sorted (f j)) → ((i j : ℕ) → i < j → Before (f i) (f j)) → Sorted (joined n f)
+unfolding joined
 sorted-joined zero f s b = tt
 sorted-joined (suc n) f s b = sorted-append (joined n f) (f n) (sorted-joined n f s b) (s n)
     (λ o p x y. let r = joined-in n f o x in b (r .0) n (r .1) o p (r .2) y)

@@ -1,28 +1,16 @@
--- A row that passes the test is right: one law for every table of rows.
+-- A row that passes the test is right.
 use mathlib.Core.Path.{_≡_, refl, ap₂}
 use mathlib.Core.Bool.{Bool, true, false}
 use mathlib.Core.List.{List, [], _∷_}
-use Prim.Native.Nat.{ℕ, zero, suc, _<_}
-use native.Mathlib.Nat.{le-of-suc-le-suc, not-suc-le-zero}
+use Prim.Native.Nat.{ℕ}
 use lib.Dec.{eqb}
-use lib.ListN.{length, getD}
 use borrow.Author.Tests.{eqb-true}
 use Rattle.counting.proofs.Tests.{and-left, and-right, clash}
 use Rattle.counting.proofs.Ranges.{every-at}
 use Rattle.schedule.specs.Plan.{Sheet, Plan}
 use Rattle.schedule.specs.ListPlan.{listPlan}
 use Rattle.schedule.specs.TieRule.{Answer, wide, circular, planned, answerOf}
-use Rattle.schedule.specs.Rows.{sameTest, sameList, sameAnswer, samePlan, planOf, sheet, Row, answers, places, holds, allHold}
-
--- the two plans have the same starts and the same modules, on the sheet's jobs and modules
-pub record Agree (S : Sheet) (P Q : Plan) : Type 0 where
-  pub starts : (j : ℕ) → j < S .jobs → P .start j ≡ Q .start j
-  pub uses : (j m : ℕ) → j < S .jobs → m < S .modules → P .uses j m ≡ Q .uses j m
-
--- what a row says
-abbrev pub Right : Row → Type 0
-Right (answers S a) = answerOf S ≡ a
-Right (places S o l) = Agree S (listPlan S o) (planOf l)
+use Rattle.schedule.specs.Rows.{sameTest, sameList, sameAnswer, samePlan, planOf, Row, answers, places, Agree, Right, holds}
 
 -- ---- the tests mean equality
 
@@ -57,18 +45,6 @@ plan-same S P Q e = record {
       (and-right (eqb (P .start j) (Q .start j)) _ (every-at (S .jobs) _ e j l)) m k);
 }
 
-holds-right : (r : Row) → holds r ≡ true → Right r
+pub holds-right : (r : Row) → holds r ≡ true → Right r
 holds-right (answers S a) e = answer-same (answerOf S) a e
 holds-right (places S o l) e = plan-same S (listPlan S o) (planOf l) e
-
--- ---- a table
-
--- what stands past a table's end
-abbrev pub noRow : Row
-noRow = answers (sheet [] 0) wide
-
--- Where the test holds of a table, each of its rows is right.
-pub rows-right : (l : List Row) → allHold l ≡ true → (k : ℕ) → k < length l → Right (getD l k noRow)
-rows-right [] e k h = absurd (not-suc-le-zero h)
-rows-right (r ∷ l) e zero h = holds-right r (and-left (holds r) _ e)
-rows-right (r ∷ l) e (suc k) h = rows-right l (and-right (holds r) _ e) k (le-of-suc-le-suc h)

@@ -7,10 +7,8 @@ use mathlib.Core.List.{List, [], _∷_, _++_}
 use Prim.Native.Nat.{ℕ, _+_, _≤_, _<_}
 use native.Mathlib.Omega.{arith}
 use Rattle.counting.proofs.Tests.{true-or-false}
-use Rattle.schedule.specs.Plan.{Sheet, Plan}
+use Rattle.schedule.specs.Plan.{Sheet, Plan, Narrow, Lasting}
 use Rattle.schedule.specs.ListPlan.{PartPlan, noJobs, ready, Follows, startOf, partOf}
-use Rattle.schedule.proofs.Sound.{Narrow}
-use Rattle.schedule.proofs.Timed.{Lasting}
 use Rattle.schedule.proofs.Swept.{CannotBeat}
 use Rattle.schedule.proofs.Branch.{branch-follows, branch-kept, branch-behind}
 use Rattle.schedule.proofs.Settled.{StartsNext, settled-next, Completion, by-plans}

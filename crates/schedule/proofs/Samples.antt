@@ -4,7 +4,7 @@ use mathlib.Core.Path.{_≡_, refl}
 use mathlib.Core.Bool.{true, false}
 use mathlib.Core.List.{List, [], _∷_}
 use Prim.Native.Nat.{ℕ}
-use Rattle.counting.specs.Counting.{sum, largest, every, any}
+use Rattle.counting.specs.Counting.{sum, largest, every, any, joined}
 use Rattle.schedule.specs.Plan.{overWide}
 use Rattle.schedule.specs.ListPlan.{ready, firstMinute, startOf, placeAll}
 use Rattle.schedule.specs.TieRule.{wide, circular, planned, ordersAfter, earliestOf, answerOf}
@@ -87,7 +87,7 @@ answered =
     ∷ []
 
 pub answered-right : allHold answered ≡ true
-unfolding answered sum largest every any overWide ready firstMinute startOf placeAll ordersAfter earliestOf answerOf isValid
+unfolding answered sum largest every any joined overWide ready firstMinute startOf placeAll ordersAfter earliestOf answerOf isValid
 answered-right = refl
 
 pub placed : List Row
@@ -135,7 +135,7 @@ placed =
     ∷ []
 
 pub placed-right : allHold placed ≡ true
-unfolding placed sum largest every any overWide ready firstMinute startOf placeAll ordersAfter earliestOf answerOf isValid
+unfolding placed sum largest every any joined overWide ready firstMinute startOf placeAll ordersAfter earliestOf answerOf isValid
 placed-right = refl
 
 pub plans : List Judged
@@ -203,5 +203,5 @@ plans =
     ∷ []
 
 pub plans-right : allJudged plans ≡ true
-unfolding plans sum largest every any overWide ready firstMinute startOf placeAll ordersAfter earliestOf answerOf isValid
+unfolding plans sum largest every any joined overWide ready firstMinute startOf placeAll ordersAfter earliestOf answerOf isValid
 plans-right = refl

@@ -11,12 +11,12 @@ use Rattle.counting.specs.Counting.{count}
 use Rattle.counting.proofs.Tests.{or-right}
 use Rattle.counting.proofs.Ranges.{le-largest, largest-le}
 use Rattle.counting.proofs.Counts.{count-le}
-use Rattle.schedule.specs.Plan.{Sheet, Plan, finish, planEnd}
+use Rattle.schedule.specs.Plan.{Sheet, Plan, finish, planEnd, Narrow, Lasting}
 use Rattle.schedule.specs.ListPlan.{Order, PartPlan, noJobs, ready, Follows, startOf, place, emptyPart, placeAll, partOf, listPlan}
 use Rattle.schedule.specs.TieRule.{endOf}
 use Rattle.schedule.proofs.Starts.{ready-says, start-may}
-use Rattle.schedule.proofs.Sound.{Narrow, Sound, part-sound, Completes, completes-all, list-plan-valid}
-use Rattle.schedule.proofs.Timed.{Lasting, Timed, KeepsUp, timed-narrow, keep-up}
+use Rattle.schedule.proofs.Sound.{Sound, part-sound, Completes, completes-all, list-plan-valid}
+use Rattle.schedule.proofs.Timed.{Timed, KeepsUp, timed-narrow, keep-up}
 use Rattle.schedule.proofs.Earliest.{valid-timed}
 use Rattle.schedule.proofs.Along.{place-all-append, place-all-keeps, next-start-kept}
 use Rattle.schedule.proofs.Prefixes.{order-split, order-join, end-split, part-count, part-more, follows-more}

@@ -13,14 +13,10 @@ use Rattle.counting.specs.Counting.{only, largest, count}
 use Rattle.counting.proofs.Tests.{true-or-false, clash, and-left, and-right, and-both, only-le}
 use Rattle.counting.proofs.Ranges.{le-largest, largest-le, any-none}
 use Rattle.counting.proofs.Counts.{count-full, count-insert, count-lowest, count-none, count-same}
-use Rattle.schedule.specs.Plan.{Sheet, Valid, finish, planEnd}
-use Rattle.schedule.specs.ListPlan.{Order, PartPlan, noJobs, Follows, occupies, free, lowest, startOf}
+use Rattle.schedule.specs.Plan.{Sheet, Valid, finish, planEnd, Narrow}
+use Rattle.schedule.specs.ListPlan.{Order, PartPlan, noJobs, Follows, occupies, free, lowest, startOf, MayStart}
 use Rattle.schedule.specs.ListPlan.{place, emptyPart, placeAll, partOf, listPlan}
-use Rattle.schedule.proofs.Starts.{Ready, ready-says, MayStart, start-may}
-
--- no job is wider than the cabinet
-abbrev pub Narrow : Sheet → Type 0
-Narrow S = (j : ℕ) → j < S .jobs → S .need j ≤ S .modules
+use Rattle.schedule.proofs.Starts.{Ready, ready-says, start-may}
 
 -- the end of the placed jobs
 abbrev pub partEnd : Sheet → PartPlan → ℕ

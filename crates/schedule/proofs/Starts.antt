@@ -12,7 +12,7 @@ use Rattle.counting.proofs.Tests.{true-or-false, clash, and-left, and-right, an
 use Rattle.counting.proofs.Ranges.{le-largest, largest-le, every-at, every-intro, none-any}
 use Rattle.counting.proofs.Sums.{sum-const, sum-same}
 use Rattle.schedule.specs.Plan.{Sheet, finish}
-use Rattle.schedule.specs.ListPlan.{PartPlan, ready, occupies, free, notBefore, firstMinute, allFreeFrom, startOf}
+use Rattle.schedule.specs.ListPlan.{PartPlan, ready, occupies, free, notBefore, firstMinute, allFreeFrom, startOf, MayStart}
 
 -- ---- the least minute
 
@@ -80,13 +80,6 @@ ready-when S d j r =
 
 -- ---- the minutes at which a job may start, and the least of them
 
--- what document 01 asks of a start
-pub record MayStart (S : Sheet) (P : PartPlan) (j t : ℕ) : Type 0 where
-  pub later : P .last ≤ t
-  pub arrived : S .arrival j ≤ t
-  pub after : (i : ℕ) → i < S .jobs → S .before i j ≡ true → finish S (P .plan) i ≤ t
-  pub room : S .need j ≤ count (S .modules) (free S P t)
-
 -- every module is free once all placed jobs have given up theirs
 pub all-free : (S : Sheet) (P : PartPlan) (t : ℕ) → allFreeFrom S P ≤ t → count (S .modules) (free S P t) ≡ S .modules
 all-free S P t h =
@@ -94,7 +87,8 @@ all-free S P t h =
     (λ m k. ap (λ b. only (not b) 1) (none-any (S .jobs) _ (λ i l. one m i l (true-or-false (occupies S P t i)))))
     ∙ sum-const (S .modules) 1 ∙ (let z : S .modules * 1 ≡ S .modules = omega arith in z)
   where
-    one : (m i : ℕ) → i < S .jobs → (occupies S P t i ≡ true) ⊎ (occupies S P t i ≡ false) → (occupies S P t i && P .plan .uses i m) ≡ false
+    one : (m i : ℕ) → i < S .jobs → (occupies S P t i ≡ true) ⊎ (occupies S P t i ≡ false)
+        → (occupies S P t i && P .plan .uses i m) ≡ false
     one m i l (inr e) = rw e
     one m i l (inl e) =
         let a = and-left (P .placed i) _ e in

@@ -2,21 +2,20 @@
 -- waits for that one waits for it too, the two may as well come the other way round.
 use mathlib.Core.Path.{_≡_, refl, ap, _∙_}
 use mathlib.Core.Logic.{_⊎_, inl, inr, _≢_}
-use mathlib.Core.Bool.{Bool, true, false, _&&_}
+use mathlib.Core.Bool.{Bool, true, false}
 use mathlib.Core.List.{List, [], _∷_, _++_}
 use Prim.Native.Nat.{ℕ, _+_, _≤_, _<_, zero-le}
 use native.Mathlib.Omega.{arith}
 use native.Mathlib.Nat.{le-refl, le-trans}
-use lib.Dec.{eqb, leb}
-use borrow.Author.Tests.{eqb-true, eqb-false, lt-ltb, le-leb, lt-leb, le-ltb}
+use lib.Dec.{eqb}
+use borrow.Author.Tests.{eqb-true, eqb-false}
 use Rattle.counting.specs.Counting.{only}
-use Rattle.counting.proofs.Tests.{true-or-false, clash, less-or-not, and-both}
+use Rattle.counting.proofs.Tests.{true-or-false, clash, less-or-not}
 use Rattle.counting.proofs.Ranges.{le-largest, largest-le}
-use Rattle.schedule.specs.Plan.{Sheet, Plan, finish, planEnd}
+use Rattle.schedule.specs.Plan.{Sheet, Plan, finish, planEnd, Narrow, Lasting}
 use Rattle.schedule.specs.ListPlan.{PartPlan, noJobs, ready, Follows, startOf, partOf}
 use Rattle.schedule.proofs.Starts.{Ready, ready-says, start-may}
-use Rattle.schedule.proofs.Sound.{Narrow}
-use Rattle.schedule.proofs.Timed.{Lasting, runs, runs-on, runs-not-yet, runs-no-more, Timed}
+use Rattle.schedule.proofs.Timed.{runs, runs-on, runs-not-yet, runs-no-more, Timed}
 use Rattle.schedule.proofs.Swept.{CannotBeat}
 use Rattle.schedule.proofs.Branch.{branch-follows, branch-kept, branch-placed, branch-start, branch-behind}
 use Rattle.schedule.proofs.Settled.{StartsNext, settled-next, Completion, by-plans}

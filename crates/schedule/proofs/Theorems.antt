@@ -11,12 +11,11 @@ use borrow.Author.Tests.{ltb-true, lt-ltb, eq-eqb}
 use Rattle.counting.specs.Counting.{count}
 use Rattle.counting.proofs.Tests.{true-or-false, clash, and-left, and-right, and-both}
 use Rattle.counting.proofs.Counts.{count-up}
-use Rattle.schedule.specs.Plan.{Sheet, Plan, Valid, planEnd, overWide, Circular}
-use Rattle.schedule.specs.ListPlan.{PartPlan, free, lowest, startOf, place, partOf, listPlan}
-use Rattle.schedule.specs.TieRule.{endOf, Best, bestOrder, wide, circular, planned, planAnswer, answerOf}
-use Rattle.schedule.proofs.Starts.{MayStart, start-le, start-may}
+use Rattle.schedule.specs.Plan.{Sheet, Plan, Valid, planEnd, overWide, Circular, Lasting}
+use Rattle.schedule.specs.ListPlan.{PartPlan, free, lowest, startOf, place, partOf, listPlan, MayStart}
+use Rattle.schedule.specs.TieRule.{endOf, Best, bestOrder, wide, circular, planned, planAnswer, answerOf, Planned}
+use Rattle.schedule.proofs.Starts.{start-le, start-may}
 use Rattle.schedule.proofs.Sound.{list-plan-valid}
-use Rattle.schedule.proofs.Timed.{Lasting}
 use Rattle.schedule.proofs.Earliest.{matched-end}
 use Rattle.schedule.proofs.Existence.{narrow-says, order-or-circular, order-not-circular, has-plan}
 use Rattle.schedule.proofs.Orders.{best-found, best-order}
@@ -65,13 +64,6 @@ best-earliest S w o b Q v =
     omega (arith, d .2, b .early (d .0) (d .1))
 
 -- ---- the answer of a sheet
-
--- the plan on the card: the tie rule's, valid, and no valid plan ends earlier
-pub record Planned (S : Sheet) (o : List ℕ) (e : ℕ) : Type 0 where
-  pub best : Best S o
-  pub end : e ≡ endOf S o
-  pub valid : Valid S (listPlan S o)
-  pub earliest : (Q : Plan) → Valid S Q → e ≤ planEnd S Q
 
 module _ (S : Sheet) where
   data Case : Type 0 where

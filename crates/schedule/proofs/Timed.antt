@@ -15,15 +15,11 @@ use Rattle.counting.proofs.Tests.{true-or-false, clash, and-left, and-right, an
 use Rattle.counting.proofs.Sums.{sum-le, sum-add, sum-single, le-sum}
 use Rattle.counting.proofs.Ranges.{argmin}
 use Rattle.counting.proofs.Counts.{count-insert, count-full, count-not, count-none}
-use Rattle.schedule.specs.Plan.{Sheet, Plan, finish}
-use Rattle.schedule.specs.ListPlan.{PartPlan, Follows, occupies, startOf, place, placeAll}
-use Rattle.schedule.proofs.Starts.{Ready, ready-when, MayStart, start-le, start-may}
-use Rattle.schedule.proofs.Sound.{Narrow, Sound, place-sound}
-use Rattle.schedule.proofs.Occupied.{occupied, sum-room}
-
--- every job lasts a minute or more
-abbrev pub Lasting : Sheet → Type 0
-Lasting S = (j : ℕ) → j < S .jobs → 0 < S .minutes j
+use Rattle.schedule.specs.Plan.{Sheet, Plan, finish, Narrow, Lasting}
+use Rattle.schedule.specs.ListPlan.{PartPlan, Follows, occupies, startOf, place, placeAll, MayStart, occupied}
+use Rattle.schedule.proofs.Starts.{Ready, ready-when, start-le, start-may}
+use Rattle.schedule.proofs.Sound.{Sound, place-sound}
+use Rattle.schedule.proofs.Occupied.{sum-room}
 
 -- ---- the load of a plan
 

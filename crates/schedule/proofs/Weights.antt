@@ -13,8 +13,7 @@ use Rattle.counting.proofs.Sums.{sum-le, sum-same, sum-add, sum-swap, sum-zero}
 use Rattle.counting.proofs.Intervals.{inside, sum-inside}
 use Rattle.counting.proofs.Ranges.{le-largest}
 use Rattle.schedule.specs.Plan.{Sheet, Plan, finish, planEnd}
-use Rattle.schedule.specs.ListPlan.{PartPlan, occupies}
-use Rattle.schedule.proofs.Occupied.{occupied}
+use Rattle.schedule.specs.ListPlan.{PartPlan, occupies, occupied}
 use Rattle.schedule.proofs.Timed.{runs, Timed}
 
 -- no set of jobs that fits on x modules weighs more than K x

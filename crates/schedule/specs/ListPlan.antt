@@ -2,10 +2,10 @@
 use mathlib.Core.Path.{_≡_}
 use mathlib.Core.Bool.{Bool, true, false, not, cond, _&&_, _||_}
 use mathlib.Core.List.{List, [], _∷_}
-use Prim.Native.Nat.{ℕ, zero, suc, _+_, max}
+use Prim.Native.Nat.{ℕ, zero, suc, _+_, _≤_, _<_, max}
 use lib.Dec.{ltb, leb, eqb}
 use lib.ListN.{length}
-use Rattle.counting.specs.Counting.{only, largest, every, any, count}
+use Rattle.counting.specs.Counting.{only, sum, largest, every, any, count}
 use Rattle.schedule.specs.Plan.{Sheet, Plan, finish}
 
 -- ---- orders
@@ -32,6 +32,11 @@ pub record Order (S : Sheet) (o : List ℕ) : Type 0 where
   pub all : length o ≡ S .jobs
   pub follows : Follows S noJobs o
 
+-- how often j stands in o: once, in an order (`order-once`)
+abbrev pub times : ℕ → List ℕ → ℕ
+times j [] = 0
+times j (i ∷ o) = only (eqb j i) 1 + times j o
+
 -- ---- part-plans
 
 -- Document 01: part-plan. The jobs placed so far, their part of the plan, and "the previous job's start" (0 for the first).
@@ -48,7 +53,21 @@ occupies S P t i = P .placed i && ltb t (finish S (P .plan) i + S .rest)
 abbrev pub free : Sheet → PartPlan → ℕ → ℕ → Bool
 free S P t m = not (any (S .jobs) (λ i. occupies S P t i && P .plan .uses i m))
 
--- "no earlier than the previous job's start", "no earlier than the ends of its earlier jobs", and not before its arrival
+-- how many modules the placed jobs need at minute t
+unfoldable pub occupied : Sheet → PartPlan → ℕ → ℕ
+occupied S P t = sum (S .jobs) (λ i. only (occupies S P t i) (S .need i))
+
+-- what document 01 asks of a start: job j may start at minute t
+pub record MayStart (S : Sheet) (P : PartPlan) (j t : ℕ) : Type 0 where
+  -- "no earlier than the previous job's start in that order"
+  pub later : P .last ≤ t
+  pub arrived : S .arrival j ≤ t
+  -- "no earlier than the ends of its earlier jobs"
+  pub after : (i : ℕ) → i < S .jobs → S .before i j ≡ true → finish S (P .plan) i ≤ t
+  -- "at which enough modules are free of the jobs already placed"
+  pub room : S .need j ≤ count (S .modules) (free S P t)
+
+-- the least of these minutes, computed: not before the previous job's start, the job's arrival and the ends of its earlier jobs
 abbrev pub notBefore : Sheet → PartPlan → ℕ → ℕ
 notBefore S P j =
     max (P .last) (max (S .arrival j) (largest (S .jobs) (λ i. only (S .before i j) (finish S (P .plan) i))))
@@ -62,7 +81,8 @@ firstMinute p (suc k) t = elim (p t) [ true ↦ t | false ↦ firstMinute p k (s
 abbrev pub allFreeFrom : Sheet → PartPlan → ℕ
 allFreeFrom S P = largest (S .jobs) (λ i. only (P .placed i) (finish S (P .plan) i + S .rest))
 
--- "A job's start is the least minute that is no earlier than … and at which enough modules are free of the jobs already placed."
+-- "A job's start is the least minute that is no earlier than … and at which enough modules are free of the jobs already placed":
+-- `start-least` says that it is the least at which the job may start.
 unfoldable pub startOf : Sheet → PartPlan → ℕ → ℕ
 startOf S P j = firstMinute (λ t. leb (S .need j) (count (S .modules) (free S P t))) (allFreeFrom S P) (notBefore S P j)
 

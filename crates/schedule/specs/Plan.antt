@@ -49,6 +49,18 @@ planEnd S P = largest (S .jobs) (finish S P)
 unfoldable pub overWide : Sheet → Bool
 overWide S = any (S .jobs) (λ j. ltb (S .modules) (S .need j))
 
+-- no job is wider than the cabinet
+abbrev pub Narrow : Sheet → Type 0
+Narrow S = (j : ℕ) → j < S .jobs → S .need j ≤ S .modules
+
+-- every job takes a minute or more, as in every sheet that reads
+abbrev pub Lasting : Sheet → Type 0
+Lasting S = (j : ℕ) → j < S .jobs → 0 < S .minutes j
+
+-- every job needs a module or more, as in every sheet that reads
+abbrev pub Needing : Sheet → Type 0
+Needing S = (j : ℕ) → j < S .jobs → 0 < S .need j
+
 -- job i must have ended before job j starts, "directly or through others"
 pub data MustPrecede (S : Sheet) : ℕ → ℕ → Type 0 where
   directly : {i j : ℕ} → i < S .jobs → j < S .jobs → S .before i j ≡ true → MustPrecede S i j

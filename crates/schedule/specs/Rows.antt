@@ -1,7 +1,8 @@
--- Worked examples as rows: a sheet and plan written out as lists, and the test that a row is right.
+-- Worked examples as rows: a sheet and plan written out as lists, what a row says, and the same as a test.
+use mathlib.Core.Path.{_≡_}
 use mathlib.Core.Bool.{Bool, true, false, not, _&&_, _||_}
 use mathlib.Core.List.{List, [], _∷_}
-use Prim.Native.Nat.{ℕ}
+use Prim.Native.Nat.{ℕ, _<_}
 use lib.Dec.{eqb}
 use lib.ListN.{length, getD}
 use Rattle.counting.specs.Counting.{every}
@@ -60,6 +61,23 @@ planOf l = record {
 
 -- ---- rows
 
+-- `answers`: planning the sheet answers so. `places`: the list plan of the order has these starts and modules.
+pub data Row : Type 0 where
+  answers : Sheet → Answer → Row
+  places : Sheet → List ℕ → List Slot → Row
+
+-- the two plans have the same starts and the same modules, on the sheet's jobs and modules
+pub record Agree (S : Sheet) (P Q : Plan) : Type 0 where
+  pub starts : (j : ℕ) → j < S .jobs → P .start j ≡ Q .start j
+  pub uses : (j m : ℕ) → j < S .jobs → m < S .modules → P .uses j m ≡ Q .uses j m
+
+-- what a row says
+abbrev pub Right : Row → Type 0
+Right (answers S a) = answerOf S ≡ a
+Right (places S o l) = Agree S (listPlan S o) (planOf l)
+
+-- ---- the same as a test
+
 abbrev pub sameTest : Bool → Bool → Bool
 sameTest true b = b
 sameTest false b = not b
@@ -85,11 +103,6 @@ sameAnswer (planned o e) (planned p f) = eqb e f && sameList o p
 abbrev pub samePlan : Sheet → Plan → Plan → Bool
 samePlan S P Q =
     every (S .jobs) (λ j. eqb (P .start j) (Q .start j) && every (S .modules) (λ m. sameTest (P .uses j m) (Q .uses j m)))
-
--- `answers`: planning the sheet answers so. `places`: the list plan of the order has these starts and modules.
-pub data Row : Type 0 where
-  answers : Sheet → Answer → Row
-  places : Sheet → List ℕ → List Slot → Row
 
 abbrev pub holds : Row → Bool
 holds (answers S a) = sameAnswer (answerOf S) a

@@ -2,11 +2,12 @@
 use mathlib.Core.Path.{_≡_}
 use mathlib.Core.Logic.{_⊎_}
 use mathlib.Core.Bool.{Bool, true, false, cond}
-use mathlib.Core.List.{List, [], _∷_, _++_}
+use mathlib.Core.List.{List, [], _∷_}
 use mathlib.Core.Option.{Option, none, some}
 use Prim.Native.Nat.{ℕ, zero, suc, _≤_, _<_}
 use lib.Dec.{leb}
-use Rattle.schedule.specs.Plan.{Sheet, planEnd, overWide}
+use Rattle.counting.specs.Counting.{joined}
+use Rattle.schedule.specs.Plan.{Sheet, Plan, Valid, planEnd, overWide}
 use Rattle.schedule.specs.ListPlan.{Order, noJobs, placing, ready, listPlan}
 
 -- the end of the list plan of an order
@@ -26,11 +27,6 @@ pub record Best (S : Sheet) (o : List ℕ) : Type 0 where
   pub first : (p : List ℕ) → Order S p → endOf S p ≡ endOf S o → DictionaryLe o p
 
 -- ---- the same, computed: every order in turn
-
--- f 0, then f 1, and so on below n, one behind another
-abbrev pub joined : ℕ → (ℕ → List (List ℕ)) → List (List ℕ)
-joined zero f = []
-joined (suc n) f = joined n f ++ f n
 
 -- each list with j in front
 abbrev pub headed : ℕ → List (List ℕ) → List (List ℕ)
@@ -61,3 +57,10 @@ planAnswer S (some o) = planned o (endOf S o)
 
 unfoldable pub answerOf : Sheet → Answer
 answerOf S = elim (overWide S) [ true ↦ wide | false ↦ planAnswer S (bestOrder S) ]
+
+-- the plan on the card: the tie rule's, valid, and no valid plan ends earlier
+pub record Planned (S : Sheet) (o : List ℕ) (e : ℕ) : Type 0 where
+  pub best : Best S o
+  pub end : e ≡ endOf S o
+  pub valid : Valid S (listPlan S o)
+  pub earliest : (Q : Plan) → Valid S Q → e ≤ planEnd S Q

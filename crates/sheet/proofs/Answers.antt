@@ -9,16 +9,17 @@ use lib.ListN.{length, take}
 use lib.Seq.{length-take-le}
 use borrow.Author.Tests.{ltb-false, eqb-true, ne-eqb, not-false}
 use Rattle.counting.proofs.Ranges.{any-none}
+use Rattle.checking.specs.Checking.{firstFailing}
+use Rattle.checking.proofs.Order.{all-passed, none-failing, first-in-front, first-behind}
 use Rattle.sheet_format.specs.declared.Job.{Job}
 use Rattle.sheet.specs.declared.Reading.{Reading}
 use Rattle.sheet_format.specs.Figures.{mostJobs, mostModules, longestSheet, recordSize, trailerSize}
 use Rattle.sheet_format.specs.Format.{jobFrom, jobOf, labelsOf, labelLengths, offsetOf, countOf, modulesOf}
-use Rattle.sheet_format.specs.Checks.{firstFailing, faulty, someFaulty, wrongBytes, contentChecks}
+use Rattle.sheet_format.specs.Checks.{faulty, someFaulty, wrongBytes, contentChecks}
 use Rattle.sheet.specs.Read.{readChecks, readRefusal, answered, refused, reading}
 use Rattle.sheet_format.specs.Checks.{trailerChecks}
 use Rattle.sheet_format.specs.Format.{places}
 use Rattle.sheet_format.proofs.Bounds.{inside}
-use Rattle.sheet_format.proofs.Order.{all-passed, none-failing, first-in-front, first-behind}
 
 -- what the checks 1 to 4 say where they pass
 pub record Trailer (s : List ℕ) : Type 0 where

@@ -8,19 +8,21 @@ use native.Mathlib.Omega.{arith}
 use lib.Dec.{leb, lit≤}
 use lib.ListN.{length, replicate, List·getD-eq-default}
 use borrow.Author.Tests.{leb-false}
-use Rattle.counting.specs.Counting.{sum, any}
+use Rattle.counting.specs.Counting.{sum, any, joined}
 use Rattle.counting.proofs.Tests.{less-or-not}
 use Rattle.counting.proofs.Ranges.{any-none}
+use Rattle.checking.specs.Checking.{firstFailing}
 use Rattle.sheet_format.specs.declared.Job.{Job}
-use Rattle.sheet_format.specs.Format.{byteAt, u16At, u32At, recordAt, recordBytes, trailerBytes, joined, sheetBytes, jobsIn}
+use Rattle.sheet_format.specs.Format.{byteAt, u16At, u32At, recordAt, recordBytes, trailerBytes, sheetBytes, jobsIn}
 use Rattle.sheet_format.specs.Format.{places}
-use Rattle.sheet_format.specs.Checks.{outside, faulty, firstFailing}
+use Rattle.sheet_format.specs.Checks.{outside, faulty}
 use Rattle.sheet.specs.declared.Reading.{Reading}
 use Rattle.sheet.specs.Read.{answered, reading}
 use Rattle.sheet.specs.Label.{labelRefusal, labelOf}
 use Rattle.sheet.specs.Write.{over, writeAnswer, writeLeaves}
-use Rattle.sheet.proofs.WrittenReads.{written-sheet, written-reads}
-use Rattle.sheet.proofs.ReadIsWritten.{rewrite-leaves, read-is-written-bytes}
+use Rattle.sheet.specs.RoundTrip.{writtenSheet, rewriteLeaves}
+use Rattle.sheet.proofs.WrittenReads.{written-reads}
+use Rattle.sheet.proofs.ReadIsWritten.{read-is-written-bytes}
 
 -- ---- E1
 
@@ -64,7 +66,7 @@ e1-answered : writeAnswer (jobsIn jobs) 3 labels 2 (replicate 45 7) .refusal ≡
 unfolding labels jobs job writeAnswer firstFailing outside faulty any sum sheetBytes
 e1-answered = refl
 
-pub e1-back : reading (written-sheet (jobsIn jobs) 3 labels 2 (replicate 45 7)) ≡ answered 3 (jobsIn jobs) 2
+pub e1-back : reading (writtenSheet (jobsIn jobs) 3 labels 2 (replicate 45 7)) ≡ answered 3 (jobsIn jobs) 2
 e1-back = written-reads (jobsIn jobs) 3 labels 2 (replicate 45 7) e1-answered
 
 -- ---- 5 before 6 before 7
@@ -111,5 +113,5 @@ e1-fits : length e1 ≤ length (replicate {A = ℕ} 45 7)
 unfolding e1 labels
 e1-fits = lit≤ tt
 
-pub e1-again : rewrite-leaves e1 (reading e1) (replicate 45 7) ≡ over e1 (replicate 45 7)
+pub e1-again : rewriteLeaves e1 (reading e1) (replicate 45 7) ≡ over e1 (replicate 45 7)
 e1-again = read-is-written-bytes e1 e1-bytes e1-answers (replicate 45 7) e1-fits

@@ -9,12 +9,13 @@ use lib.ListN.{length, getD, take, drop}
 use borrow.Author.Tests.{leb-false, le-leb, lt-leb, ne-eqb}
 use Rattle.counting.specs.Counting.{sum}
 use Rattle.counting.proofs.Sums.{sum-up}
+use Rattle.checking.specs.Checking.{firstFailing}
+use Rattle.checking.proofs.Order.{all-passed, none-failing, first-in-front, first-behind}
 use Rattle.sheet_format.specs.Figures.{recordSize}
 use Rattle.sheet_format.specs.Format.{recordAt, labelLength, labelLengths, jobFrom, jobOf, offsetOf, countOf}
-use Rattle.sheet_format.specs.Checks.{firstFailing, noSuchJob}
+use Rattle.sheet_format.specs.Checks.{noSuchJob}
 use Rattle.sheet.specs.Read.{readChecks, readRefusal}
 use Rattle.sheet.specs.Label.{labelChecks, labelRefusal, labelStart, labelOf, labelAt}
-use Rattle.sheet_format.proofs.Order.{all-passed, none-failing, first-in-front, first-behind}
 use Rattle.sheet.proofs.Answers.{Reads, reads}
 
 module _ (s : List ℕ) (job : ℕ) where

@@ -6,11 +6,12 @@ use native.Mathlib.Nat.{add-zero}
 use native.Mathlib.Omega.{arith}
 use lib.ListN.{length, take, length-append}
 use lib.Seq.{take-append-seam}
+use Rattle.counting.specs.Counting.{joined}
+use Rattle.counting.proofs.Joins.{joined-split}
 use Rattle.sheet_format.specs.declared.Job.{Job}
 use Rattle.sheet_format.specs.Figures.{recordSize}
-use Rattle.sheet_format.specs.Format.{u16At, u32At, recordAt, recordBytes, trailerBytes, joined, sheetBytes}
+use Rattle.sheet_format.specs.Format.{u16At, u32At, recordAt, recordBytes, trailerBytes, sheetBytes}
 use Rattle.sheet_format.specs.Format.{trailerAt, offsetOf, countOf, modulesOf, jobOf, labelsOf}
-use Rattle.sheet_format.proofs.Lists.{joined-split}
 use Rattle.sheet_format.proofs.Parts.{length-records}
 use Rattle.sheet_format.proofs.Digits.{record-read, trailer-read, u16-behind, u32-behind, record-behind}
 use Rattle.sheet.proofs.Writes.{length-sheet}

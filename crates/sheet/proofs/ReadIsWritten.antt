@@ -7,23 +7,24 @@ use native.Mathlib.Omega.{arith}
 use lib.ListN.{length, take, drop, length-drop, take-append-drop}
 use lib.Seq.{take-add, take-all, drop-drop, length-take-le}
 use borrow.Author.Tests.{le-ltb, eq-eqb}
-use Rattle.counting.specs.Counting.{sum}
+use Rattle.counting.specs.Counting.{sum, joined}
 use Rattle.counting.proofs.Sums.{sum-same}
 use Rattle.counting.proofs.Ranges.{none-any}
+use Rattle.counting.proofs.Joins.{joined-same}
+use Rattle.checking.proofs.Order.{none-failing}
 use Rattle.sheet_format.specs.declared.Job.{Job}
 use Rattle.sheet_format.specs.Figures.{mostJobs, mostModules, recordSize, trailerSize}
-use Rattle.sheet_format.specs.Format.{byteAt, recordBytes, trailerBytes, joined, labelLength, labelLengths, sheetBytes}
+use Rattle.sheet_format.specs.Format.{byteAt, recordBytes, trailerBytes, labelLength, labelLengths, sheetBytes}
 use Rattle.sheet_format.specs.Format.{jobsIn, places, trailerAt, offsetOf, countOf, modulesOf, jobOf, labelsOf}
 use Rattle.sheet_format.specs.Checks.{faulty}
 use Rattle.sheet_format.proofs.Bounds.{not-outside}
-use Rattle.sheet_format.proofs.Order.{none-failing}
-use Rattle.sheet_format.proofs.Lists.{joined-same, job-in-place}
+use Rattle.sheet_format.proofs.Lists.{job-in-place}
 use Rattle.sheet_format.proofs.Digits.{record-back, trailer-back}
 use Rattle.sheet.specs.declared.Reading.{Reading}
-use Rattle.sheet.specs.declared.Written.{Written}
 use Rattle.sheet.specs.Read.{readRefusal, reading}
 use Rattle.sheet.specs.Label.{labelRefusal, labelOf}
 use Rattle.sheet.specs.Write.{over, writeChecks, writeRefusal, writeAnswer, writeLeaves}
+use Rattle.sheet.specs.RoundTrip.{rewriteAnswer, rewriteLeaves}
 use Rattle.sheet.proofs.Answers.{read-number, read-answer, reads}
 use Rattle.sheet.proofs.Labels.{label-there}
 
@@ -123,30 +124,23 @@ module _ (s : List ℕ) (e : readRefusal s ≡ 0) where
       unfolding writeLeaves
       leaves-again = rw writes-again (ap (λ (x : List ℕ). over x out) (sheet-again jobs same))
 
--- writing what reading answered, with the labels that the label call shows, run together
-abbrev pub rewrite-answer : List ℕ → Reading → List ℕ → Written
-rewrite-answer s r out = writeAnswer (jobsIn (r .jobs)) (r .count) (joined (r .count) (labelOf s)) (r .modules) out
-
-abbrev pub rewrite-leaves : List ℕ → Reading → List ℕ → List ℕ
-rewrite-leaves s r out = writeLeaves (jobsIn (r .jobs)) (r .count) (joined (r .count) (labelOf s)) (r .modules) out
-
 module _ (s : List ℕ) (bytes : (i : ℕ) → byteAt s i < 256) (answered-0 : reading s .refusal ≡ 0) (out : List ℕ)
     (room : length s ≤ length out) where
   reads-0 : readRefusal s ≡ 0
   reads-0 = sym (read-number s) ∙ answered-0
 
   -- the length is that of the sheet
-  pub read-is-written : rewrite-answer s (reading s) out ≡ record { refusal = 0; length = length s }
+  pub read-is-written : rewriteAnswer s (reading s) out ≡ record { refusal = 0; length = length s }
   read-is-written =
-      ap (λ (r : Reading). rewrite-answer s r out) (read-answer s reads-0)
+      ap (λ (r : Reading). rewriteAnswer s r out) (read-answer s reads-0)
       ∙ ap (λ (ls : List ℕ). writeAnswer (jobsIn (places (countOf s) (jobOf s))) (countOf s) ls (modulesOf s) out)
       (labels-are s reads-0)
       ∙ answer-again s reads-0 bytes out room (jobsIn (places (countOf s) (jobOf s))) (job-in-place (countOf s) (jobOf s))
 
   -- and the bytes are the sheet, over what was in the buffer
-  pub read-is-written-bytes : rewrite-leaves s (reading s) out ≡ over s out
+  pub read-is-written-bytes : rewriteLeaves s (reading s) out ≡ over s out
   read-is-written-bytes =
-      ap (λ (r : Reading). rewrite-leaves s r out) (read-answer s reads-0)
+      ap (λ (r : Reading). rewriteLeaves s r out) (read-answer s reads-0)
       ∙ ap (λ (ls : List ℕ). writeLeaves (jobsIn (places (countOf s) (jobOf s))) (countOf s) ls (modulesOf s) out)
       (labels-are s reads-0)
       ∙ leaves-again s reads-0 bytes out room (jobsIn (places (countOf s) (jobOf s))) (job-in-place (countOf s) (jobOf s))

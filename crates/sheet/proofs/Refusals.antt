@@ -5,12 +5,12 @@ use mathlib.Core.Bool.{Bool, true, false, cond}
 use mathlib.Core.List.{List}
 use Prim.Native.Nat.{ℕ, _<_}
 use lib.Dec.{eqb}
-use lib.ListN.{length, getD}
+use lib.ListN.{length}
 use borrow.Author.Tests.{eqb-true, ne-eqb}
+use Rattle.checking.specs.Checking.{FirstFails, NoneFails}
+use Rattle.checking.proofs.Order.{refused-exactly, answered-exactly}
 use Rattle.sheet_format.specs.declared.Job.{Job}
 use Rattle.sheet_format.specs.Format.{sheetBytes}
-use Rattle.sheet_format.specs.Checks.{FirstFails}
-use Rattle.sheet_format.proofs.Order.{refused-exactly, answered-exactly}
 use Rattle.sheet.specs.declared.Written.{Written}
 use Rattle.sheet.specs.Read.{readChecks, readRefusal, refused, reading}
 use Rattle.sheet.specs.Label.{labelChecks, labelRefusal}
@@ -26,8 +26,7 @@ pub read-refused : (s : List ℕ) (k : ℕ) → 0 < k → (reading s .refusal �
 read-refused s k h = same-number (reading s .refusal) (readRefusal s) k (read-number s) (refused-exactly (readChecks s) k h)
 
 -- and answers exactly when all pass
-pub read-answered : (s : List ℕ)
-    → (reading s .refusal ≡ 0) ↔ ((i : ℕ) → i < length (readChecks s) → getD (readChecks s) i (0, false) .1 ≡ false)
+pub read-answered : (s : List ℕ) → (reading s .refusal ≡ 0) ↔ NoneFails (readChecks s)
 read-answered s = same-number (reading s .refusal) (readRefusal s) 0 (read-number s) (answered-exactly (readChecks s) refl)
 
 -- a refused reading: every other figure is 0
@@ -41,8 +40,7 @@ read-refused-figures s h =
 pub label-refused : (s : List ℕ) (job k : ℕ) → 0 < k → (labelRefusal s job ≡ k) ↔ FirstFails (labelChecks s job) k
 label-refused s job k h = refused-exactly (labelChecks s job) k h
 
-pub label-answered : (s : List ℕ) (job : ℕ)
-    → (labelRefusal s job ≡ 0) ↔ ((i : ℕ) → i < length (labelChecks s job) → getD (labelChecks s job) i (0, false) .1 ≡ false)
+pub label-answered : (s : List ℕ) (job : ℕ) → (labelRefusal s job ≡ 0) ↔ NoneFails (labelChecks s job)
 label-answered s job = answered-exactly (labelChecks s job) refl
 
 module _ (jobs : ℕ → Job) (n : ℕ) (labels : List ℕ) (N : ℕ) (out : List ℕ) where
@@ -64,9 +62,7 @@ module _ (jobs : ℕ → Job) (n : ℕ) (labels : List ℕ) (N : ℕ) (out : Lis
       same-number _ (writeRefusal jobs n labels N (length out)) k write-number
       (refused-exactly (writeChecks jobs n labels N (length out)) k h)
 
-  pub write-answered : (writeAnswer jobs n labels N out .refusal ≡ 0)
-      ↔ ((i : ℕ) → i < length (writeChecks jobs n labels N (length out))
-      → getD (writeChecks jobs n labels N (length out)) i (0, false) .1 ≡ false)
+  pub write-answered : (writeAnswer jobs n labels N out .refusal ≡ 0) ↔ NoneFails (writeChecks jobs n labels N (length out))
   write-answered =
       same-number _ (writeRefusal jobs n labels N (length out)) 0 write-number
       (answered-exactly (writeChecks jobs n labels N (length out)) refl)

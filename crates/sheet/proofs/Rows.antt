@@ -1,8 +1,9 @@
 -- A sheet's row in a table: its bytes, and the figures that reading and the label call give of it.
 use mathlib.Core.List.{List, [], _∷_, _++_}
 use Prim.Native.Nat.{ℕ, _+_}
+use Rattle.counting.specs.Counting.{joined}
 use Rattle.sheet_format.specs.declared.Job.{Job}
-use Rattle.sheet_format.specs.Format.{joined, jobsIn}
+use Rattle.sheet_format.specs.Format.{jobsIn}
 use Rattle.sheet.specs.declared.Reading.{Reading}
 use Rattle.sheet.specs.Read.{reading}
 use Rattle.sheet.specs.Label.{labelRefusal, labelOf}

@@ -2,9 +2,10 @@
 -- Written by that model: its rows are compared with these by the gate.
 use mathlib.Core.Path.{_≡_, refl}
 use mathlib.Core.List.{List, [], _∷_}
-use Rattle.counting.specs.Counting.{sum, any}
-use Rattle.sheet_format.specs.Format.{u16At, u32At, recordAt, joined, places}
-use Rattle.sheet_format.specs.Checks.{outside, faulty, firstFailing}
+use Rattle.counting.specs.Counting.{sum, any, joined}
+use Rattle.checking.specs.Checking.{firstFailing}
+use Rattle.sheet_format.specs.Format.{u16At, u32At, recordAt, places}
+use Rattle.sheet_format.specs.Checks.{outside, faulty}
 use Rattle.sheet.specs.Read.{reading}
 use Rattle.sheet.specs.Label.{labelOf}
 use Rattle.sheet.proofs.Rows.{Row, row, found, told}

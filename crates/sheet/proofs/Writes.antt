@@ -8,16 +8,18 @@ use lib.Dec.{eqb}
 use lib.ListN.{length, drop, length-append}
 use borrow.Author.Tests.{ltb-false, lt-ltb, le-ltb, eqb-true, ne-eqb, not-false}
 use borrow.Rule.Slice.PartMut.{putMid}
+use Rattle.counting.specs.Counting.{joined}
 use Rattle.counting.proofs.Ranges.{any-none}
 use Rattle.counting.proofs.Sums.{sum-most}
+use Rattle.checking.specs.Checking.{firstFailing}
+use Rattle.checking.proofs.Order.{all-passed, first-in-front, first-behind}
 use Rattle.sheet_format.specs.declared.Job.{Job}
 use Rattle.sheet.specs.declared.Written.{Written}
 use Rattle.sheet_format.specs.Figures.{mostJobs, mostModules, recordSize, trailerSize, longestLabel}
-use Rattle.sheet_format.specs.Format.{joined, recordBytes, trailerBytes, sheetBytes, labelLength, labelLengths}
-use Rattle.sheet_format.specs.Checks.{firstFailing, faulty, someFaulty, wrongModules, wrongBytes, tooShort, contentChecks}
+use Rattle.sheet_format.specs.Format.{recordBytes, trailerBytes, sheetBytes, labelLength, labelLengths}
+use Rattle.sheet_format.specs.Checks.{faulty, someFaulty, wrongModules, wrongBytes, tooShort, contentChecks}
 use Rattle.sheet.specs.Write.{over, writeChecks, writeRefusal, writeAnswer, writeLeaves}
 use Rattle.sheet_format.proofs.Bounds.{inside, legal}
-use Rattle.sheet_format.proofs.Order.{all-passed, first-in-front, first-behind}
 use Rattle.sheet_format.proofs.Parts.{part-more, length-records}
 
 -- ---- lengths

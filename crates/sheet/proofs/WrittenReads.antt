@@ -7,33 +7,26 @@ use native.Mathlib.Omega.{arith}
 use lib.ListN.{length, take, drop, length-drop}
 use lib.Seq.{take-append-seam, take-append-le, drop-append-le}
 use borrow.Author.Tests.{le-ltb, eq-eqb}
-use Rattle.counting.specs.Counting.{sum}
+use Rattle.counting.specs.Counting.{sum, joined}
 use Rattle.counting.proofs.Sums.{sum-same, sum-up}
 use Rattle.counting.proofs.Ranges.{none-any}
+use Rattle.checking.proofs.Order.{none-failing}
 use Rattle.sheet_format.specs.declared.Job.{Job}
 use Rattle.sheet_format.specs.Figures.{mostJobs, mostModules, longestSheet, recordSize, trailerSize}
-use Rattle.sheet_format.specs.Format.{recordBytes, trailerBytes, joined, labelLength, labelLengths, sheetBytes}
+use Rattle.sheet_format.specs.Format.{recordBytes, trailerBytes, labelLength, labelLengths, sheetBytes}
 use Rattle.sheet_format.specs.Format.{offsetOf, countOf, jobOf, labelsOf}
 use Rattle.sheet_format.specs.Checks.{outside, faulty, wrongBytes}
 use Rattle.sheet_format.proofs.Bounds.{not-outside}
-use Rattle.sheet_format.proofs.Order.{none-failing}
 use Rattle.sheet_format.proofs.Lists.{places-same}
 use Rattle.sheet.specs.Read.{readChecks, readRefusal, answered, reading}
 use Rattle.sheet.specs.Label.{labelRefusal, labelOf}
 use Rattle.sheet.specs.Write.{writeRefusal, writeAnswer, writeLeaves}
+use Rattle.sheet.specs.RoundTrip.{writtenSheet, labelIn}
 use Rattle.sheet.proofs.Answers.{read-answer}
 use Rattle.sheet.proofs.Labels.{label-there}
 use Rattle.sheet.proofs.Writes.{length-sheet, Writes, writes}
 use Rattle.sheet.proofs.Refusals.{write-number}
 use Rattle.sheet.proofs.Layouts.{offset-is, count-is, modules-is, labels-is, job-is}
-
--- what writing leaves, up to the length that it answers
-abbrev pub written-sheet : (ℕ → Job) → ℕ → List ℕ → ℕ → List ℕ → List ℕ
-written-sheet jobs n labels N out = take (writeAnswer jobs n labels N out .length) (writeLeaves jobs n labels N out)
-
--- the label of job i, cut from the labels run together
-abbrev pub label-in : (ℕ → Job) → List ℕ → ℕ → List ℕ
-label-in jobs labels i = take (labelLength (jobs i)) (drop (labelLengths i jobs) labels)
 
 module _ (jobs : ℕ → Job) (n : ℕ) (labels : List ℕ) (N room : ℕ) (w : Writes jobs n labels N room) where
   abbrev sheet : List ℕ
@@ -82,7 +75,7 @@ module _ (jobs : ℕ → Job) (n : ℕ) (labels : List ℕ) (N room : ℕ) (w : 
       ∙ ap (λ (js : List Job). record { refusal = 0; jobs = js; count = n; modules = N })
       (places-same n (jobOf sheet) jobs (job-is jobs n labels N))
 
-  label-back : (i : ℕ) → i < n → (labelRefusal sheet i ≡ 0) × (labelOf sheet i ≡ label-in jobs labels i)
+  label-back : (i : ℕ) → i < n → (labelRefusal sheet i ≡ 0) × (labelOf sheet i ≡ labelIn jobs labels i)
   unfolding labelOf sheetBytes sum
   label-back i l =
       let there : labelRefusal sheet i ≡ 0 = sym (label-there sheet i reads-back (omega (arith, count-is jobs n labels N))) in
@@ -104,7 +97,7 @@ module _ (jobs : ℕ → Job) (n : ℕ) (labels : List ℕ) (N : ℕ) (out : Lis
   legal-jobs : Writes jobs n labels N (length out)
   legal-jobs = writes jobs n labels N (length out) 0 (sym (sym (write-number jobs n labels N out) ∙ answered-0)) refl
 
-  written-is : written-sheet jobs n labels N out ≡ sheetBytes jobs n labels N
+  written-is : writtenSheet jobs n labels N out ≡ sheetBytes jobs n labels N
   unfolding writeAnswer writeLeaves
   written-is =
       let e : writeRefusal jobs n labels N (length out) ≡ 0 = sym (write-number jobs n labels N out) ∙ answered-0 in
@@ -112,12 +105,12 @@ module _ (jobs : ℕ → Job) (n : ℕ) (labels : List ℕ) (N : ℕ) (out : Lis
       rw e (take-append-seam s (drop (length s) out))
 
   -- the jobs, n and N
-  pub written-reads : reading (written-sheet jobs n labels N out) ≡ answered n jobs N
+  pub written-reads : reading (writtenSheet jobs n labels N out) ≡ answered n jobs N
   written-reads = ap reading written-is ∙ answer-back jobs n labels N (length out) legal-jobs
 
   -- and each label
-  pub written-label : (i : ℕ) → i < n → (labelRefusal (written-sheet jobs n labels N out) i ≡ 0)
-      × (labelOf (written-sheet jobs n labels N out) i ≡ label-in jobs labels i)
+  pub written-label : (i : ℕ) → i < n → (labelRefusal (writtenSheet jobs n labels N out) i ≡ 0)
+      × (labelOf (writtenSheet jobs n labels N out) i ≡ labelIn jobs labels i)
   written-label i l =
       let b = label-back jobs n labels N (length out) legal-jobs i l in
       (ap (λ (s : List ℕ). labelRefusal s i) written-is ∙ b .0, ap (λ (s : List ℕ). labelOf s i) written-is ∙ b .1)

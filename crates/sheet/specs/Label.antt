@@ -4,8 +4,9 @@ use mathlib.Core.List.{List, [], _∷_, _++_}
 use Prim.Native.Nat.{ℕ}
 use lib.Dec.{eqb}
 use lib.ListN.{take, drop}
+use Rattle.checking.specs.Checking.{Check, firstFailing}
 use Rattle.sheet_format.specs.Format.{labelLength, labelLengths, jobOf, countOf}
-use Rattle.sheet_format.specs.Checks.{Check, firstFailing, noSuchJob}
+use Rattle.sheet_format.specs.Checks.{noSuchJob}
 use Rattle.sheet.specs.Read.{readChecks}
 
 -- labels check 1 to 7, then 14

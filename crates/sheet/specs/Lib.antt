@@ -2,3 +2,4 @@
 pub mod Read
 pub mod Label
 pub mod Write
+pub mod RoundTrip

@@ -3,10 +3,11 @@ use mathlib.Core.Bool.{cond}
 use mathlib.Core.List.{List, _++_}
 use Prim.Native.Nat.{ℕ}
 use lib.Dec.{eqb}
+use Rattle.checking.specs.Checking.{Check, firstFailing}
 use Rattle.sheet_format.specs.declared.Job.{Job}
 use Rattle.sheet.specs.declared.Reading.{Reading}
 use Rattle.sheet_format.specs.Format.{noJobs, places, jobOf, labelsOf, countOf, modulesOf}
-use Rattle.sheet_format.specs.Checks.{Check, firstFailing, trailerChecks, contentChecks}
+use Rattle.sheet_format.specs.Checks.{trailerChecks, contentChecks}
 
 -- reading checks 1 to 7
 abbrev pub readChecks : List ℕ → List Check

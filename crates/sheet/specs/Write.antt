@@ -4,10 +4,11 @@ use mathlib.Core.List.{List, [], _∷_, _++_}
 use Prim.Native.Nat.{ℕ}
 use lib.Dec.{eqb}
 use lib.ListN.{length, drop}
+use Rattle.checking.specs.Checking.{Check, firstFailing}
 use Rattle.sheet_format.specs.declared.Job.{Job}
 use Rattle.sheet.specs.declared.Written.{Written}
 use Rattle.sheet_format.specs.Format.{sheetBytes}
-use Rattle.sheet_format.specs.Checks.{Check, firstFailing, contentChecks, tooManyJobs, wrongModules, tooShort}
+use Rattle.sheet_format.specs.Checks.{contentChecks, tooManyJobs, wrongModules, tooShort}
 
 -- writing checks 2, 3, 5, 6, 7, 10; the last against the room in the lent buffer
 abbrev pub writeChecks : (ℕ → Job) → ℕ → List ℕ → ℕ → ℕ → List Check

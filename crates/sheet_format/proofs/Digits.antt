@@ -6,9 +6,10 @@ use native.Mathlib.Nat.{add-zero, add-assoc, mod-add-div'}
 use native.Mathlib.Omega.{arith}
 use lib.ListN.{length, take, drop}
 use lib.Seq.{getD-append-add}
+use Rattle.counting.specs.Counting.{joined}
 use Rattle.sheet_format.specs.declared.Job.{Job}
 use Rattle.sheet_format.specs.Figures.{recordSize, trailerSize}
-use Rattle.sheet_format.specs.Format.{byteAt, u16At, u32At, u16Bytes, u32Bytes, joined}
+use Rattle.sheet_format.specs.Format.{byteAt, u16At, u32At, u16Bytes, u32Bytes}
 use Rattle.sheet_format.specs.Format.{recordAt, recordBytes, trailerBytes}
 use Rattle.sheet_format.proofs.Lists.{segment}
 

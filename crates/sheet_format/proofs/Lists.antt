@@ -1,29 +1,22 @@
--- Laws of lists that are joined from the front, and of the places of a list of fixed length.
+-- Laws of the places of a list of fixed length, and of a part of a list byte by byte.
 use mathlib.Core.Path.{_≡_, refl, sym, ap, ap₂, _∙_}
-use mathlib.Core.Logic.{_⊎_, inl, inr}
-use mathlib.Core.List.{List, [], _∷_, _++_, append-assoc, append-nil}
-use Prim.Native.Nat.{ℕ, zero, suc, _+_, _-_, _*_, _≤_, _<_}
-use native.Mathlib.Nat.{le-refl, not-suc-le-zero}
+use mathlib.Core.List.{List, [], _∷_, _++_, append-assoc}
+use Prim.Native.Nat.{ℕ, zero, suc, _+_, _-_, _≤_, _<_}
 use native.Mathlib.Numerals.{add-one}
 use native.Mathlib.Omega.{arith}
 use lib.ListN.{length, getD, take, drop, set, replicate, length-append, length-drop, length-replicate}
 use lib.Seq.{set-at, take-suc, getD-at, getD-drop}
-use Rattle.counting.proofs.Tests.{below-suc, last-or-below}
+use Rattle.counting.specs.Counting.{joined}
+use Rattle.counting.proofs.Joins.{joined-length, joined-same, joined-split}
 use Rattle.sheet_format.specs.declared.Job.{Job}
 use Rattle.sheet_format.specs.Figures.{mostJobs}
-use Rattle.sheet_format.specs.Format.{byteAt, joined, noJob, jobsIn, places}
-
--- n parts of k elements each
-pub length-joined : {A : Type 0} (k n : ℕ) (f : ℕ → List A) → ((i : ℕ) → length (f i) ≡ k) → length (joined n f) ≡ k * n
-unfolding joined
-length-joined k zero f h = omega arith
-length-joined k (suc n) f h = length-append (joined n f) (f n) ∙ omega (arith, length-joined k n f h, h n)
+use Rattle.sheet_format.specs.Format.{byteAt, noJob, jobsIn, places}
 
 -- one job more in its place
 pub place-more : (n : ℕ) (jobs : ℕ → Job) → n < mostJobs → set (places n jobs) n (jobs n) ≡ places (n + 1) jobs
 unfolding places joined
 place-more n jobs l =
-    let len : length (joined n (λ i. jobs i ∷ [])) ≡ n = length-joined 1 n (λ i. jobs i ∷ []) (λ i. refl) ∙ omega arith in
+    let len : length (joined n (λ i. jobs i ∷ [])) ≡ n = joined-length n 1 (λ i. jobs i ∷ []) (λ i l. refl) ∙ omega arith in
     let first : mostJobs - n ≡ suc (mostJobs - (n + 1)) = omega arith in
     rw (first, add-one)
     (set-at (joined n (λ i. jobs i ∷ [])) noJob (replicate (mostJobs - suc n) noJob) (jobs n) n len
@@ -33,31 +26,7 @@ pub length-places : (n : ℕ) (jobs : ℕ → Job) → n ≤ mostJobs → length
 unfolding places
 length-places n jobs l =
     length-append (joined n (λ i. jobs i ∷ [])) (replicate (mostJobs - n) noJob)
-    ∙ omega (arith, length-joined 1 n (λ i. jobs i ∷ []) (λ i. refl), length-replicate (mostJobs - n) noJob)
-
--- ---- joined lists
-
-pub joined-same : {A : Type 0} (n : ℕ) (f g : ℕ → List A) → ((i : ℕ) → i < n → f i ≡ g i) → joined n f ≡ joined n g
-unfolding joined
-joined-same zero f g h = refl
-joined-same (suc n) f g h = ap₂ _++_ (joined-same n f g (below-suc n h)) (h n (le-refl _))
-
--- part i, with what is before it and what is behind it
-pub joined-split : {A : Type 0} (n : ℕ) (f : ℕ → List A) (i : ℕ) → i < n → (rest : List A) × (joined n f ≡ joined i f ++ (f i ++ rest))
-unfolding joined
-joined-split zero f i l = absurd (not-suc-le-zero l)
-joined-split {A} (suc n) f i l = go (last-or-below n i l) (joined-split n f i)
-  where
-    go : (i ≡ n) ⊎ (i < n) → (i < n → (rest : List A) × (joined n f ≡ joined i f ++ (f i ++ rest)))
-        → (rest : List A) × (joined n f ++ f n ≡ joined i f ++ (f i ++ rest))
-    go (inl e) h = ([], rw (e, append-nil (f n)))
-    go (inr k) h =
-        let r = h k in (
-          r .0 ++ f n,
-          ap (λ (l : List A). l ++ f n) (r .1)
-              ∙ append-assoc (joined i f) (f i ++ r .0) (f n)
-              ∙ ap (λ (l : List A). joined i f ++ l) (append-assoc (f i) (r .0) (f n)),
-        )
+    ∙ omega (arith, joined-length n 1 (λ i. jobs i ∷ []) (λ i l. refl), length-replicate (mostJobs - n) noJob)
 
 -- the job in place i
 pub job-in-place : (n : ℕ) (jobs : ℕ → Job) (i : ℕ) → i < n → jobsIn (places n jobs) i ≡ jobs i
@@ -68,7 +37,7 @@ job-in-place n jobs i l =
     let past : List Job = replicate (mostJobs - n) noJob in
     ap (λ (x : List Job). getD (x ++ past) i noJob) (r .1)
     ∙ ap (λ (x : List Job). getD x i noJob) (append-assoc (joined i one) (jobs i ∷ r .0) past)
-    ∙ getD-at (joined i one) (jobs i) (r .0 ++ past) noJob i (length-joined 1 i one (λ k. refl) ∙ omega arith)
+    ∙ getD-at (joined i one) (jobs i) (r .0 ++ past) noJob i (joined-length i 1 one (λ k l. refl) ∙ omega arith)
 
 pub places-same : (n : ℕ) (f g : ℕ → Job) → ((i : ℕ) → i < n → f i ≡ g i) → places n f ≡ places n g
 unfolding places

@@ -7,10 +7,11 @@ use native.Mathlib.Omega.{arith}
 use lib.ListN.{length, getD, take, drop, set, drop-of-length-le, length-take, length-drop, length-append}
 use lib.Seq.{sets, sets-eq, set-at, take-at, drop-at, drop-drop, drop-cons, take-suc, append-snoc, length-take-le}
 use borrow.Rule.Slice.PartMut.{putMid}
+use Rattle.counting.specs.Counting.{joined}
+use Rattle.counting.proofs.Joins.{joined-length}
 use Rattle.sheet_format.specs.declared.Job.{Job}
 use Rattle.sheet_format.specs.Figures.{recordSize}
-use Rattle.sheet_format.specs.Format.{joined, recordBytes}
-use Rattle.sheet_format.proofs.Lists.{length-joined}
+use Rattle.sheet_format.specs.Format.{recordBytes}
 
 -- as many stores as there are elements leave just what was stored; on a written list `sets` computes to the stores
 pub stored-whole : (vs l : List ℕ) → length l ≡ length vs → sets l 0 vs ≡ vs
@@ -39,7 +40,7 @@ length-part p l a b e h = simp (length-take, length-drop, length-append) (omega 
 
 pub length-records : (n : ℕ) (jobs : ℕ → Job) → length (joined n (λ i. recordBytes (jobs i))) ≡ recordSize * n
 unfolding recordBytes
-length-records n jobs = length-joined recordSize n (λ i. recordBytes (jobs i)) (λ i. refl)
+length-records n jobs = joined-length n recordSize (λ i. recordBytes (jobs i)) (λ i l. refl)
 
 -- ---- one record more
 

@@ -1,11 +1,11 @@
 -- The checks of reading, labels and writing (document 01, 'Checking order'), each a test that is true where the check fails.
-use mathlib.Core.Path.{_≡_}
-use mathlib.Core.Bool.{Bool, true, false, cond, not, _||_}
+use mathlib.Core.Bool.{Bool, not, _||_}
 use mathlib.Core.List.{List, [], _∷_}
-use Prim.Native.Nat.{ℕ, _+_, _*_, _^_, _<_}
+use Prim.Native.Nat.{ℕ, _+_, _*_, _^_}
 use lib.Dec.{ltb, leb, eqb}
-use lib.ListN.{length, getD}
+use lib.ListN.{length}
 use Rattle.counting.specs.Counting.{any}
+use Rattle.checking.specs.Checking.{Check}
 use Rattle.sheet_format.specs.declared.Job.{Job}
 use Rattle.sheet_format.specs.Figures.{mostJobs, mostModules, longestSheet, recordSize, trailerSize, longestLabel}
 use Rattle.sheet_format.specs.Figures.{firstLabelByte, lastLabelByte, widestJob, mostMinutes, lastDeparture}
@@ -60,29 +60,13 @@ tooShort n labels room = ltb room (length labels + recordSize * n + trailerSize)
 abbrev pub noSuchJob : ℕ → ℕ → Bool
 noSuchJob n job = leb n job
 
--- ---- the first that fails
-
--- a check: its number, and its test
-abbrev pub Check : Type 0
-Check = ℕ × Bool
-
--- the number of the first check of the list that fails, or 0
-unfoldable pub firstFailing : List Check → ℕ
-firstFailing [] = 0
-firstFailing (c ∷ cs) = cond (c .1) (c .0) (firstFailing cs)
-
--- check k of the list fails, and none that stands before it does
-pub record FirstFails (cs : List Check) (k : ℕ) : Type 0 where
-  pub place : ℕ
-  pub listed : place < length cs
-  pub fails : getD cs place (0, false) ≡ (k, true)
-  pub earlier : (i : ℕ) → i < place → getD cs i (0, false) .1 ≡ false
-
--- 5 to 7, of n jobs and the label bytes there are
-abbrev pub contentChecks : ℕ → (ℕ → Job) → List ℕ → List Check
-contentChecks n jobs labels = (5, someFaulty n jobs) ∷ (6, wrongLengths n jobs labels) ∷ (7, wrongBytes labels) ∷ []
+-- ---- in order
 
 -- 1 to 4, of the length and the trailer
 abbrev pub trailerChecks : List ℕ → List Check
 trailerChecks s =
     (1, wrongLength s) ∷ (2, tooManyJobs (countOf s)) ∷ (3, wrongModules (modulesOf s)) ∷ (4, wrongOffset s) ∷ []
+
+-- 5 to 7, of n jobs and the label bytes there are
+abbrev pub contentChecks : ℕ → (ℕ → Job) → List ℕ → List Check
+contentChecks n jobs labels = (5, someFaulty n jobs) ∷ (6, wrongLengths n jobs labels) ∷ (7, wrongBytes labels) ∷ []

@@ -1,8 +1,8 @@
 -- The bytes of a job sheet: the labels, the records, the trailer (document 01, 'The job sheet').
 use mathlib.Core.List.{List, [], _∷_, _++_}
-use Prim.Native.Nat.{ℕ, zero, suc, _+_, _-_, _*_, _/_, _%_}
+use Prim.Native.Nat.{ℕ, _+_, _-_, _*_, _/_, _%_}
 use lib.ListN.{length, getD, take, replicate}
-use Rattle.counting.specs.Counting.{sum}
+use Rattle.counting.specs.Counting.{sum, joined}
 use Rattle.sheet_format.specs.declared.Job.{Job}
 use Rattle.sheet_format.specs.Figures.{mostJobs, recordSize, trailerSize}
 
@@ -63,11 +63,6 @@ unfoldable pub trailerBytes : ℕ → ℕ → ℕ → List ℕ
 trailerBytes offset n N = u32Bytes offset ++ (u16Bytes n ++ u16Bytes N)
 
 -- ---- a sheet: the labels one after another from offset 0, then n records, then the trailer
-
--- f 0 ++ f 1 ++ … ++ f (n - 1)
-unfoldable pub joined {ℓ} : {A : Type ℓ} → ℕ → (ℕ → List A) → List A
-joined zero f = []
-joined (suc n) f = joined n f ++ f n
 
 -- the sum of the label lengths of the first n jobs
 abbrev pub labelLengths : ℕ → (ℕ → Job) → ℕ

@@ -2,8 +2,9 @@
 ghost use mathlib.Core.Path.{_≡_};
 ghost use Prim.Native.Nat.{_+_, _*_, _≤_};
 ghost use lib.ListN.{length};
+ghost use Rattle.counting.specs.Counting.{joined};
 ghost use Rattle.sheet_format.specs.Figures.{mostJobs, recordSize};
-ghost use Rattle.sheet_format.specs.Format.{joined, noJob, noJobs, places, jobsIn, jobFrom, labelLength, labelLengths};
+ghost use Rattle.sheet_format.specs.Format.{noJob, noJobs, places, jobsIn, jobFrom, labelLength, labelLengths};
 ghost use Rattle.sheet_format.specs.Format.{recordAt, recordBytes};
 ghost use Rattle.sheet_format.specs.Checks.{someFaulty};
 use super::Job;

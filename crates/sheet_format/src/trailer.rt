@@ -2,9 +2,9 @@
 ghost use mathlib.Core.Path.{_≡_};
 ghost use Prim.Native.Nat.{_≤_};
 ghost use lib.ListN.{length};
+ghost use Rattle.checking.specs.Checking.{firstFailing};
 ghost use Rattle.sheet_format.specs.Figures.{trailerSize};
 ghost use Rattle.sheet_format.specs.Format.{trailerBytes, offsetOf, countOf, modulesOf};
-ghost use Rattle.sheet_format.specs.Checks.{firstFailing};
 ghost use Rattle.sheet_format.specs.Checks.{trailerChecks};
 use super::checks::outside;
 use super::figures::LONGEST_SHEET;

@@ -10,11 +10,13 @@ use lib.ListN.{length}
 use Rattle.counting.proofs.Tests.{less-or-not}
 use Rattle.counting.proofs.Sums.{sum-same}
 use Rattle.counting.proofs.Ranges.{any-same}
+use Rattle.counting.proofs.Joins.{joined-same}
+use Rattle.checking.specs.Checking.{firstFailing}
 use Rattle.sheet_format.specs.declared.Job.{Job}
 use Rattle.sheet_format.specs.Figures.{mostJobs}
 use Rattle.sheet_format.specs.Format.{recordBytes, trailerBytes, sheetBytes, labelLength, jobsIn, places}
-use Rattle.sheet_format.specs.Checks.{firstFailing, faulty, tooManyJobs, wrongModules, wrongBytes, tooShort}
-use Rattle.sheet_format.proofs.Lists.{joined-same, job-in-place}
+use Rattle.sheet_format.specs.Checks.{faulty, tooManyJobs, wrongModules, wrongBytes, tooShort}
+use Rattle.sheet_format.proofs.Lists.{job-in-place}
 use Rattle.sheet.specs.declared.Written.{Written}
 use Rattle.sheet.specs.Write.{over, writeRefusal, writeAnswer, writeLeaves}
 use Rattle.sheet.proofs.Writes.{refused-count, refused-answer, refused-leaves}

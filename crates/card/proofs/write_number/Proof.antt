@@ -4,9 +4,11 @@ use mathlib.Core.List.{List, [], _∷_, _++_}
 use Prim.Native.Nat.{ℕ, _+_, _≤_, _-_, _*_, _/_, _%_, _^_}
 use native.Mathlib.Omega.{arith}
 use lib.ListN.{length, drop, set, length-set}
-use Rattle.card.specs.Card.{joined, bytesOf}
+use Rattle.counting.specs.Counting.{joined}
+use Rattle.counting.proofs.Joins.{joined-more}
+use Rattle.card.specs.Card.{bytesOf}
 use Rattle.card.proofs.Parts.{byte-more, whole}
-use Rattle.card.proofs.Joins.{joined-more, bytes-length}
+use Rattle.card.proofs.Joins.{bytes-length}
 use borrow.Author.Needs.{needs}
 use Rattle.card.proofs.write_number.Statement.{statement}
 use Rattle.card.proofs.write_number.Tie as tie

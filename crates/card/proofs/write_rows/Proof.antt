@@ -5,10 +5,11 @@ use Prim.Native.Nat.{ℕ, _+_, _-_, _*_, _≤_}
 use native.Mathlib.Omega.{arith}
 use lib.ListN.{length, drop}
 use borrow.Rule.Slice.PartMut.{putMid, same-len-mid}
-use Rattle.card.specs.Card.{joined}
+use Rattle.counting.specs.Counting.{joined}
+use Rattle.counting.proofs.Joins.{joined-length, joined-more}
 use Rattle.card.specs.Slots.{slotRow}
 use Rattle.card.proofs.Parts.{part-more, whole}
-use Rattle.card.proofs.Joins.{joined-length, joined-more, row-length}
+use Rattle.card.proofs.Joins.{row-length}
 use borrow.Author.Needs.{needs}
 use Rattle.card.proofs.write_rows.Statement.{statement}
 use Rattle.card.proofs.write_rows.Tie as tie

@@ -6,6 +6,7 @@ use native.Mathlib.Omega.{arith}
 use borrow.Author.Needs.{needs}
 use borrow.Author.Tests.{lt-ltb, le-ltb, eq-eqb, ne-eqb, not-true, not-false}
 use lib.ListN.{length}
+use Rattle.checking.specs.Checking.{firstFailing}
 use Rattle.desk.specs.Desk.{mostModules, fewestControllers, mostControllers}
 use Rattle.desk.specs.Checks.{inRange, somePairWrong, wrongLengths, wrongFigures, sharesExceed}
 use Rattle.desk.specs.Calls.{openRefusal}
@@ -29,14 +30,14 @@ pair : (c : tie.After-some-pair-wrong) (b : Bool) → c .some-pair-wrong .result
 pair c b e = sym (c .some-pair-wrong .ensures) ∙ e
 
 returns : tie.Need-returns
-unfolding openRefusal wrongLengths
+unfolding openRefusal firstFailing wrongLengths
 returns c = rw (ne-eqb _ _ (c .if1 .taken)) refl
 
 in-range-requires : tie.Need-in-range-requires
 in-range-requires c κs = search needs
 
 returns-2 : tie.Need-returns-2
-unfolding openRefusal wrongLengths
+unfolding openRefusal firstFailing wrongLengths
 returns-2 c =
     rw (eq-eqb _ _ (c .before .before .if1 .left), controllers (c .before) false (not-true _ (c .if2 .taken))) refl
 
@@ -47,7 +48,7 @@ in-range-requires-2 : tie.Need-in-range-requires-2
 in-range-requires-2 c κs = search needs
 
 returns-3 : tie.Need-returns-3
-unfolding openRefusal wrongLengths wrongFigures
+unfolding openRefusal firstFailing wrongLengths wrongFigures
 returns-3 c =
     let two = c .before .before in
     rw (
@@ -60,7 +61,7 @@ some-pair-wrong-requires : tie.Need-some-pair-wrong-requires
 some-pair-wrong-requires c κs = search needs
 
 returns-4 : tie.Need-returns-4
-unfolding openRefusal wrongLengths wrongFigures
+unfolding openRefusal firstFailing wrongLengths wrongFigures
 returns-4 c =
     let three = c .before .before in
     let two = three .before .before in
@@ -84,7 +85,7 @@ shares-in-all-requires c κs =
     )
 
 returns-5 : tie.Need-returns-5
-unfolding openRefusal wrongLengths wrongFigures sharesExceed
+unfolding openRefusal firstFailing wrongLengths wrongFigures sharesExceed
 returns-5 c =
     let four = c .before .before in
     let three = four .before .before in
@@ -99,7 +100,7 @@ returns-5 c =
     ) refl
 
 returns-6 : tie.Need-returns-6
-unfolding openRefusal wrongLengths wrongFigures sharesExceed
+unfolding openRefusal firstFailing wrongLengths wrongFigures sharesExceed
 returns-6 c =
     let four = c .before .before in
     let three = four .before .before in

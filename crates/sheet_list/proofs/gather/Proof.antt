@@ -10,9 +10,10 @@ use native.Mathlib.Omega.{arith}
 use lib.WfN.{Nat·lt-wfRel}
 use lib.Dec.{T, ltb, ltb→lt, nltb→le, lit<}
 use lib.ListN.{length}
+use Rattle.counting.specs.Counting.{joined}
 use Rattle.sheet_format.specs.declared.Job.{Job}
 use Rattle.sheet_format.specs.Figures.{mostJobs}
-use Rattle.sheet_format.specs.Format.{joined, noJob, jobsIn, places}
+use Rattle.sheet_format.specs.Format.{noJob, jobsIn, places}
 use Rattle.sheet_format.proofs.Lists.{place-more}
 use Rattle.sheet_format.proofs.Job as T
 use Rattle.sheet_format.proofs.Job.Laws as T′

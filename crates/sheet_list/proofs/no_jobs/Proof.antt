@@ -2,8 +2,9 @@
 use mathlib.Core.Path.{ap}
 use mathlib.Core.List.{List}
 use borrow.Author.Needs.{needs}
+use Rattle.counting.specs.Counting.{joined}
 use Rattle.sheet_format.specs.declared.Job.{Job}
-use Rattle.sheet_format.specs.Format.{noJobs, joined, places}
+use Rattle.sheet_format.specs.Format.{noJobs, places}
 use Rattle.sheet_list.specs.Gather.{listed}
 use Rattle.sheet_list.proofs.no_jobs.Statement.{statement}
 use Rattle.sheet_list.proofs.no_jobs.Tie as tie

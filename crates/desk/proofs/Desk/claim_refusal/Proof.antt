@@ -5,6 +5,7 @@ use Prim.Native.Nat.{_+_, _≤_, _<_}
 use native.Mathlib.Omega.{arith}
 use borrow.Author.Needs.{needs}
 use borrow.Author.Tests.{lt-ltb, le-ltb, eq-eqb, ne-eqb}
+use Rattle.checking.specs.Checking.{firstFailing}
 use Rattle.desk.specs.Desk.{holding, ceilingOf, reservedForOthers}
 use Rattle.desk.specs.Checks.{notOfDesk}
 use Rattle.desk.specs.Calls.{claimRefusal}
@@ -28,11 +29,11 @@ not-of-desk-requires : tie.Need-not-of-desk-requires
 not-of-desk-requires c κs = search needs
 
 returns : tie.Need-returns
-unfolding claimRefusal
+unfolding claimRefusal firstFailing
 returns c = rw (← c .before .not-of-desk .ensures, c .if1 .taken) refl
 
 returns-2 : tie.Need-returns-2
-unfolding claimRefusal
+unfolding claimRefusal firstFailing
 returns-2 c = rw (passed (c .before), eq-eqb _ _ (c .if2 .taken)) refl
 
 mul-held : tie.Need-mul-held
@@ -51,7 +52,7 @@ sub-if3 : tie.Need-sub-if3
 sub-if3 c = at (c .before .before .before) .hold
 
 returns-3 : tie.Need-returns-3
-unfolding claimRefusal
+unfolding claimRefusal firstFailing
 returns-3 c =
     let two = c .before .before .before in
     let a = two .before .before .before .args in
@@ -73,7 +74,7 @@ add-if4-2 c =
     omega (arith, under (c .before))
 
 returns-4 : tie.Need-returns-4
-unfolding claimRefusal
+unfolding claimRefusal firstFailing
 returns-4 c =
     let two = c .before .before .before .before .before in
     let a = two .before .before .before .args in
@@ -83,7 +84,7 @@ returns-4 c =
     rw (passed (two .before), ne-eqb _ _ (two .if2 .left), le-ltb _ _ (under (c .before .before)), lt-ltb _ _ full) refl
 
 returns-5 : tie.Need-returns-5
-unfolding claimRefusal
+unfolding claimRefusal firstFailing
 returns-5 c =
     let two = c .before .before .before .before .before in
     let a = two .before .before .before .args in

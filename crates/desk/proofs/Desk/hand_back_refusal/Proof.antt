@@ -3,6 +3,7 @@ use mathlib.Core.Path.{_≡_, refl, sym, _∙_}
 use mathlib.Core.Bool.{false}
 use borrow.Author.Needs.{needs}
 use borrow.Author.Tests.{lt-ltb, le-ltb, eq-eqb, ne-eqb}
+use Rattle.checking.specs.Checking.{firstFailing}
 use Rattle.desk.specs.Checks.{notOfDesk}
 use Rattle.desk.specs.Calls.{handBackRefusal}
 use Rattle.desk.proofs.Sound.{of-desk-says}
@@ -17,11 +18,11 @@ not-of-desk-requires : tie.Need-not-of-desk-requires
 not-of-desk-requires c κs = search needs
 
 returns : tie.Need-returns
-unfolding handBackRefusal
+unfolding handBackRefusal firstFailing
 returns c = rw (← c .before .not-of-desk .ensures, c .if1 .taken) refl
 
 returns-2 : tie.Need-returns-2
-unfolding handBackRefusal
+unfolding handBackRefusal firstFailing
 returns-2 c = rw (passed (c .before), eq-eqb _ _ (c .if2 .taken)) refl
 
 mul-if3 : tie.Need-mul-if3
@@ -31,13 +32,13 @@ element-copy-out-if3 : tie.Need-element-copy-out-if3
 element-copy-out-if3 c = of-desk-says _ _ (passed (c .before)) .inside
 
 returns-3 : tie.Need-returns-3
-unfolding handBackRefusal
+unfolding handBackRefusal firstFailing
 returns-3 c =
     let two = c .before .before in
     rw (passed (two .before), ne-eqb _ _ (two .if2 .left), lt-ltb _ _ (c .if3 .taken)) refl
 
 returns-4 : tie.Need-returns-4
-unfolding handBackRefusal
+unfolding handBackRefusal firstFailing
 returns-4 c =
     let two = c .before .before in
     rw (passed (two .before), ne-eqb _ _ (two .if2 .left), le-ltb _ _ (c .if3 .left)) refl

@@ -3,6 +3,7 @@ use mathlib.Core.Path.{_≡_, refl, sym, _∙_}
 use mathlib.Core.Bool.{false}
 use native.Mathlib.Omega.{arith}
 use borrow.Author.Needs.{needs}
+use Rattle.checking.specs.Checking.{firstFailing}
 use Rattle.desk.specs.Checks.{notOfDesk}
 use Rattle.desk.specs.Calls.{lookRefusal, room, looked}
 use Rattle.desk.proofs.Sound.{Here, of-desk-says}
@@ -20,7 +21,7 @@ not-of-desk-requires : tie.Need-not-of-desk-requires
 not-of-desk-requires c κs = search needs
 
 returns : tie.Need-returns
-unfolding looked lookRefusal
+unfolding looked lookRefusal firstFailing
 returns c = rw (← c .before .not-of-desk .ensures, c .if1 .taken) refl
 
 mul-held : tie.Need-mul-held
@@ -57,7 +58,7 @@ smaller-requires : tie.Need-smaller-requires
 smaller-requires c κs = search needs
 
 returns-2 : tie.Need-returns-2
-unfolding looked lookRefusal
+unfolding looked lookRefusal firstFailing
 returns-2 c =
     let one = c .before .before .before .before in
     let a = one .before .before .args in

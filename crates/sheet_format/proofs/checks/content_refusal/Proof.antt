@@ -3,7 +3,7 @@ use mathlib.Core.Path.{sym, _∙_}
 use lib.ListN.{length}
 use borrow.Author.Tests.{eq-eqb, ne-eqb}
 use borrow.Author.Needs.{needs}
-use Rattle.sheet_format.specs.Checks.{firstFailing}
+use Rattle.checking.specs.Checking.{firstFailing}
 use Rattle.sheet_format.proofs.checks.content_refusal.Statement.{statement}
 use Rattle.sheet_format.proofs.checks.content_refusal.Tie as tie
 

@@ -7,9 +7,9 @@ use native.Mathlib.Numerals.{add-one}
 use native.Mathlib.Omega.{arith}
 use lib.ListN.{set}
 use borrow.Author.Needs.{needs}
-use Rattle.counting.specs.Counting.{sum, any}
+use Rattle.counting.specs.Counting.{sum, any, joined}
 use Rattle.sheet_format.specs.declared.Job.{Job}
-use Rattle.sheet_format.specs.Format.{noJobs, joined, labelLengths, jobFrom, places}
+use Rattle.sheet_format.specs.Format.{noJobs, labelLengths, jobFrom, places}
 use Rattle.sheet_format.specs.Checks.{faulty}
 use Rattle.sheet_format.proofs.Lists.{place-more}
 use Rattle.sheet_format.proofs.records.read_all.Statement.{statement}

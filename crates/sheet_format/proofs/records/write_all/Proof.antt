@@ -5,9 +5,10 @@ use Prim.Native.Nat.{ℕ, _+_, _-_, _*_, _≤_}
 use native.Mathlib.Omega.{arith}
 use lib.ListN.{drop-of-length-le, length, drop}
 use borrow.Author.Needs.{needs}
+use Rattle.counting.specs.Counting.{joined}
 use Rattle.sheet_format.specs.declared.Job.{Job}
 use Rattle.sheet_format.specs.Figures.{recordSize}
-use Rattle.sheet_format.specs.Format.{joined, recordBytes, jobsIn}
+use Rattle.sheet_format.specs.Format.{recordBytes, jobsIn}
 use Rattle.sheet_format.proofs.Parts.{records-more, records-length}
 use Rattle.sheet_format.proofs.records.write_all.Statement.{statement}
 use Rattle.sheet_format.proofs.records.write_all.Tie as tie

@@ -4,8 +4,8 @@ use Prim.Native.Nat.{_+_, _*_}
 use lib.ListN.{length}
 use borrow.Author.Tests.{lt-ltb, le-ltb, eq-eqb, ne-eqb}
 use borrow.Author.Needs.{needs}
+use Rattle.checking.specs.Checking.{firstFailing}
 use Rattle.sheet_format.specs.Figures.{mostJobs, longestSheet, recordSize, trailerSize}
-use Rattle.sheet_format.specs.Checks.{firstFailing}
 use Rattle.sheet_format.proofs.Bounds.{inside}
 use Rattle.sheet_format.proofs.trailer.refusal.Statement.{statement}
 use Rattle.sheet_format.proofs.trailer.refusal.Tie as tie

@@ -1,0 +1,2 @@
+-- The laws of checking, for the crates above.
+pub mod Order

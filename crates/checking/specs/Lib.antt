@@ -1,0 +1,2 @@
+-- The first check that fails.
+pub mod Checking

@@ -1,0 +1,60 @@
+-- The table's rows, of plans and of the desk: what a row says, and the same as a test.
+use mathlib.Core.Path.{_≡_}
+use mathlib.Core.Bool.{Bool, true, _&&_}
+use mathlib.Core.List.{List, [], _∷_}
+use Prim.Native.Nat.{ℕ}
+use lib.Dec.{eqb}
+use Rattle.schedule.specs.Rows as plans
+use Rattle.desk.specs.declared.Desk.{Desk}
+use Rattle.desk.specs.Calls.{Call, opened, refusalOf, deskAfter}
+use Rattle.desk.specs.Rows.{figureOf}
+
+-- what a call answers: its number, and the figure that it shows
+pub record Reply : Type 0 where
+  pub number : ℕ
+  pub figure : ℕ
+
+-- "granted", "done"
+abbrev pub done : Reply
+done = record { number = 0; figure = 0 }
+
+-- "looks give"
+abbrev pub gives : ℕ → Reply
+gives k = record { number = 0; figure = k }
+
+abbrev pub refused : ℕ → Reply
+refused n = record { number = n; figure = 0 }
+
+-- `plan`: a row of sheets and plans. `desk`: opening with this limit, these assured shares and these ceilings gives this number,
+-- and then the calls, one after another, answer so.
+pub data Row : Type 0 where
+  plan : plans.Row → Row
+  desk : ℕ → List ℕ → List ℕ → ℕ → List (Call × Reply) → Row
+
+-- ---- what a row says
+
+-- the calls answer so, each on the desk that the one before it handed back
+abbrev pub Answered : Desk → List (Call × Reply) → Type 0
+Answered d [] = Unit {0}
+Answered d (x ∷ l) =
+    (refusalOf d (x .0) ≡ x .1 .number) × (figureOf d (x .0) ≡ x .1 .figure) × Answered (deskAfter d (x .0)) l
+
+abbrev pub Right : Row → Type 0
+Right (plan r) = plans.Right r
+Right (desk limit assured ceilings n l) =
+    (opened limit assured ceilings .refusal ≡ n) × Answered (opened limit assured ceilings .desk) l
+
+-- ---- the same as a test
+
+abbrev pub answered : Desk → List (Call × Reply) → Bool
+answered d [] = true
+answered d (x ∷ l) = eqb (refusalOf d (x .0)) (x .1 .number) && (eqb (figureOf d (x .0)) (x .1 .figure) && answered (deskAfter d (x .0)) l)
+
+abbrev pub holds : Row → Bool
+holds (plan r) = plans.holds r
+holds (desk limit assured ceilings n l) =
+    eqb (opened limit assured ceilings .refusal) n && answered (opened limit assured ceilings .desk) l
+
+-- what stands past a table's end
+abbrev pub noRow : Row
+noRow = desk 0 [] [] 0 []

@@ -1,0 +1,111 @@
+// What firmware links: planning, and the desk where firmware keeps it. The desk's calls copy the lent desk, make the call by value,
+// and put the desk that it hands back in its place.
+use desk::Booked;
+use desk::Desk;
+ghost use mathlib.Core.Path.{_≡_};
+ghost use lib.ListN.{length};
+ghost use Rattle.planner.specs.Planning.{planRefusal, cardAfter, memoryAfter};
+ghost use Rattle.desk.specs.Calls.{claimed, handedBack, looked};
+ghost use Rattle.firmware.specs.Lent.{openedOver, shownOver};
+
+// Planning: 0, or the first refusal of 1 to 10. Answered, the card of the tie rule's plan is at the front of the lent card and the
+// working memory, of any length, is all zero; refused, every lent byte is as before. The three buffers do not overlap.
+#[no_mangle]
+pub extern "C" fn depot_plan(sheet: &[u8], card: &mut [u8], work: &mut [u8]) -> u32
+    ensures refusal { λ r. ⌜ r ≡ planRefusal (now (sheet .entry)) (length (now (card .entry))) ⌝ }
+    ensures card { λ _. ⌜ now (card .exit) ≡ cardAfter (now (sheet .entry)) (now (card .entry)) ⌝ }
+    ensures work { λ _. ⌜ now (work .exit) ≡ memoryAfter (now (sheet .entry)) (length (now (card .entry))) (now (work .entry)) ⌝ }
+{
+    planner::plan(sheet, card, work)
+}
+
+// Opening by value where a desk is kept: refused, the kept desk is handed back.
+fn opened_over(kept: Desk, limit: u32, assured: &[u32], ceilings: &[u32]) -> Booked
+    ensures { λ r. ⌜ r ≡ openedOver kept limit (now (assured .entry)) (now (ceilings .entry)) ⌝ }
+{
+    let answer = desk::open(limit, assured, ceilings);
+    let refusal = answer.refusal;
+    if refusal != 0 {
+        return Booked {
+            refusal,
+            desk: kept,
+        };
+    }
+    let new = answer.desk;
+    Booked {
+        refusal: 0,
+        desk: new,
+    }
+}
+
+// A claim by value on the kept desk.
+fn claim_on(kept: Desk, controller: u32, modules: u32) -> Booked
+    ensures { λ r. ⌜ r ≡ claimed kept controller modules ⌝ }
+{
+    kept.claim(controller, modules)
+}
+
+// A hand-back by value on the kept desk.
+fn hand_back_on(kept: Desk, controller: u32, modules: u32) -> Booked
+    ensures { λ r. ⌜ r ≡ handedBack kept controller modules ⌝ }
+{
+    kept.hand_back(controller, modules)
+}
+
+// Shows a figure where the number is 0, and gives the number.
+fn show(refusal: u32, figure: u32, modules: &mut u32) -> u32
+    ensures { λ r. ⌜ (r ≡ refusal) × (now (modules .exit) ≡ shownOver (now (modules .entry)) refusal figure) ⌝ }
+{
+    if refusal == 0 {
+        *modules = figure;
+    }
+    refusal
+}
+
+// Opens the lent desk. Refused, it is as before.
+#[no_mangle]
+pub extern "C" fn depot_desk_open(
+    desk: &mut Desk,
+    limit: u32,
+    assured: &[u32],
+    ceilings: &[u32],
+) -> u32
+    ensures { λ r. ⌜ (r ≡ openedOver (now (desk .entry)) limit (now (assured .entry)) (now (ceilings .entry)) .refusal)
+        × (now (desk .exit) ≡ openedOver (now (desk .entry)) limit (now (assured .entry)) (now (ceilings .entry)) .desk) ⌝ }
+{
+    let answer = opened_over(*desk, limit, assured, ceilings);
+    *desk = answer.desk;
+    answer.refusal
+}
+
+// A claim on the lent desk. Refused, it is as before.
+#[no_mangle]
+pub extern "C" fn depot_desk_claim(desk: &mut Desk, controller: u32, modules: u32) -> u32
+    ensures { λ r. ⌜ (r ≡ claimed (now (desk .entry)) controller modules .refusal)
+        × (now (desk .exit) ≡ claimed (now (desk .entry)) controller modules .desk) ⌝ }
+{
+    let answer = claim_on(*desk, controller, modules);
+    *desk = answer.desk;
+    answer.refusal
+}
+
+// A hand-back on the lent desk. Refused, it is as before.
+#[no_mangle]
+pub extern "C" fn depot_desk_hand_back(desk: &mut Desk, controller: u32, modules: u32) -> u32
+    ensures { λ r. ⌜ (r ≡ handedBack (now (desk .entry)) controller modules .refusal)
+        × (now (desk .exit) ≡ handedBack (now (desk .entry)) controller modules .desk) ⌝ }
+{
+    let answer = hand_back_on(*desk, controller, modules);
+    *desk = answer.desk;
+    answer.refusal
+}
+
+// A look at the lent desk: the figure goes where `modules` lies. Refused, what lies there is as before.
+#[no_mangle]
+pub extern "C" fn depot_desk_look(desk: &Desk, controller: u32, modules: &mut u32) -> u32
+    ensures { λ r. ⌜ (r ≡ looked (now (desk .entry)) controller .refusal)
+        × (now (modules .exit) ≡ shownOver (now (modules .entry)) r (looked (now (desk .entry)) controller .modules)) ⌝ }
+{
+    let answer = (*desk).look(controller);
+    show(answer.refusal, answer.modules, modules)
+}

@@ -1,0 +1,25 @@
+//! Links the static library of the proved crates.
+use std::path::Path;
+use std::{env, process};
+
+const LIBRARY: &str = "libfirmware.a";
+
+fn main() {
+    let package = env::var("CARGO_MANIFEST_DIR").expect("cargo names the package's folder");
+    let folder = Path::new(&package).join("../target/staticlib");
+    let library = folder.join(LIBRARY);
+    println!("cargo:rerun-if-changed={}", library.display());
+    if env::var("CARGO_CFG_TARGET_ARCH").as_deref() != Ok("x86_64") {
+        refuse("the static library is compiled for x86-64 alone");
+    }
+    if !library.is_file() {
+        refuse("target/staticlib/libfirmware.a is missing: make it with 'rt staticlib firmware'");
+    }
+    println!("cargo:rustc-link-search=native={}", folder.display());
+    println!("cargo:rustc-link-lib=static=firmware");
+}
+
+fn refuse(why: &str) -> ! {
+    eprintln!("depot-host: {why}");
+    process::exit(1)
+}

@@ -1,0 +1,33 @@
+//! Processor time: what other programs do on the same machine does not count.
+use std::ffi::c_int;
+use std::fs;
+use std::time::Duration;
+
+#[repr(C)]
+struct Timespec {
+    seconds: i64,
+    nanoseconds: i64,
+}
+
+extern "C" {
+    fn clock_gettime(clock: c_int, time: *mut Timespec) -> c_int;
+}
+
+const PROCESS: c_int = 2;
+
+/// The processor time of this process so far, in seconds.
+pub fn now() -> f64 {
+    let mut time = Timespec { seconds: 0, nanoseconds: 0 };
+    // SAFETY: a live place for the answer.
+    assert_eq!(unsafe { clock_gettime(PROCESS, &mut time) }, 0);
+    time.seconds as f64 + time.nanoseconds as f64 / 1e9
+}
+
+/// The processor time of another process so far, none once it is gone.
+pub fn of_process(id: u32) -> Option<Duration> {
+    let text = fs::read_to_string(format!("/proc/{id}/stat")).ok()?;
+    // behind the name in parentheses: the state is field 3, user and system time, in hundredths, are 14 and 15
+    let fields: Vec<&str> = text.rsplit_once(')')?.1.split_whitespace().collect();
+    let ticks: u64 = fields.get(11..13)?.iter().map(|field| field.parse::<u64>().unwrap_or(0)).sum();
+    Some(Duration::from_millis(10 * ticks))
+}

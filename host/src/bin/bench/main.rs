@@ -1,0 +1,32 @@
+//! Measures the library: planning by size and working memory beside the same search in plain Rust, the stack, and desk calls.
+mod child;
+mod clock;
+mod desk_calls;
+mod options;
+mod planning;
+mod stack_need;
+
+use options::{Options, Part, USAGE};
+use std::{env, process};
+
+fn main() {
+    let words: Vec<String> = env::args().skip(1).collect();
+    if words.first().is_some_and(|word| word == child::OPTION) {
+        return child::answer(&words[1..]);
+    }
+    let options = match Options::read(&words) {
+        Ok(Some(options)) => options,
+        Ok(None) => return print!("{USAGE}"),
+        Err(why) => {
+            eprint!("bench: {why}\n\n{USAGE}");
+            process::exit(2);
+        }
+    };
+    for part in &options.parts {
+        match part {
+            Part::Plans => planning::measure(&options),
+            Part::Stack => stack_need::measure(),
+            Part::Desk => desk_calls::measure(),
+        }
+    }
+}

@@ -1,0 +1,81 @@
+//! Planning: a line for each group of lists and each length of the working memory.
+use crate::child::{call, Side, Took};
+use crate::options::{Group, Options};
+use depot_host::lists::List;
+use std::time::Duration;
+
+/// A list that the library solved before the cut-off, and the same search in plain Rust where it did too.
+struct Solved {
+    library: Took,
+    plain: Option<Took>,
+}
+
+pub fn measure(options: &Options) {
+    let cutoff = options.cutoff;
+    println!(
+        "planning, cut-off {} s; times in seconds of the processor, 'rate' in millions of part-plans a second",
+        cutoff.as_secs_f64()
+    );
+    println!(
+        "{:14} {:>7} {:>9} {:>10} {:>10} {:>14} {:>6} {:>7}",
+        "lists", "memory", "solved", "median", "worst", "part-plans", "rate", "/plain"
+    );
+    for group in &options.groups {
+        for memory in &options.memory {
+            let runs: Vec<Option<Solved>> = group.lists.iter().map(|list| solve(list, *memory, cutoff)).collect();
+            if options.each {
+                group.lists.iter().zip(&runs).for_each(|(list, run)| print_one(list, run));
+            }
+            print_line(group, *memory, &runs, cutoff);
+        }
+    }
+}
+
+fn solve(list: &List, memory: usize, cutoff: Duration) -> Option<Solved> {
+    let library = call(Side::Library, list, memory, cutoff)?;
+    let plain = call(Side::Plain, list, memory, 2 * cutoff);
+    Some(Solved { library, plain })
+}
+
+fn print_one(list: &List, run: &Option<Solved>) {
+    match run {
+        Some(Solved { library, plain: Some(plain) }) => {
+            let ratio = library.seconds / plain.seconds;
+            println!("  {:28} {:>10.6} {:>14} {ratio:>7.2}", list.name, library.seconds, plain.visited);
+        }
+        Some(Solved { library, plain: None }) => println!("  {:28} {:>10.6}", list.name, library.seconds),
+        None => println!("  {:28} {:>10}", list.name, "-"),
+    }
+}
+
+fn print_line(group: &Group, memory: usize, runs: &[Option<Solved>], cutoff: Duration) {
+    let mut times: Vec<f64> = runs.iter().flatten().map(|run| run.library.seconds).collect();
+    times.sort_by(f64::total_cmp);
+    let solved = times.len();
+    let beyond = format!("> {}", cutoff.as_secs_f64());
+    let time = |place: usize| times.get(place).map_or(beyond.clone(), |seconds| format!("{seconds:.6}"));
+    // the part-plans of the plain search are the library's: both make the same cuts in the same order
+    let both: Vec<(Took, Took)> = runs.iter().flatten().filter_map(|run| Some((run.library, run.plain?))).collect();
+    let visited: u64 = both.iter().map(|(_, plain)| plain.visited).sum();
+    let library: f64 = both.iter().map(|(library, _)| library.seconds).sum();
+    let plain: f64 = both.iter().map(|(_, plain)| plain.seconds).sum();
+    println!(
+        "{:14} {:>7} {:>9} {:>10} {:>10} {:>14} {:>6.2} {:>7.2}",
+        group.name,
+        length(memory),
+        format!("{solved}/{}", runs.len()),
+        time(runs.len() / 2),
+        time(runs.len() - 1),
+        visited,
+        visited as f64 / library / 1e6,
+        library / plain,
+    );
+}
+
+fn length(bytes: usize) -> String {
+    match bytes {
+        b if b >= 1 << 20 && b % (1 << 20) == 0 => format!("{}M", b >> 20),
+        b if b >= 1 << 10 && b % (1 << 10) == 0 => format!("{}K", b >> 10),
+        b => b.to_string(),
+    }
+}

@@ -1,0 +1,38 @@
+//! The depot's planner and share desk for Rust programs: a safe wrapper of the proved static library.
+//!
+//! [`plan`], [`Desk`] and [`Refusal`] are the product. The other modules test it and measure it.
+
+mod desk;
+pub mod ffi;
+mod refusal;
+
+pub mod families;
+pub mod guarded;
+pub mod lists;
+pub mod plain_search;
+pub mod random;
+pub mod reference;
+pub mod sheet;
+pub mod stack;
+
+pub use desk::Desk;
+pub use refusal::Refusal;
+
+/// The most jobs of a sheet.
+pub const MOST_JOBS: usize = 20;
+
+/// How many bytes the card of so many jobs has.
+pub const fn card_length(jobs: usize) -> usize {
+    13 * jobs + 8
+}
+
+/// Plans the job sheet: the plan that ends first of all valid plans, by the tie rule.
+///
+/// The card is written to the front of `card`; the bytes behind it stay. `work` is working memory of any length, 0 included:
+/// more of it may make the search shorter, what it holds changes nothing, and it is left all zero. A refused call writes no byte.
+pub fn plan(sheet: &[u8], card: &mut [u8], work: &mut [u8]) -> Result<(), Refusal> {
+    // SAFETY: three live slices, of which none overlaps another; the library keeps no pointer.
+    let answer =
+        unsafe { ffi::depot_plan(sheet.as_ptr(), sheet.len(), card.as_mut_ptr(), card.len(), work.as_mut_ptr(), work.len()) };
+    Refusal::or_done(answer)
+}

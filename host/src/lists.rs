@@ -1,0 +1,59 @@
+//! Job lists of the benchmark: a name, N and the jobs.
+use crate::sheet::{Job, Sheet};
+
+#[derive(Clone, Debug)]
+pub struct List {
+    pub name: String,
+    pub modules: u16,
+    pub jobs: Vec<Job>,
+}
+
+impl List {
+    pub fn sheet(&self) -> Vec<u8> {
+        Sheet::of(self.modules, self.jobs.clone()).bytes()
+    }
+
+    /// The list as text: `name n N`, then a line `modules minutes earlier-jobs-in-hexadecimal` for each job.
+    pub fn text(&self) -> String {
+        let head = format!("{} {} {}\n", self.name, self.jobs.len(), self.modules);
+        let line = |job: &Job| format!("{} {} {:x}\n", job.modules, job.minutes, job.earlier);
+        head + &self.jobs.iter().map(line).collect::<String>()
+    }
+}
+
+/// The lists of a text, or which line is wrong.
+pub fn read(text: &str) -> Result<Vec<List>, String> {
+    let mut lines = text.lines().enumerate().filter(|(_, line)| !line.trim().is_empty());
+    let mut lists = Vec::new();
+    while let Some((number, line)) = lines.next() {
+        let (mut list, count) = head(line).ok_or_else(|| wrong(number, "expected 'name n N'"))?;
+        for _ in 0..count {
+            let (number, line) = lines.next().ok_or_else(|| wrong(number, "the list has fewer jobs than it says"))?;
+            list.jobs.push(job(line).ok_or_else(|| wrong(number, "expected 'modules minutes earlier-jobs'"))?);
+        }
+        lists.push(list);
+    }
+    Ok(lists)
+}
+
+fn wrong(number: usize, why: &str) -> String {
+    format!("line {}: {why}", number + 1)
+}
+
+fn head(line: &str) -> Option<(List, usize)> {
+    let mut words = line.split_whitespace();
+    let name = words.next()?.to_string();
+    let count = words.next()?.parse().ok()?;
+    let modules = words.next()?.parse().ok()?;
+    Some((List { name, modules, jobs: Vec::new() }, count))
+}
+
+fn job(line: &str) -> Option<Job> {
+    let mut words = line.split_whitespace();
+    Some(Job {
+        modules: words.next()?.parse().ok()?,
+        minutes: words.next()?.parse().ok()?,
+        earlier: u32::from_str_radix(words.next()?, 16).ok()?,
+        ..Job::default()
+    })
+}

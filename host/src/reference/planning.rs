@@ -1,0 +1,114 @@
+//! Planning: checks 1 to 10, then every order of the jobs, each placed minute by minute on numbered modules.
+use super::reading::{read, Sheet};
+
+/// A job's place in a plan.
+#[derive(Clone, Debug, PartialEq, Eq)]
+pub struct Slot {
+    pub job: usize,
+    pub start: u32,
+    pub end: u32,
+    pub modules: Vec<usize>,
+}
+
+/// The card of the sheet's plan, or the number of the first check that fails; `room` is the lent card's length.
+pub fn plan(bytes: &[u8], room: usize) -> Result<Vec<u8>, u32> {
+    let sheet = read(bytes)?;
+    if sheet.jobs.iter().any(|job| job.modules > sheet.modules) {
+        return Err(8);
+    }
+    if some_job_precedes_itself(&sheet) {
+        return Err(9);
+    }
+    if room < 13 * sheet.jobs.len() + 8 {
+        return Err(10);
+    }
+    let mut best = None;
+    try_every_order(&sheet, &mut Vec::new(), &mut best);
+    let best = best.expect("jobs of which none precedes itself have an order");
+    Ok(card(&best.slots))
+}
+
+/// Whether some job would have to end before itself, directly or through others.
+fn some_job_precedes_itself(sheet: &Sheet) -> bool {
+    let n = sheet.jobs.len();
+    let mut precedes = vec![vec![false; n]; n];
+    for (later, job) in sheet.jobs.iter().enumerate() {
+        for earlier in &job.earlier {
+            precedes[*earlier][later] = true;
+        }
+    }
+    for through in 0..n {
+        for a in 0..n {
+            for b in 0..n {
+                precedes[a][b] |= precedes[a][through] && precedes[through][b];
+            }
+        }
+    }
+    (0..n).any(|job| precedes[job][job])
+}
+
+/// A finished list plan. The order of the fields is the tie rule: the earliest end, then the first order in the dictionary.
+struct Finished {
+    end: u32,
+    order: Vec<usize>,
+    slots: Vec<Slot>,
+}
+
+/// Goes on from the jobs placed so far to every order of all jobs in which each follows its earlier jobs.
+fn try_every_order(sheet: &Sheet, placed: &mut Vec<Slot>, best: &mut Option<Finished>) {
+    if placed.len() == sheet.jobs.len() {
+        let end = placed.iter().map(|slot| slot.end).max().unwrap_or(0);
+        let order: Vec<usize> = placed.iter().map(|slot| slot.job).collect();
+        if best.as_ref().is_none_or(|found| (end, &order) < (found.end, &found.order)) {
+            *best = Some(Finished { end, order, slots: placed.clone() });
+        }
+        return;
+    }
+    for job in 0..sheet.jobs.len() {
+        let is_placed = |j: usize| placed.iter().any(|slot| slot.job == j);
+        if !is_placed(job) && sheet.jobs[job].earlier.iter().all(|e| is_placed(*e)) {
+            let slot = next_slot(sheet, placed, job);
+            placed.push(slot);
+            try_every_order(sheet, placed, best);
+            placed.pop();
+        }
+    }
+}
+
+/// Where a list plan places its next job: minute by minute from the previous start on, on the lowest free modules.
+fn next_slot(sheet: &Sheet, placed: &[Slot], job: usize) -> Slot {
+    let wanted = &sheet.jobs[job];
+    let waits = |slot: &&Slot| wanted.earlier.contains(&slot.job);
+    let mut start = placed.last().map_or(0, |slot| slot.start);
+    start = start.max(placed.iter().filter(waits).map(|slot| slot.end).max().unwrap_or(0));
+    loop {
+        let mut free = [true; 64];
+        for slot in placed.iter().filter(|slot| slot.start <= start && start < slot.end) {
+            slot.modules.iter().for_each(|m| free[*m] = false);
+        }
+        let modules: Vec<usize> = (0..sheet.modules).filter(|m| free[*m]).take(wanted.modules).collect();
+        if modules.len() == wanted.modules {
+            return Slot { job, start, end: start + wanted.minutes, modules };
+        }
+        start += 1;
+    }
+}
+
+/// The plan card: a row of 12 bytes for each job, the order, the trailer.
+fn card(slots: &[Slot]) -> Vec<u8> {
+    let n = slots.len();
+    let mut bytes = Vec::new();
+    for job in 0..n {
+        let slot = slots.iter().find(|slot| slot.job == job).expect("every job is placed");
+        bytes.extend((slot.start as u16).to_le_bytes());
+        bytes.extend((slot.end as u16).to_le_bytes());
+        let set: u64 = slot.modules.iter().map(|m| 1 << m).sum();
+        bytes.extend(set.to_le_bytes());
+    }
+    bytes.extend(slots.iter().map(|slot| slot.job as u8));
+    let end = slots.iter().map(|slot| slot.end).max().unwrap_or(0);
+    bytes.extend((12 * n as u32).to_le_bytes());
+    bytes.extend((end as u16).to_le_bytes());
+    bytes.extend((n as u16).to_le_bytes());
+    bytes
+}

@@ -1,0 +1,80 @@
+//! Reading a job sheet: checks 1 to 7, one after another.
+
+/// What planning needs to know of a job.
+#[derive(Clone, Debug, PartialEq, Eq)]
+pub struct Job {
+    pub modules: usize,
+    pub minutes: u32,
+    /// The numbers of the jobs that must have ended first.
+    pub earlier: Vec<usize>,
+}
+
+/// A sheet that reads.
+#[derive(Clone, Debug, PartialEq, Eq)]
+pub struct Sheet {
+    pub jobs: Vec<Job>,
+    /// N, the modules in the cabinet.
+    pub modules: usize,
+}
+
+/// A number of up to eight bytes, little-endian.
+fn number(bytes: &[u8]) -> u64 {
+    bytes.iter().rev().fold(0, |value, byte| value * 256 + u64::from(*byte))
+}
+
+/// The sheet's jobs and N, or the number of the first check that fails.
+pub fn read(bytes: &[u8]) -> Result<Sheet, u32> {
+    let length = bytes.len() as u64;
+    if !(8..=448).contains(&length) {
+        return Err(1);
+    }
+    let (front, trailer) = bytes.split_at(bytes.len() - 8);
+    let offset = number(&trailer[0..4]);
+    let n = number(&trailer[4..6]);
+    let modules = number(&trailer[6..8]);
+    if n > 20 {
+        return Err(2);
+    }
+    if modules == 0 || modules > 64 {
+        return Err(3);
+    }
+    if offset + 10 * n + 8 != length {
+        return Err(4);
+    }
+    let (labels, records) = front.split_at(offset as usize);
+    let records: Vec<&[u8]> = records.chunks(10).collect();
+    if records.iter().any(|record| outside(record, n)) {
+        return Err(5);
+    }
+    if records.iter().map(|record| u64::from(record[0])).sum::<u64>() != labels.len() as u64 {
+        return Err(6);
+    }
+    if labels.iter().any(|byte| *byte < 33 || *byte > 126) {
+        return Err(7);
+    }
+    let jobs = records.iter().map(|record| job(record)).collect();
+    Ok(Sheet { jobs, modules: modules as usize })
+}
+
+/// Whether a field of the record is outside its range, or it waits for a job that there is not.
+fn outside(record: &[u8], n: u64) -> bool {
+    let label_length = number(&record[0..1]);
+    let modules = number(&record[1..2]);
+    let minutes = number(&record[2..4]);
+    let earlier = number(&record[4..8]);
+    let departure = number(&record[8..10]);
+    !(1..=12).contains(&label_length)
+        || !(1..=255).contains(&modules)
+        || !(1..=1440).contains(&minutes)
+        || departure > 2880
+        || (n..32).any(|bit| earlier >> bit & 1 == 1)
+}
+
+fn job(record: &[u8]) -> Job {
+    let earlier = number(&record[4..8]);
+    Job {
+        modules: number(&record[1..2]) as usize,
+        minutes: number(&record[2..4]) as u32,
+        earlier: (0..32).filter(|bit| earlier >> bit & 1 == 1).collect(),
+    }
+}

@@ -1,0 +1,91 @@
+//! Why a call was refused.
+use std::error::Error;
+use std::fmt;
+
+/// Why a call was refused: document 01, 'Checking order'. The number of each is its place there.
+#[derive(Clone, Copy, Debug, PartialEq, Eq, Hash)]
+#[repr(u32)]
+pub enum Refusal {
+    SheetLength = 1,
+    TooManyJobs,
+    CabinetSize,
+    RecordOffset,
+    RecordField,
+    LabelLengths,
+    LabelByte,
+    OverWide,
+    Circular,
+    BufferTooShort,
+    ListLengths,
+    DeskFigures,
+    SharesExceedLimit,
+    NoSuchNumber,
+    ForNothing,
+    PassesCeiling,
+    DoesNotFit,
+    ExceedsHolding,
+}
+
+use Refusal::*;
+
+/// Every refusal in the order of the numbers, in plain words.
+const IN_WORDS: [(Refusal, &str); 18] = [
+    (SheetLength, "the sheet has fewer than 8 or more than 448 bytes"),
+    (TooManyJobs, "there are more than 20 jobs"),
+    (CabinetSize, "the cabinet has no modules or more than 64"),
+    (RecordOffset, "the records do not lie where the trailer says"),
+    (RecordField, "some record has a field outside its range, or waits for a job that there is not"),
+    (LabelLengths, "the label lengths do not add up to the label bytes there are"),
+    (LabelByte, "some label byte is below 33 or above 126"),
+    (OverWide, "some job needs more modules than the cabinet has"),
+    (Circular, "some job would have to end before itself"),
+    (BufferTooShort, "the lent buffer is too short"),
+    (ListLengths, "shares and ceilings are not two lists of one length, 2 to 8"),
+    (DeskFigures, "the limit is not 1 to 4096, a share exceeds its ceiling, or a ceiling exceeds the limit"),
+    (SharesExceedLimit, "the assured shares add up to more than the limit"),
+    (NoSuchNumber, "no controller or job has this number, or no calls can have left this desk"),
+    (ForNothing, "the call is for 0 modules"),
+    (PassesCeiling, "the claim would pass the controller's ceiling"),
+    (DoesNotFit, "the claim does not fit beside what others hold or have reserved"),
+    (ExceedsHolding, "the hand-back exceeds the holding"),
+];
+
+impl Refusal {
+    /// The refusal of this number, 1 to 18.
+    pub fn of_number(number: u32) -> Option<Refusal> {
+        let place = number.checked_sub(1)?;
+        IN_WORDS.get(place as usize).map(|(refusal, _)| *refusal)
+    }
+
+    /// Its number in document 01.
+    pub fn number(self) -> u32 {
+        self as u32
+    }
+
+    /// What a call of the library answered: 0 for done, else the refusal's number.
+    pub(crate) fn or_done(answer: u32) -> Result<(), Refusal> {
+        if answer == 0 {
+            return Ok(());
+        }
+        let refusal = Refusal::of_number(answer);
+        Err(refusal.unwrap_or_else(|| panic!("the library answered {answer}, which is no refusal")))
+    }
+}
+
+impl fmt::Display for Refusal {
+    fn fmt(&self, f: &mut fmt::Formatter<'_>) -> fmt::Result {
+        f.write_str(IN_WORDS[*self as usize - 1].1)
+    }
+}
+
+impl Error for Refusal {}
+
+#[test]
+fn each_number_has_its_own_words() {
+    for (place, (refusal, words)) in IN_WORDS.iter().enumerate() {
+        assert_eq!(refusal.number() as usize, place + 1);
+        assert_eq!(refusal.to_string(), *words);
+    }
+    assert_eq!(Refusal::of_number(0), None);
+    assert_eq!(Refusal::of_number(19), None);
+}

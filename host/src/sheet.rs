@@ -1,0 +1,65 @@
+//! Job sheets, written byte by byte; nothing is checked, so that wrong ones can be made too.
+use crate::random::Random;
+
+/// A job in the widths of its record.
+#[derive(Clone, Copy, Debug, Default)]
+pub struct Job {
+    pub label_length: u8,
+    pub modules: u8,
+    pub minutes: u16,
+    pub earlier: u32,
+    pub departure: u16,
+}
+
+impl Job {
+    fn record(&self) -> [u8; 10] {
+        let mut bytes = [0; 10];
+        bytes[0] = self.label_length;
+        bytes[1] = self.modules;
+        bytes[2..4].copy_from_slice(&self.minutes.to_le_bytes());
+        bytes[4..8].copy_from_slice(&self.earlier.to_le_bytes());
+        bytes[8..10].copy_from_slice(&self.departure.to_le_bytes());
+        bytes
+    }
+}
+
+/// Marks earlier jobs along a random order, each with this chance of a hundred, so that no job waits for itself.
+pub fn mark_earlier(random: &mut Random, jobs: &mut [Job], percent: u32) {
+    let mut rank: Vec<usize> = (0..jobs.len()).collect();
+    random.shuffle(&mut rank);
+    for (j, job) in jobs.iter_mut().enumerate() {
+        for i in 0..rank.len() {
+            if rank[i] < rank[j] && random.percent(percent) {
+                job.earlier |= 1 << i;
+            }
+        }
+    }
+}
+
+/// A sheet's parts: the labels run together, the jobs, and the trailer's three figures.
+#[derive(Clone, Debug)]
+pub struct Sheet {
+    pub labels: Vec<u8>,
+    pub jobs: Vec<Job>,
+    pub offset: u32,
+    pub count: u16,
+    pub modules: u16,
+}
+
+impl Sheet {
+    /// The parts of a sheet of these jobs, with a label of one letter for each.
+    pub fn of(modules: u16, mut jobs: Vec<Job>) -> Sheet {
+        let labels: Vec<u8> = (b'A'..).take(jobs.len()).collect();
+        jobs.iter_mut().for_each(|job| job.label_length = 1);
+        Sheet { offset: labels.len() as u32, count: jobs.len() as u16, labels, jobs, modules }
+    }
+
+    pub fn bytes(&self) -> Vec<u8> {
+        let mut bytes = self.labels.clone();
+        self.jobs.iter().for_each(|job| bytes.extend(job.record()));
+        bytes.extend(self.offset.to_le_bytes());
+        bytes.extend(self.count.to_le_bytes());
+        bytes.extend(self.modules.to_le_bytes());
+        bytes
+    }
+}

@@ -1,0 +1,82 @@
+//! Document 01's examples E1 to E11, and the edges of a sheet, through the exported calls.
+use depot_host::sheet::{Job, Sheet};
+use depot_host::{card_length, plan, Desk, Refusal};
+
+/// A job of so many modules and minutes that waits for the jobs of a set.
+fn job(modules: u8, minutes: u16, earlier: u32) -> Job {
+    Job { modules, minutes, earlier, ..Job::default() }
+}
+
+/// The end and the order on the card of these jobs.
+fn planned(modules: u16, jobs: Vec<Job>) -> Result<(u16, Vec<u8>), Refusal> {
+    let n = jobs.len();
+    let mut card = vec![0; card_length(n)];
+    plan(&Sheet::of(modules, jobs).bytes(), &mut card, &mut [0; 4096])?;
+    Ok((u16::from_le_bytes([card[13 * n + 4], card[13 * n + 5]]), card[12 * n..13 * n].to_vec()))
+}
+
+#[test]
+fn e1() {
+    let sheet = [
+        0x41, 0x42, 0x43, 0x01, 0x01, 0x0A, 0x00, 0x00, 0x00, 0x00, 0x00, 0x1E, 0x00, 0x01, 0x02, 0x14, 0x00, 0x00, 0x00, 0x00,
+        0x00, 0x19, 0x00, 0x01, 0x01, 0x0A, 0x00, 0x00, 0x00, 0x00, 0x00, 0x1E, 0x00, 0x03, 0x00, 0x00, 0x00, 0x03, 0x00, 0x02,
+        0x00,
+    ];
+    let mut card = [0xEE; 48];
+    assert_eq!(plan(&sheet, &mut card, &mut []), Ok(()));
+    let rows =
+        [[0, 0, 10, 0, 1, 0, 0, 0, 0, 0, 0, 0], [10, 0, 30, 0, 3, 0, 0, 0, 0, 0, 0, 0], [0, 0, 10, 0, 2, 0, 0, 0, 0, 0, 0, 0]];
+    assert_eq!(card[..36], rows.concat());
+    assert_eq!(card[36..], [0, 2, 1, 36, 0, 0, 0, 30, 0, 3, 0, 0xEE]);
+}
+
+#[test]
+fn e2_to_e8() {
+    let mut card = [1; 8];
+    assert_eq!(plan(&Sheet::of(1, vec![]).bytes(), &mut card, &mut []), Ok(()));
+    assert_eq!(card, [0; 8]);
+    assert_eq!(planned(1, vec![job(2, 1, 0)]), Err(Refusal::OverWide));
+    assert_eq!(planned(1, vec![job(1, 1, 2), job(1, 1, 1)]), Err(Refusal::Circular));
+    assert_eq!(planned(1, vec![job(1, 1, 1)]), Err(Refusal::Circular));
+    assert_eq!(planned(1, vec![job(1, 1, 2), job(2, 1, 1)]), Err(Refusal::OverWide));
+    assert_eq!(planned(2, vec![job(1, 10, 0), job(1, 10, 0), job(1, 20, 0)]), Ok((20, vec![0, 2, 1])));
+    let e8 = vec![job(1, 1, 0), job(1, 10, 0), job(2, 1, 1), job(1, 10, 4)];
+    assert_eq!(planned(2, e8), Ok((12, vec![0, 2, 1, 3])));
+}
+
+#[test]
+fn e9_to_e11() {
+    let mut desk = Desk::open(10, &[4, 3], &[10, 10]).unwrap();
+    assert_eq!((desk.look(0), desk.look(1)), (Ok(7), Ok(6)));
+    assert_eq!(desk.claim(0, 7), Ok(()));
+    assert_eq!(desk.claim(0, 1), Err(Refusal::DoesNotFit));
+    assert_eq!(desk.claim(1, 3), Ok(()));
+    assert_eq!(desk.claim(1, 1), Err(Refusal::DoesNotFit));
+    assert_eq!(desk.hand_back(0, 8), Err(Refusal::ExceedsHolding));
+    assert_eq!(desk.hand_back(0, 7), Ok(()));
+    assert_eq!(Desk::open(10, &[6, 5], &[10, 10]), Err(Refusal::SharesExceedLimit));
+    assert!(Desk::open(10, &[5, 5], &[10, 10]).is_ok());
+}
+
+#[test]
+fn edges() {
+    assert_eq!(planned(1, vec![job(1, 1440, 0)]), Ok((1440, vec![0])));
+    assert_eq!(planned(1, vec![job(1, 1441, 0)]), Err(Refusal::RecordField));
+    assert_eq!(planned(64, vec![job(64, 1, 0)]), Ok((1, vec![0])));
+    assert_eq!(planned(65, vec![job(64, 1, 0)]), Err(Refusal::CabinetSize));
+    let one_after_another = |n: u32| (0..n).map(|j| job(1, 1440, (1 << j) >> 1)).collect();
+    assert_eq!(planned(1, one_after_another(20)), Ok((28_800, (0..20).collect())));
+    assert_eq!(planned(1, one_after_another(21)), Err(Refusal::TooManyJobs));
+}
+
+/// The longest sheet, of 448 bytes, plans; with a byte more it is too long.
+#[test]
+fn longest_sheet() {
+    let long_label = Job { label_length: 12, ..job(1, 1, 0) };
+    let mut sheet = Sheet { labels: vec![b'~'; 240], jobs: vec![long_label; 20], offset: 240, count: 20, modules: 64 };
+    let mut card = [0; card_length(20)];
+    assert_eq!(sheet.bytes().len(), 448);
+    assert_eq!(plan(&sheet.bytes(), &mut card, &mut []), Ok(()));
+    sheet.labels.push(b'~');
+    assert_eq!(plan(&sheet.bytes(), &mut card, &mut []), Err(Refusal::SheetLength));
+}

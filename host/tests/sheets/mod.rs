@@ -1,0 +1,124 @@
+//! Random job sheets, good ones and damaged ones.
+use depot_host::random::Random;
+use depot_host::sheet::{mark_earlier, Job, Sheet};
+
+/// A sheet that reads, of up to 7 jobs: no job is too wide and none waits for itself.
+pub fn good(random: &mut Random) -> Sheet {
+    let n = random.place(8);
+    let most = random.pick(&[1, 2, 2, 3, 4, 5, 8, 64]);
+    let modules = random.between(1, most);
+    let long = n < 6 && random.percent(10);
+    let longest = if long { 1440 } else { random.pick(&[1, 2, 5, 12, 30]) };
+    let mut jobs: Vec<Job> = (0..n)
+        .map(|_| Job {
+            label_length: random.between(1, 12) as u8,
+            modules: random.between(1, modules) as u8,
+            minutes: random.between(1, longest) as u16,
+            earlier: 0,
+            departure: random.between(0, 2880) as u16,
+        })
+        .collect();
+    let percent = random.pick(&[0, 0, 10, 30, 60, 100]);
+    mark_earlier(random, &mut jobs, percent);
+    let length = jobs.iter().map(|job| usize::from(job.label_length)).sum();
+    let labels: Vec<u8> = (0..length).map(|_| random.between(33, 126) as u8).collect();
+    Sheet { offset: length as u32, count: n as u16, modules: modules as u16, labels, jobs }
+}
+
+/// The sheet's bytes with a fault for each of the checks, 1 to 9; a sheet without jobs cannot have all of them.
+pub fn damaged(random: &mut Random, mut sheet: Sheet, checks: &[u32]) -> Vec<u8> {
+    checks.iter().for_each(|check| put_fault(random, &mut sheet, *check));
+    let mut bytes = sheet.bytes();
+    if checks.contains(&1) {
+        if random.percent(50) {
+            bytes.truncate(random.place(8));
+        } else {
+            let longer = random.pick(&[449, 450, 600]) - bytes.len();
+            bytes.splice(0..0, vec![b'z'; longer]);
+        }
+    }
+    bytes
+}
+
+fn put_fault(random: &mut Random, sheet: &mut Sheet, check: u32) {
+    let job = random.place(sheet.jobs.len().max(1));
+    match check {
+        2 => sheet.count = outside(random, 21),
+        3 => sheet.modules = if random.percent(30) { 0 } else { outside(random, 65) },
+        4 => misplace(random, sheet),
+        5 if !sheet.jobs.is_empty() => wrong_field(random, &mut sheet.jobs[job], sheet.count),
+        6 => wrong_lengths(random, sheet, job),
+        7 if !sheet.labels.is_empty() => {
+            let place = random.place(sheet.labels.len());
+            sheet.labels[place] = random.pick(&[0, 10, 32, 127, 128, 255]);
+        }
+        8 if !sheet.jobs.is_empty() => {
+            let too_wide = u32::from(sheet.modules) + 1;
+            sheet.jobs[job].modules = random.between(too_wide.min(255), 255) as u8;
+        }
+        9 if !sheet.jobs.is_empty() => make_circle(random, &mut sheet.jobs),
+        _ => {}
+    }
+}
+
+/// Some bytes of the sheet changed, no matter which.
+pub fn scrambled(random: &mut Random, sheet: Sheet) -> Vec<u8> {
+    let mut bytes = sheet.bytes();
+    for _ in 0..random.between(1, 3) {
+        let place = random.place(bytes.len());
+        bytes[place] = if random.percent(50) { bytes[place] ^ (1 << random.place(8)) } else { random.word() as u8 };
+    }
+    bytes
+}
+
+/// A number of 16 bits from `first` on, near it or far from it.
+fn outside(random: &mut Random, first: u32) -> u16 {
+    let last = random.pick(&[first, first + 3, 300, 65535]);
+    random.between(first, last.max(first)) as u16
+}
+
+/// The records are not where the trailer says.
+fn misplace(random: &mut Random, sheet: &mut Sheet) {
+    let far = random.between(1, 400);
+    match random.place(5) {
+        0 => sheet.offset = sheet.offset.wrapping_sub(far),
+        1 => sheet.offset = sheet.offset.wrapping_add(far),
+        2 => sheet.count = (sheet.count + random.between(1, 20) as u16) % 21,
+        3 if !sheet.labels.is_empty() => drop(sheet.labels.pop()),
+        _ => sheet.labels.push(b'x'),
+    }
+}
+
+fn wrong_field(random: &mut Random, job: &mut Job, n: u16) {
+    match random.place(6) {
+        0 => job.label_length = 0,
+        1 => job.label_length = outside(random, 13).min(255) as u8,
+        2 => job.modules = 0,
+        3 => job.minutes = if random.percent(30) { 0 } else { outside(random, 1441) },
+        4 => job.earlier |= 1 << random.between(u32::from(n).min(31), 31),
+        _ => job.departure = outside(random, 2881),
+    }
+}
+
+/// The label lengths do not add up to the labels, by one of their bytes or by one of their lengths.
+fn wrong_lengths(random: &mut Random, sheet: &mut Sheet, job: usize) {
+    if sheet.jobs.is_empty() || random.percent(50) {
+        sheet.labels.push(b'y');
+        sheet.offset += 1;
+    } else {
+        let length = &mut sheet.jobs[job].label_length;
+        *length = 1 + *length % 12;
+    }
+}
+
+/// Each job of a random circle waits for the one before it; a circle of one is a job that waits for itself.
+fn make_circle(random: &mut Random, jobs: &mut [Job]) {
+    let mut circle: Vec<usize> = (0..jobs.len()).collect();
+    random.shuffle(&mut circle);
+    circle.truncate(1 + random.place(jobs.len()));
+    let mut before = circle[circle.len() - 1];
+    for job in circle {
+        jobs[job].earlier |= 1 << before;
+        before = job;
+    }
+}
