@@ -1,4 +1,5 @@
 -- The laws of the search.
+pub mod Steps
 pub mod Candidates
 pub mod Areas
 pub mod Recalls

@@ -10,12 +10,12 @@ use lib.Dec.{ltb}
 use lib.Count.{ones}
 use lib.ListN.{length, getD, take}
 use borrow.Author.Tests.{ltb-true, ltb-false}
-use Rattle.counting.specs.Counting.{only, sum, largest}
-use Rattle.counting.proofs.Tests.{true-or-false, clash}
+use Rattle.counting.specs.Counting.{only, largest}
+use Rattle.counting.proofs.Tests.{true-or-false}
 use Rattle.counting.proofs.Sums.{sum-same, sum-add}
 use Rattle.counting.proofs.Ranges.{largest-same}
 use Rattle.schedule.specs.Plan.{Sheet, finish}
-use Rattle.schedule.specs.ListPlan.{Order, PartPlan, ready, startOf, partOf}
+use Rattle.schedule.specs.ListPlan.{Order, PartPlan, ready}
 use Rattle.schedule.specs.TieRule.{endOf}
 use Rattle.schedule.proofs.Starts.{ready-says}
 use Rattle.schedule.proofs.Area.{work, todo}
@@ -27,10 +27,11 @@ use Rattle.tables.specs.Tables.{sheetOf}
 use Rattle.placement.specs.declared.Part.{Part}
 use Rattle.placement.specs.Profile.{heldAfter}
 use Rattle.placement.specs.Part.{wordOf, IsPart, Placeable, Placed}
-use Rattle.placement.proofs.Parts.{after-small, left-small, left-count, all-placed, start-short, placeable, fewer, placed-part}
+use Rattle.placement.proofs.Parts.{after-small, left-count, all-placed, start-short, placeable, fewer, placed-part}
 use Rattle.memory.specs.Entries.{Hit, Adds}
 use Rattle.search.specs.declared.Best.{Best}
-use Rattle.search.specs.Search.{Tails, Known, theoryPart, JobStart, JobStarts, HeldAfter, SomeTooLong, Hopeless, Remembered, foundOf, betterOf, State}
+use Rattle.search.specs.Search.{Tails, Known, theoryPart, JobStart, JobStarts, HeldAfter, SomeTooLong, Hopeless}
+use Rattle.search.specs.Search.{Remembered, foundOf, betterOf, State}
 use Rattle.search.proofs.Recalls.{remembered-less, remembered-adds, hit-cut}
 
 module _ (need minutes earlier tails : List ℕ) (jobs modules : ℕ) where
@@ -38,7 +39,8 @@ module _ (need minutes earlier tails : List ℕ) (jobs modules : ℕ) where
   S = sheetOf need minutes earlier jobs modules
 
   -- what is dealt with under another name
-  state-same : (X Y : List ℕ → Type 0) (b : Best) (m : List ℕ) → (Swept S (b .limit) X (foundOf jobs b) → Swept S (b .limit) Y (foundOf jobs b))
+  state-same : (X Y : List ℕ → Type 0) (b : Best) (m : List ℕ)
+      → (Swept S (b .limit) X (foundOf jobs b) → Swept S (b .limit) Y (foundOf jobs b))
       → State need minutes earlier tails jobs modules X b m → State need minutes earlier tails jobs modules Y b m
   state-same X Y b m f s = record { fit = s .fit; chains = s .chains; order = s .order; swept = f (s .swept); remembered = s .remembered }
 
@@ -157,7 +159,8 @@ module _ (need minutes earlier tails : List ℕ) (jobs modules : ℕ) where
           let r = started j (getD at j 0) (starts .each j l) k in
           chain-cut S (known .fit .narrow) w (known .is .follows) jobs j e r (omega (arith, chains j l, starts .each j l .here r))
 
-      pub hopeless-cut : (e : ℕ) → Tails S tails → 0 < ones (part .unplaced) → Hopeless part at tails jobs modules least e → CannotBeat S e w
+      pub hopeless-cut : (e : ℕ) → Tails S tails → 0 < ones (part .unplaced) → Hopeless part at tails jobs modules least e
+          → CannotBeat S e w
       hopeless-cut e chains pos (inl h) = crowded-cut e pos h
       hopeless-cut e chains pos (inr h) = long-cut e chains h
 
@@ -187,7 +190,8 @@ module _ (need minutes earlier tails : List ℕ) (jobs modules : ℕ) where
         child-ready = started job s start low
 
         pub child-placeable : Placeable part job s (getD need job 0) (getD minutes job 0) modules
-        child-placeable = rw (start .here child-ready) (placeable need minutes earlier jobs modules (known .fit) part w (known .is) job child-ready)
+        child-placeable = rw (start .here child-ready)
+            (placeable need minutes earlier jobs modules (known .fit) part w (known .is) job child-ready)
 
         module _ (child : Part) (placed : Placed part job s (getD need job 0) (getD minutes job 0) modules child) where
           child-is : IsPart S (w ++ (job ∷ [])) child
@@ -195,7 +199,8 @@ module _ (need minutes earlier tails : List ℕ) (jobs modules : ℕ) where
               (rw (start .here child-ready) at placed)
 
           pub child-fewer : suc (ones (child .unplaced)) ≡ ones (part .unplaced)
-          child-fewer = ap (λ (x : ℕ). suc (ones x)) (placed .unplaced) ∙ fewer need minutes earlier jobs modules (known .fit) part w (known .is) job child-ready
+          child-fewer = ap (λ (x : ℕ). suc (ones x)) (placed .unplaced)
+              ∙ fewer need minutes earlier jobs modules (known .fit) part w (known .is) job child-ready
 
           pub child-known : Known need minutes earlier jobs modules child
           child-known = record { fit = known .fit; is = subst (λ (v : List ℕ). IsPart S v child) (sym (child-is .word)) child-is }

@@ -1,11 +1,11 @@
 -- The whole search: the limit that it starts from, and the answer that it ends with.
-use mathlib.Core.Path.{_≡_, refl, sym, ap, _∙_, subst}
+use mathlib.Core.Path.{_≡_, refl, sym, subst}
 use mathlib.Core.Logic.{_⊎_, inl, inr, _≢_}
-use mathlib.Core.List.{List, []}
+use mathlib.Core.List.{List}
 use Prim.Native.Nat.{ℕ, _+_, _≤_, _<_, min, zero-le}
 use native.Mathlib.Omega.{arith}
 use native.Mathlib.Nat.{add-zero}
-use lib.ListN.{length, getD, take, replicate, length-replicate}
+use lib.ListN.{getD, take, replicate, length-replicate}
 use Rattle.counting.proofs.Tests.{less-or-not}
 use Rattle.counting.proofs.Ranges.{largest-le}
 use Rattle.counting.proofs.Sums.{sum-same}
@@ -22,7 +22,7 @@ use Rattle.tables.specs.Tables.{sheetOf, Fit}
 use Rattle.tables.proofs.Laws.{all-minutes}
 use Rattle.placement.specs.Part.{wordOf, firstPart}
 use Rattle.search.specs.declared.Best.{Best}
-use Rattle.search.specs.Search.{ChainsOf, State, Visiting, Visited, Reached, Limit, Answer}
+use Rattle.search.specs.Search.{ChainsOf, Visiting, Visited, Reached, Limit, Answer}
 use Rattle.search.proofs.Recalls.{remembered-none}
 use Rattle.search.proofs.Choices.{first-known}
 

@@ -13,7 +13,6 @@ use Rattle.schedule.specs.ListPlan.{Order, PartPlan, noJobs, ready, Follows, st
 use Rattle.schedule.specs.TieRule as tie
 use Rattle.schedule.specs.TieRule.{endOf}
 use Rattle.schedule.proofs.Chains.{chain}
-use Rattle.schedule.proofs.Places.{Through}
 use Rattle.schedule.proofs.Swept.{Found, Swept, CannotBeat}
 use Rattle.tables.specs.Tables.{sheetOf, Fit}
 use Rattle.placement.specs.declared.Part.{Part}
@@ -107,7 +106,8 @@ betterOf jobs p b =
     ]
 
 -- The tables fit, and all orders of X are dealt with.
-pub record State (need minutes earlier tails : List ℕ) (jobs modules : ℕ) (X : List ℕ → Type 0) (best : Best) (memory : List ℕ) : Type 0 where
+pub record State (need minutes earlier tails : List ℕ) (jobs modules : ℕ) (X : List ℕ → Type 0) (best : Best) (memory : List ℕ)
+    : Type 0 where
   pub fit : Fit need minutes jobs modules
   pub chains : Tails (sheetOf need minutes earlier jobs modules) tails
   pub order : length (best .order) ≡ 20
@@ -115,13 +115,14 @@ pub record State (need minutes earlier tails : List ℕ) (jobs modules : ℕ) (X
   pub remembered : Remembered (sheetOf need minutes earlier jobs modules) memory (best .end)
 
 -- The same, at a part-plan.
-pub record Visiting (need minutes earlier tails : List ℕ) (jobs modules : ℕ) (part : Part) (X : List ℕ → Type 0) (best : Best) (memory : List ℕ)
-    : Type 0 where
+pub record Visiting (need minutes earlier tails : List ℕ) (jobs modules : ℕ) (part : Part) (X : List ℕ → Type 0) (best : Best)
+    (memory : List ℕ) : Type 0 where
   pub known : Known need minutes earlier jobs modules part
   pub state : State need minutes earlier tails jobs modules X best memory
 
 -- what a call leaves: the limit stays
-pub record Visited (need minutes earlier tails : List ℕ) (jobs modules : ℕ) (X : List ℕ → Type 0) (best r : Best) (memory : List ℕ) : Type 0 where
+pub record Visited (need minutes earlier tails : List ℕ) (jobs modules : ℕ) (X : List ℕ → Type 0) (best r : Best) (memory : List ℕ)
+    : Type 0 where
   pub state : State need minutes earlier tails jobs modules X r memory
   pub limit : r .limit ≡ best .limit
 

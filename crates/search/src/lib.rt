@@ -1,10 +1,11 @@
 // The search for the tie rule's order: all orders in dictionary order, and cuts that only pass over what cannot beat the best so far.
 ghost use mathlib.Core.Path.{_≡_};
 ghost use mathlib.Core.Bool.{true};
-ghost use Prim.Native.Nat.{ℕ, _+_, _-_, _*_, _<_, _≤_, min};
-ghost use lib.ListN.{length, getD, take, replicate};
+ghost use Prim.Native.Nat.{_+_, _-_, _*_, _<_, _≤_, min};
+ghost use lib.ListN.{length, getD, replicate};
 ghost use Rattle.placement.specs.Profile.{heldAfter};
-ghost use Rattle.search.specs.Search.{Known, JobStart, JobStarts, HeldAfter, SomeTooLong, Hopeless, betterOf, Visiting, Visited, ChainsOf, Chosen, ChoiceOf, Reached, Limit, Answer};
+ghost use Rattle.search.specs.Search.{Known, JobStart, JobStarts, HeldAfter, SomeTooLong, Hopeless, betterOf, Visiting, Visited};
+ghost use Rattle.search.specs.Search.{ChainsOf, Chosen, ChoiceOf, Reached, Limit, Answer};
 ghost use Rattle.schedule.proofs.Places.{Before, Upto, Through};
 ghost use Rattle.placement.specs.Part.{wordOf};
 ghost use Rattle.counting.specs.Counting.{only, largest};
@@ -201,7 +202,8 @@ fn hopeless<'a>(
     least: u16,
     end: u16,
 ) -> bool
-    requires { ⌜ (HeldAfter (part .until) (part .held) (part .gone) (part .placed) least) × (((part .left ≤ 2000000) × (modules ≤ 64)) × (jobs ≤ 20)) ⌝ }
+    requires { ⌜ (HeldAfter (part .until) (part .held) (part .gone) (part .placed) least)
+        × (((part .left ≤ 2000000) × (modules ≤ 64)) × (jobs ≤ 20)) ⌝ }
     ensures { λ r. ⌜ (r ≡ true → Hopeless part (now (at .entry)) (now (tails .entry)) jobs modules least end) ⌝ }
 {
     if crowded(
@@ -232,7 +234,8 @@ fn visit(
     memory: &mut [u8],
 ) -> Best
     requires { ⌜ Visiting (now need) (now minutes) (now earlier) (now tails) jobs modules part (Before (wordOf part)) best (now memory) ⌝ }
-    ensures { λ r. ⌜ Visited (now (need .entry)) (now (minutes .entry)) (now (earlier .entry)) (now (tails .entry)) jobs modules (Through (wordOf part)) best r (now (memory .exit)) ⌝ }
+    ensures { λ r. ⌜ Visited (now (need .entry)) (now (minutes .entry)) (now (earlier .entry)) (now (tails .entry)) jobs modules
+        (Through (wordOf part)) best r (now (memory .exit)) ⌝ }
 {
     let unplaced = part.unplaced;
     if u32::count_ones(unplaced) == 0 {
@@ -284,9 +287,11 @@ fn try_children(
     best: Best,
     memory: &mut [u8],
 ) -> Best
-    requires { ⌜ Visiting (now need) (now minutes) (now earlier) (now tails) jobs modules part (Upto (wordOf part) job) best (now memory) ⌝ }
+    requires { ⌜ Visiting (now need) (now minutes) (now earlier) (now tails) jobs modules part
+        (Upto (wordOf part) job) best (now memory) ⌝ }
     requires { ⌜ (JobStart (now need) (now minutes) (now earlier) jobs modules part job start) × (job < jobs) ⌝ }
-    ensures { λ r. ⌜ Visited (now (need .entry)) (now (minutes .entry)) (now (earlier .entry)) (now (tails .entry)) jobs modules (Upto (wordOf part) (job + 1)) best r (now (memory .exit)) ⌝ }
+    ensures { λ r. ⌜ Visited (now (need .entry)) (now (minutes .entry)) (now (earlier .entry)) (now (tails .entry)) jobs modules
+        (Upto (wordOf part) (job + 1)) best r (now (memory .exit)) ⌝ }
 {
     if start == 65535 {
         return best;
@@ -345,7 +350,8 @@ fn lengthen(
     tails: Tails,
     k: usize,
 ) -> Tails
-    requires { ⌜ (Fit (now need) (now minutes) jobs modules) × ((ChainsOf (now need) (now minutes) (now earlier) jobs modules (tails .at) k) × (k < 20)) ⌝ }
+    requires { ⌜ (Fit (now need) (now minutes) jobs modules)
+        × ((ChainsOf (now need) (now minutes) (now earlier) jobs modules (tails .at) k) × (k < 20)) ⌝ }
     ensures { λ r. ⌜ ChainsOf (now (need .entry)) (now (minutes .entry)) (now (earlier .entry)) jobs modules (r .at) (k + 1) ⌝ }
 {
     let mut next = [0u16; 20];

@@ -1,6 +1,6 @@
 -- `search::visit` and `search::try_children`, which call each other, meet their contracts.
-use Prim.Native.Nat.{_+_, _-_, _*_, _≤_, _<_}
-use mathlib.Core.Path.{_≡_, refl, sym, _∙_}
+use Prim.Native.Nat.{_+_, _-_, _*_, _≤_, _<_, zero-le}
+use mathlib.Core.Path.{_≡_, refl, _∙_}
 use native.Mathlib.Omega.{arith}
 use native.Mathlib.Nat.{pos-of-ne-zero}
 use lib.Count.{ones}
@@ -9,10 +9,10 @@ use Rattle.schedule.proofs.Places.{Upto}
 use Rattle.placement.specs.Part.{wordOf}
 use Rattle.placement.proofs.Parts.{left-small}
 use Rattle.search.specs.Search.{Visited}
+use Rattle.search.proofs.Steps.{in-20, at-2, next-fits, next-in, fewer-left, all-done}
 use Rattle.search.proofs.Turns.{visit-leaf, visit-cut, held-ready, hopeless-cut, recall-cut, child-none, child-placeable}
 use Rattle.search.proofs.Turns.{child-fewer, child-known, child-enter, child-leave, visit-first, visit-all, visit-remember}
-use borrow.Author.Needs.{needs}
-use Prim.Native.Nat.{ℕ, _<_}
+use Prim.Native.Nat.{ℕ}
 use borrow.Fn.Kinds.{In}
 use borrow.Fn.PlainCycle.{Measures, is, falls, and}
 use Rattle.search.proofs.try_children.Reads as try-children
@@ -93,16 +93,26 @@ try-children-returns t c =
     }
 
 try-children-mul-place : (t : ℕ) → try-children-lts.Need-mul-place (try-children-claims t) (try-children-at t) try-children.Post
-try-children-mul-place t c = search needs
+try-children-mul-place t c =
+    let pre = c .before .before .pre .1 in
+    at-2 (pre .1 .1) (pre .0 .known .fit .few)
 
-try-children-element-copy-out-place : (t : ℕ) → try-children-lts.Need-element-copy-out-place (try-children-claims t) (try-children-at t) try-children.Post
-try-children-element-copy-out-place t c = search needs
+try-children-element-copy-out-place : (t : ℕ)
+    → try-children-lts.Need-element-copy-out-place (try-children-claims t) (try-children-at t) try-children.Post
+try-children-element-copy-out-place t c =
+    let pre = c .before .before .pre .1 in
+    in-20 (pre .1 .1) (pre .0 .known .fit .few)
 
 try-children-mul-place-2 : (t : ℕ) → try-children-lts.Need-mul-place-2 (try-children-claims t) (try-children-at t) try-children.Post
-try-children-mul-place-2 t c = search needs
+try-children-mul-place-2 t c =
+    let pre = c .before .before .before .pre .1 in
+    at-2 (pre .1 .1) (pre .0 .known .fit .few)
 
-try-children-element-copy-out-place-2 : (t : ℕ) → try-children-lts.Need-element-copy-out-place-2 (try-children-claims t) (try-children-at t) try-children.Post
-try-children-element-copy-out-place-2 t c = search needs
+try-children-element-copy-out-place-2 : (t : ℕ)
+    → try-children-lts.Need-element-copy-out-place-2 (try-children-claims t) (try-children-at t) try-children.Post
+try-children-element-copy-out-place-2 t c =
+    let pre = c .before .before .before .pre .1 in
+    in-20 (pre .1 .1) (pre .0 .known .fit .few)
 
 try-children-place-requires : (t : ℕ) → try-children-lts.Need-place-requires (try-children-claims t) (try-children-at t) try-children.Post
 try-children-place-requires t c κs =
@@ -167,7 +177,9 @@ try-children-returns-2 t c =
     }
 
 abbrev visit-Inv-loop : visit-lts.InvT-loop
-visit-Inv-loop need minutes earlier tails jobs modules memory₀ part unplaced at least found₀ job₀ memory found job = (job ≤ jobs) × Visited need minutes earlier tails jobs modules (Upto (wordOf part) job) found₀ found memory × (length memory ≡ length memory₀)
+visit-Inv-loop need minutes earlier tails jobs modules memory₀ part unplaced at least found₀ job₀ memory found job =
+    (job ≤ jobs) × Visited need minutes earlier tails jobs modules (Upto (wordOf part) job) found₀ found memory
+    × (length memory ≡ length memory₀)
 
 abbrev visit-μ-loop : visit-lts.MeasureT-loop
 visit-μ-loop need minutes earlier tails jobs modules memory₀ part unplaced at least found₀ job₀ memory found job = jobs - job
@@ -187,7 +199,8 @@ visit-returns t c =
     (v .known) (c .before .if1 .taken) (a .best) (a .memory .now) (v .state) in
     rw (c .finished .ensures) (record { state = l .0; limit = l .1 })
 
-visit-ready-starts-requires : (t : ℕ) → visit-lts.Need-ready-starts-requires (visit-claims t) (visit-at t) visit.Post visit-Inv-loop visit-μ-loop
+visit-ready-starts-requires : (t : ℕ)
+    → visit-lts.Need-ready-starts-requires (visit-claims t) (visit-at t) visit.Post visit-Inv-loop visit-μ-loop
 visit-ready-starts-requires t c κs =
     let pre = c .before .before .pre in
     pre .1 .known
@@ -259,7 +272,7 @@ visit-loop-holds t c =
     let pre = c .before .before .before .before .before .before .before .before .before .before .before .before .pre in
     let a = args in
     let v = pre .1 in (
-      omega arith,
+      zero-le,
       record {
         state = visit-first (a .need .now) (a .minutes .now) (a .earlier .now) (a .tails .now) (a .jobs) (a .modules) (a .t7)
             (v .known) (a .best) (a .memory .now) (v .state);
@@ -271,29 +284,33 @@ visit-loop-holds t c =
 visit-mul-try-children : (t : ℕ) → visit-lts.Need-mul-try-children (visit-claims t) (visit-at t) visit.Post visit-Inv-loop visit-μ-loop
 visit-mul-try-children t c =
     let pre = c .before .before .before .before .before .before .before .before .before .before .before .before .before .before .pre in
-    record { fits = omega (arith, pre .1 .known .fit .few) }
+    at-2 (c .loop-test .taken) (pre .1 .known .fit .few)
 
-visit-array-read-try-children : (t : ℕ) → visit-lts.Need-array-read-try-children (visit-claims t) (visit-at t) visit.Post visit-Inv-loop visit-μ-loop
+visit-array-read-try-children : (t : ℕ)
+    → visit-lts.Need-array-read-try-children (visit-claims t) (visit-at t) visit.Post visit-Inv-loop visit-μ-loop
 visit-array-read-try-children t c =
     let pre = c .before .before .before .before .before .before .before .before .before .before .before .before .before .before .pre in
-    omega (arith, pre .1 .known .fit .few)
+    in-20 (c .loop-test .taken) (pre .1 .known .fit .few)
 
-visit-try-children-requires : (t : ℕ) → visit-lts.Need-try-children-requires (visit-claims t) (visit-at t) visit.Post visit-Inv-loop visit-μ-loop
+visit-try-children-requires : (t : ℕ)
+    → visit-lts.Need-try-children-requires (visit-claims t) (visit-at t) visit.Post visit-Inv-loop visit-μ-loop
 visit-try-children-requires t c κs =
-    let pre = c .before .before .before .before .before .before .before .before .before .before .before .before .before .before .before .pre in
-    let loop = c .before .before .loop in
-    let loop-test = c .before .loop-test in
-    let ready-starts = c .before .before .before .before .before .before .before .before .before .before .before .before .ready-starts in
+    let loop-at = c .before .before in
+    let ready-starts = loop-at .before .before .before .before .before .before .before .before .before .before .ready-starts in
+    let pre = loop-at .before .before .before .before .before .before .before .before .before .before .before .before .before .pre in
     let v = pre .1 in
-    let i = loop in
-    let l = loop-test .taken in
+    let i = loop-at .loop in
+    let l = c .before .loop-test .taken in
     (omega (arith, pre .0), (record { known = v .known; state = i .inv .1 .state }, (ready-starts .ensures .each (i .job) l, l)))
 
 visit-add-job : (t : ℕ) → visit-lts.Need-add-job (visit-claims t) (visit-at t) visit.Post visit-Inv-loop visit-μ-loop
-visit-add-job t c = search needs
+visit-add-job t c =
+    let loop-at = c .before .before .before .before .before in
+    let start = loop-at .before .before .before .before .before .before .before .before .before .before .before .before .before in
+    next-fits (c .before .before .before .before .loop-test .taken) (start .pre .1 .known .fit .few)
 
 visit-loop-less : (t : ℕ) → visit-lts.Need-loop-less (visit-claims t) (visit-at t) visit.Post visit-Inv-loop visit-μ-loop
-visit-loop-less t c = search needs
+visit-loop-less t c = fewer-left (c .before .before .before .before .loop-test .taken)
 
 visit-loop-again : (t : ℕ) → visit-lts.Need-loop-again (visit-claims t) (visit-at t) visit.Post visit-Inv-loop visit-μ-loop
 visit-loop-again t c =
@@ -301,15 +318,16 @@ visit-loop-again t c =
     let try-children = c .before .before .try-children in
     let i = loop .inv in
     let r = try-children in (
-      omega arith,
+      next-in (c .before .before .before .before .loop-test .taken),
       record { state = r .ensures .state; limit = r .ensures .limit ∙ i .1 .limit },
       r .kept .1 .1 .1 .1 .1 .1 .1 .1 .1 .1 .0 ∙ i .2,
     )
 
 visit-remember-requires : (t : ℕ) → visit-lts.Need-remember-requires (visit-claims t) (visit-at t) visit.Post visit-Inv-loop visit-μ-loop
 visit-remember-requires t c κs =
-    let pre = c .before .before .before .before .before .before .before .before .before .before .before .before .before .before .before .before .before .pre in
-    pre .1 .known .fit .few
+    let loop-at = c .before .before .before .before in
+    let start = loop-at .before .before .before .before .before .before .before .before .before .before .before .before .before in
+    start .pre .1 .known .fit .few
 
 visit-same-length-2 : (t : ℕ) → visit-lts.Need-same-length-2 (visit-claims t) (visit-at t) visit.Post visit-Inv-loop visit-μ-loop
 visit-same-length-2 t c =
@@ -319,16 +337,14 @@ visit-same-length-2 t c =
 
 visit-returns-4 : (t : ℕ) → visit-lts.Need-returns-4 (visit-claims t) (visit-at t) visit.Post visit-Inv-loop visit-μ-loop
 visit-returns-4 t c =
-    let args = c .before .before .before .before .before .before .before .before .before .before .before .before .before .before .before .before .before .before .before .before .args in
-    let pre = c .before .before .before .before .before .before .before .before .before .before .before .before .before .before .before .before .before .before .before .before .pre in
-    let loop = c .before .before .before .before .before .before .before .loop in
-    let loop-test = c .before .before .before .before .before .before .loop-test in
+    let loop-at = c .before .before .before .before .before .before .before in
+    let if1 = loop-at .before .before .before .before .before .before .before .before .before .before .before .if1 in
+    let start = loop-at .before .before .before .before .before .before .before .before .before .before .before .before .before in
     let remember = c .before .before .remember in
-    let if1 = c .before .before .before .before .before .before .before .before .before .before .before .before .before .before .before .before .before .before .if1 in
-    let a = args in
-    let v = pre .1 in
-    let i = loop in
-    let all : i .job ≡ a .jobs = omega (arith, i .inv .0, loop-test .left) in
+    let a = start .args in
+    let v = start .pre .1 in
+    let i = loop-at .loop in
+    let all = all-done (i .inv .0) (c .before .before .before .before .before .before .loop-test .left) in
     record {
       state = visit-remember (a .need .now) (a .minutes .now) (a .earlier .now) (a .tails .now) (a .jobs) (a .modules) (a .t7)
           (v .known) (i .found) (i .memory) (remember .last .0)

@@ -1,14 +1,9 @@
 -- `search::greedy` meets its contract.
-use Prim.Native.Nat.{ℕ, _<_}
-use mathlib.Core.Path.{_≡_, sym, subst, _∙_}
-use mathlib.Core.List.{[]}
-use native.Mathlib.Omega.{arith}
 use native.Mathlib.Nat.{pos-of-ne-zero}
 use lib.Count.{ones}
-use Rattle.search.specs.Search.{Known, JobStart}
-use Rattle.search.proofs.Turns.{child-placeable, child-fewer, child-known}
-use Rattle.search.proofs.Choices.{first-known, greedy-stuck, greedy-done}
-use borrow.Author.Needs.{needs}
+use Rattle.search.specs.Search.{Known}
+use Rattle.search.proofs.Steps.{in-20, at-2, one-less}
+use Rattle.search.proofs.Choices.{first-known, greedy-stuck, greedy-done, next-job, next-placeable, next-fewer, next-known}
 use Rattle.search.proofs.greedy.Statement.{statement}
 use Rattle.search.proofs.greedy.Tie as tie
 
@@ -39,90 +34,68 @@ next-choice-requires c κs =
 
 returns : tie.Need-returns Inv-loop μ-loop
 returns c =
-    let args = c .before .before .before .before .before .before .before .before .before .args in
-    let loop = c .before .before .before .before .before .before .before .loop in
+    let p = c .before .before .before .before .before .before .before .loop in
     let ready-starts = c .before .before .before .before .before .ready-starts in
     let next-choice = c .before .before .next-choice in
     let loop-test = c .before .before .before .before .before .before .loop-test in
-    let a = args in
-    let p = loop in
-    greedy-stuck (a .need .now) (a .minutes .now) (a .earlier .now) (a .jobs) (a .modules) (p .part) (p .inv) (ready-starts .result .at) (ready-starts .result .least) (next-choice .result)
+    let a = c .before .before .before .before .before .before .before .before .before .args in
+    greedy-stuck (a .need .now) (a .minutes .now) (a .earlier .now) (a .jobs) (a .modules) (p .part) (p .inv)
+    (ready-starts .result .at) (ready-starts .result .least) (next-choice .result)
     (ready-starts .ensures) (next-choice .ensures) (c .if1 .taken) (pos-of-ne-zero (loop-test .taken))
 
 mul-place : tie.Need-mul-place Inv-loop μ-loop
 mul-place c =
+    let loop-at = c .before .before .before .before .before .before .before in
+    let ready-starts = c .before .before .before .before .before .ready-starts in
     let next-choice = c .before .before .next-choice in
-    let pre = c .before .before .before .before .before .before .before .before .before .pre in
-    let q = next-choice .ensures .some (omega (arith, c .if1 .left, next-choice .ensures .low)) in record { fits = omega (arith, pre .few) }
+    at-2 (next-job (loop-at .loop .inv) (ready-starts .ensures) (next-choice .ensures) (c .if1 .left)) (loop-at .loop .inv .fit .few)
 
 element-copy-out-place : tie.Need-element-copy-out-place Inv-loop μ-loop
 element-copy-out-place c =
+    let loop-at = c .before .before .before .before .before .before .before in
+    let ready-starts = c .before .before .before .before .before .ready-starts in
     let next-choice = c .before .before .next-choice in
-    let pre = c .before .before .before .before .before .before .before .before .before .pre in
-    let q = next-choice .ensures .some (omega (arith, c .if1 .left, next-choice .ensures .low)) in omega (arith, pre .few)
+    in-20 (next-job (loop-at .loop .inv) (ready-starts .ensures) (next-choice .ensures) (c .if1 .left)) (loop-at .loop .inv .fit .few)
 
 mul-place-2 : tie.Need-mul-place-2 Inv-loop μ-loop
 mul-place-2 c =
+    let loop-at = c .before .before .before .before .before .before .before .before in
+    let ready-starts = c .before .before .before .before .before .before .ready-starts in
     let next-choice = c .before .before .before .next-choice in
-    let pre = c .before .before .before .before .before .before .before .before .before .before .pre in
-    let q = next-choice .ensures .some (omega (arith, c .before .if1 .left, next-choice .ensures .low)) in record { fits = omega (arith, pre .few) }
+    let if1 = c .before .if1 in
+    at-2 (next-job (loop-at .loop .inv) (ready-starts .ensures) (next-choice .ensures) (if1 .left)) (loop-at .loop .inv .fit .few)
 
 element-copy-out-place-2 : tie.Need-element-copy-out-place-2 Inv-loop μ-loop
 element-copy-out-place-2 c =
+    let loop-at = c .before .before .before .before .before .before .before .before in
+    let ready-starts = c .before .before .before .before .before .before .ready-starts in
     let next-choice = c .before .before .before .next-choice in
-    let pre = c .before .before .before .before .before .before .before .before .before .before .pre in
-    let q = next-choice .ensures .some (omega (arith, c .before .if1 .left, next-choice .ensures .low)) in omega (arith, pre .few)
+    let if1 = c .before .if1 in
+    in-20 (next-job (loop-at .loop .inv) (ready-starts .ensures) (next-choice .ensures) (if1 .left)) (loop-at .loop .inv .fit .few)
 
 place-requires : tie.Need-place-requires Inv-loop μ-loop
 place-requires c κs =
-    let args = c .before .before .before .before .before .before .before .before .before .before .before .args in
     let loop = c .before .before .before .before .before .before .before .before .before .loop in
+    let ready-starts = c .before .before .before .before .before .before .before .ready-starts in
     let next-choice = c .before .before .before .before .next-choice in
     let if1 = c .before .before .if1 in
-    let ready-starts = c .before .before .before .before .before .before .before .ready-starts in
-    let a = args in
-    let p = loop in
-    let n = next-choice in
-    let q = next-choice .ensures .some (omega (arith, if1 .left, next-choice .ensures .low)) in
-    let s = subst (λ (x : ℕ). JobStart (a .need .now) (a .minutes .now) (a .earlier .now) (a .jobs) (a .modules) (p .part) (n .result .job) x) (q .1)
-    (ready-starts .ensures .each (n .result .job) (q .0)) in
-    let low : n .result .start < 65535 = omega (arith, if1 .left, next-choice .ensures .low) in
-    child-placeable (a .need .now) (a .minutes .now) (a .earlier .now) [] (a .jobs) (a .modules) (p .part) (p .inv) (n .result .job) (q .0) (n .result .start) s low
+    next-placeable (loop .inv) (ready-starts .ensures) (next-choice .ensures) (if1 .left)
 
 loop-less : tie.Need-loop-less Inv-loop μ-loop
 loop-less c =
-    let args = c .before .before .before .before .before .before .before .before .before .before .before .before .args in
     let loop = c .before .before .before .before .before .before .before .before .before .before .loop in
+    let ready-starts = c .before .before .before .before .before .before .before .before .ready-starts in
     let next-choice = c .before .before .before .before .before .next-choice in
     let if1 = c .before .before .before .if1 in
-    let ready-starts = c .before .before .before .before .before .before .before .before .ready-starts in
-    let a = args in
-    let p = loop in
-    let n = next-choice in
-    let q = next-choice .ensures .some (omega (arith, if1 .left, next-choice .ensures .low)) in
-    let s = subst (λ (x : ℕ). JobStart (a .need .now) (a .minutes .now) (a .earlier .now) (a .jobs) (a .modules) (p .part) (n .result .job) x) (q .1)
-    (ready-starts .ensures .each (n .result .job) (q .0)) in
-    let low : n .result .start < 65535 = omega (arith, if1 .left, next-choice .ensures .low) in
-    let less = child-fewer (a .need .now) (a .minutes .now) (a .earlier .now) [] (a .jobs) (a .modules) (p .part) (p .inv) (n .result .job) (q .0) (n .result .start) s low
-    (c .place .result) (c .place .ensures) in
-    omega arith
+    one-less (next-fewer (loop .inv) (ready-starts .ensures) (next-choice .ensures) (if1 .left) (c .place .ensures))
 
 loop-again : tie.Need-loop-again Inv-loop μ-loop
 loop-again c =
-    let args = c .before .before .before .before .before .before .before .before .before .before .before .before .args in
     let loop = c .before .before .before .before .before .before .before .before .before .before .loop in
+    let ready-starts = c .before .before .before .before .before .before .before .before .ready-starts in
     let next-choice = c .before .before .before .before .before .next-choice in
     let if1 = c .before .before .before .if1 in
-    let ready-starts = c .before .before .before .before .before .before .before .before .ready-starts in
-    let a = args in
-    let p = loop in
-    let n = next-choice in
-    let q = next-choice .ensures .some (omega (arith, if1 .left, next-choice .ensures .low)) in
-    let s = subst (λ (x : ℕ). JobStart (a .need .now) (a .minutes .now) (a .earlier .now) (a .jobs) (a .modules) (p .part) (n .result .job) x) (q .1)
-    (ready-starts .ensures .each (n .result .job) (q .0)) in
-    let low : n .result .start < 65535 = omega (arith, if1 .left, next-choice .ensures .low) in
-    child-known (a .need .now) (a .minutes .now) (a .earlier .now) [] (a .jobs) (a .modules) (p .part) (p .inv) (n .result .job) (q .0) (n .result .start) s low
-    (c .place .result) (c .place .ensures)
+    next-known (loop .inv) (ready-starts .ensures) (next-choice .ensures) (if1 .left) (c .place .ensures)
 
 last-end-requires : tie.Need-last-end-requires Inv-loop μ-loop
 last-end-requires c κs =
@@ -131,11 +104,11 @@ last-end-requires c κs =
 
 returns-2 : tie.Need-returns-2 Inv-loop μ-loop
 returns-2 c =
-    let args = c .before .before .before .before .before .before .args in
+    let a = c .before .before .before .before .before .before .args in
     let loop = c .before .before .before .before .loop in
     let loop-test = c .before .before .before .loop-test in
-    let a = args in
-    rw (c .last-end .ensures) (greedy-done (a .need .now) (a .minutes .now) (a .earlier .now) (a .jobs) (a .modules) (loop .part) (loop .inv) (loop-test .left))
+    rw (c .last-end .ensures)
+    (greedy-done (a .need .now) (a .minutes .now) (a .earlier .now) (a .jobs) (a .modules) (loop .part) (loop .inv) (loop-test .left))
 
 pub greedy-spec : {M : Type 1} → statement M
 greedy-spec =

@@ -1,6 +1,5 @@
 -- `search::limit_of` meets its contract.
-use native.Mathlib.Omega.{arith}
-use mathlib.Core.Path.{_≡_, ap, _∙_}
+use mathlib.Core.Path.{ap, _∙_}
 use Prim.Native.Nat.{ℕ, min}
 use Rattle.tables.specs.Tables.{sheetOf}
 use Rattle.search.proofs.Whole.{limit-none, limit-of}
@@ -40,8 +39,8 @@ returns-2 c =
     let sooner2 = c .before .sooner2 in
     let sooner = c .before .before .sooner in
     let a = args in
-    limit-of (sheetOf (a .need .now) (a .minutes .now) (a .earlier .now) (a .jobs) (a .modules)) (greedy .result) (greedy2 .result) (greedy3 .result)
-    (sooner2 .result) (greedy .ensures) (greedy2 .ensures) (greedy3 .ensures)
+    limit-of (sheetOf (a .need .now) (a .minutes .now) (a .earlier .now) (a .jobs) (a .modules))
+    (greedy .result) (greedy2 .result) (greedy3 .result) (sooner2 .result) (greedy .ensures) (greedy2 .ensures) (greedy3 .ensures)
     (sooner2 .ensures ∙ ap (λ (x : ℕ). min (greedy .result) x) (sooner .ensures)) (c .if1 .left)
 
 pub limit-of-spec : {M : Type 1} → statement M

@@ -28,8 +28,9 @@ visit-requires c κs =
     let clear = c .before .before .before .before .before .before .before .before .before .clear in
     let limit-of = c .before .before .before .limit-of in
     let a = args in
-    rw (first-part .ensures) (run-start (a .need .now) (a .minutes .now) (a .earlier .now) (a .jobs) (a .modules) (pre) (chains .result .at) (clear .last .0) (limit-of .result)
-    (length (a .memory .now)) (chains .ensures) (clear .ensures))
+    rw (first-part .ensures)
+    (run-start (a .need .now) (a .minutes .now) (a .earlier .now) (a .jobs) (a .modules) pre (chains .result .at) (clear .last .0)
+    (limit-of .result) (length (a .memory .now)) (chains .ensures) (clear .ensures))
 
 clear-requires-2 : tie.Need-clear-requires-2
 clear-requires-2 c κs = search needs
@@ -39,19 +40,20 @@ same-length c = search needs
 
 returns : tie.Need-returns
 returns c =
-    let args = c .before .before .before .before .before .before .before .before .before .before .before .before .before .before .before .before .before .before .before .args in
-    let visit = c .before .before .before .before .before .before .visit in
-    let clear = c .before .before .before .before .before .before .before .before .before .before .before .before .before .before .before .before .clear in
-    let pre = c .before .before .before .before .before .before .before .before .before .before .before .before .before .before .before .before .before .before .before .pre in
+    let visit-at = c .before .before .before .before .before .before in
+    let clear-at = visit-at .before .before .before .before .before .before .before .before .before .before in
+    let start = clear-at .before .before .before in
+    let visit = visit-at .visit in
+    let clear = clear-at .clear in
     let chains = c .before .before .before .before .before .before .before .before .before .before .before .before .before .chains in
     let limit-of = c .before .before .before .before .before .before .before .before .before .before .limit-of in
     let first-part = c .before .before .before .before .before .before .before .before .before .first-part in
     let clear2 = c .before .before .clear2 in
-    let a = args in
-    let v = visit in
-    let size : length (v .last .1 .1 .1 .1 .1 .1 .1 .1 .0) ≡ length (a .memory .now) = v .kept .1 .1 .1 .1 .1 .1 .1 .1 .0 ∙ clear .kept .0 in (
-      run-end (a .need .now) (a .minutes .now) (a .earlier .now) (a .jobs) (a .modules) (pre) (chains .result .at) (v .last .1 .1 .1 .1 .1 .1 .1 .1 .0)
-          (limit-of .result) (v .result) (limit-of .ensures) (rw (first-part .ensures) at (v .ensures)),
+    let a = start .args in
+    let memory = visit .last .1 .1 .1 .1 .1 .1 .1 .1 .0 in
+    let size : length memory ≡ length (a .memory .now) = visit .kept .1 .1 .1 .1 .1 .1 .1 .1 .0 ∙ clear .kept .0 in (
+      run-end (a .need .now) (a .minutes .now) (a .earlier .now) (a .jobs) (a .modules) (start .pre) (chains .result .at) memory
+          (limit-of .result) (visit .result) (limit-of .ensures) (rw (first-part .ensures) at (visit .ensures)),
       clear2 .ensures ∙ ap (λ (k : ℕ). replicate k 0) size,
     )
 
