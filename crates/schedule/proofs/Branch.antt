@@ -1,10 +1,12 @@
 -- A part-plan and one further on: what was placed keeps its place, and what came later starts no earlier.
-use mathlib.Core.Path.{_≡_, refl, sym, ap, _∙_}
+use mathlib.Core.Path.{_≡_, refl, sym, ap, ap₂, _∙_}
+use mathlib.Core.Logic.{_⊎_, inl, inr}
 use mathlib.Core.Bool.{Bool, true, false}
 use mathlib.Core.List.{List, [], _∷_, _++_}
 use Prim.Native.Nat.{ℕ, _+_, _≤_}
 use native.Mathlib.Omega.{arith}
 use lib.Dec.{eqb}
+use lib.ListN.{length, length-append}
 use borrow.Author.Tests.{eqb-true, eq-eqb}
 use Rattle.counting.proofs.Tests.{clash}
 use Rattle.schedule.specs.Plan.{Sheet, Narrow}
@@ -74,3 +76,41 @@ module _ (S : Sheet) (n : Narrow S) (u : List ℕ) (i : ℕ) (q : List ℕ) (f :
   branch-behind k a b =
       let h = next-first S n P i q (branch-follows .1) k a (ap (λ (X : PartPlan). X .placed k) (sym further) ∙ b) in
       omega (arith, h, branch-start, ap (λ (X : PartPlan). X .plan .start k) further)
+
+-- ---- the place of a job
+
+-- a job that is placed on the way stands in the order
+placed-within : (S : Sheet) (P : PartPlan) (o : List ℕ) (i : ℕ) → placeAll S P o .placed i ≡ true
+    → (P .placed i ≡ true) ⊎ ((u : List ℕ) × (q : List ℕ) × (o ≡ u ++ (i ∷ q)))
+unfolding placeAll
+placed-within S P [] i b = inl b
+placed-within S P (j ∷ o) i b = go (placed-within S (place S P j (startOf S P j)) o i b) (eqb i j) refl
+  where
+    go : (place S P j (startOf S P j) .placed i ≡ true) ⊎ ((u : List ℕ) × (q : List ℕ) × (o ≡ u ++ (i ∷ q))) → (c : Bool) → eqb i j ≡ c
+        → (P .placed i ≡ true) ⊎ ((u : List ℕ) × (q : List ℕ) × ((j ∷ o) ≡ u ++ (i ∷ q)))
+    go (inr (u, q, e)) c x = inr (j ∷ u, q, ap (λ (l : List ℕ). j ∷ l) e)
+    go (inl p) true x = inr ([], o, ap (λ (k : ℕ). k ∷ o) (sym (eqb-true i j x)))
+    go (inl p) false x = inl (rw x at p)
+
+pub placed-splits : (S : Sheet) (v : List ℕ) (i : ℕ) → partOf S v .placed i ≡ true → (u : List ℕ) × (q : List ℕ) × (v ≡ u ++ (i ∷ q))
+placed-splits S v i b = go (placed-within S emptyPart v i b)
+  where
+    go : (emptyPart .placed i ≡ true) ⊎ ((u : List ℕ) × (q : List ℕ) × (v ≡ u ++ (i ∷ q))) → (u : List ℕ) × (q : List ℕ) × (v ≡ u ++ (i ∷ q))
+    go (inl p) = clash false p refl
+    go (inr r) = r
+
+-- where a longer list is split, the last one is the place or stands behind it
+pub split-last : (w : List ℕ) (j : ℕ) (u : List ℕ) (i : ℕ) (q : List ℕ) → w ++ (j ∷ []) ≡ u ++ (i ∷ q)
+    → ((w ≡ u) × (j ≡ i)) ⊎ ((p : List ℕ) × (w ≡ u ++ (i ∷ p)))
+split-last [] j [] i q e = let x : j ≡ i = cc in inl (refl, x)
+split-last [] j (a ∷ u) i q e = absurd (omega (arith, ap length e, length-append u (i ∷ q)))
+split-last (b ∷ w) j [] i q e = let x : b ≡ i = cc in inr (w, ap (λ (k : ℕ). k ∷ w) x)
+split-last (b ∷ w) j (a ∷ u) i q e =
+    let x : b ≡ a = cc in
+    let y : w ++ (j ∷ []) ≡ u ++ (i ∷ q) = cc in
+    go x (split-last w j u i q y)
+  where
+    go : b ≡ a → ((w ≡ u) × (j ≡ i)) ⊎ ((p : List ℕ) × (w ≡ u ++ (i ∷ p)))
+        → (((b ∷ w) ≡ a ∷ u) × (j ≡ i)) ⊎ ((p : List ℕ) × ((b ∷ w) ≡ a ∷ (u ++ (i ∷ p))))
+    go x (inl (y, z)) = inl (ap₂ _∷_ x y, z)
+    go x (inr (p, y)) = inr (p, ap₂ _∷_ x y)

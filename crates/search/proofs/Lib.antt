@@ -4,6 +4,7 @@ pub mod Candidates
 pub mod Areas
 pub mod Recalls
 pub mod Turns
+pub mod Passing
+pub mod Sweeps
 pub mod Chaining
 pub mod Choices
-pub mod Whole
