@@ -8,3 +8,7 @@ pub mod Passing
 pub mod Sweeps
 pub mod Chaining
 pub mod Choices
+pub mod Listing
+pub mod Waiting
+pub mod Whole
+pub mod Placings

@@ -98,17 +98,17 @@ module _ (need minutes earlier later tails : List ℕ) (jobs modules : ℕ) (par
         same : (u q x : List ℕ) → x ≡ u ++ (i ∷ q) → Follows S noJobs x → SettledAt S target u i job
             → startOf S (partOf S x) job ≡ partOf S x .plan .start i → Fails S target (x ++ (job ∷ []))
         same u q x e = subst (λ (x : List ℕ). Follows S noJobs x → SettledAt S target u i job
-          → startOf S (partOf S x) job ≡ partOf S x .plan .start i → Fails S target (x ++ (job ∷ []))) (sym e)
-          (λ f a z. same-minute-cut S lasting narrow u i q f job (a .may-come) (suc target)
+            → startOf S (partOf S x) job ≡ partOf S x .plan .start i → Fails S target (x ++ (job ∷ []))) (sym e)
+            (λ f a z. same-minute-cut S lasting narrow u i q f job (a .may-come) (suc target)
             (omega (arith, a .soon, branch-start S narrow u i q f)) z (a .fails))
 
         behind : (u q x : List ℕ) → x ≡ u ++ (i ∷ q) → Follows S noJobs x → SettledAt S target u i job → partOf S x .placed job ≡ false
             → S .need i ≡ S .need job → ((k : ℕ) → k < jobs → S .before i k ≡ true → S .before job k ≡ true)
             → startOf S (partOf S x) job ≡ partOf S x .plan .start i + S .minutes i + 0 → Fails S target (x ++ (job ∷ []))
         behind u q x e = subst (λ (x : List ℕ). Follows S noJobs x → SettledAt S target u i job → partOf S x .placed job ≡ false
-          → S .need i ≡ S .need job → ((k : ℕ) → k < jobs → S .before i k ≡ true → S .before job k ≡ true)
-          → startOf S (partOf S x) job ≡ partOf S x .plan .start i + S .minutes i + 0 → Fails S target (x ++ (job ∷ []))) (sym e)
-          (λ f a n d t z. swap-cut S lasting narrow u i q f job (a .may-come) n d t
+            → S .need i ≡ S .need job → ((k : ℕ) → k < jobs → S .before i k ≡ true → S .before job k ≡ true)
+            → startOf S (partOf S x) job ≡ partOf S x .plan .start i + S .minutes i + 0 → Fails S target (x ++ (job ∷ []))) (sym e)
+            (λ f a n d t z. swap-cut S lasting narrow u i q f job (a .may-come) n d t
             (omega (arith, a .soon, branch-start S narrow u i q f)) z (suc target) (a .fails))
 
         go : (u : List ℕ) × (q : List ℕ) × (w ≡ u ++ (i ∷ q)) → Fails S target (w ++ (job ∷ []))

@@ -104,6 +104,7 @@ Laters earlier jobs later = (i k : ℕ) → i < jobs → k < jobs → bit (getD 
 -- the later jobs of job i
 pub record LaterOf (earlier : List ℕ) (i n r : ℕ) : Type 0 where
   pub each : (k : ℕ) → k < n → bit r k ≡ bit (getD earlier k 0) i
+  pub above : (k : ℕ) → n ≤ k → bit r k ≡ false
 
 -- job 1 can end before job 2 starts, or they are alike and whatever waits for job 2 waits for job 1
 abbrev pub ComesFirst : ℕ → ℕ → ℕ → ℕ → ℕ → ℕ → ℕ → ℕ → Type 0
@@ -170,6 +171,9 @@ pub record SettledSo (S : Sheet) (target : ℕ) (v by : List ℕ) : Type 0 where
   pub each : (u : List ℕ) (i : ℕ) (q : List ℕ) (x : ℕ) → v ≡ u ++ (i ∷ q) → x < S .jobs → bit (getD by i 0) x ≡ true
       → SettledAt S target u i x
 
+abbrev pub noneSettled : Settled
+noneSettled = record { by = replicate 20 0 }
+
 -- the same with one job more
 abbrev pub withSettled : Settled → ℕ → ℕ → Settled
 withSettled s i tried = record { by = set (s .by) i tried }
@@ -212,14 +216,45 @@ pub record Listed (S : Sheet) (r : Found) : Type 0 where
 
 -- ---- the whole search
 
--- an order, and no order ends earlier
-pub record Lowest (S : Sheet) (r : Found) : Type 0 where
+-- an order and its end
+pub record OrderOf (S : Sheet) (r : Found) : Type 0 where
   pub size : length (r .order) ≡ 20
   pub order : Order S (take (S .jobs) (r .order))
   pub end : endOf S (take (S .jobs) (r .order)) ≡ r .end
+  pub low : r .end < 65535
+
+-- the same order, where none ends earlier
+abbrev pub keptAs : Found → Found
+keptAs best = record { hit = false; end = best .end; order = best .order }
+
+-- the tables, an order, and what is remembered of orders that end earlier
+pub record Lowering (need minutes earlier later tails : List ℕ) (jobs modules : ℕ) (best : Found) (memory : List ℕ) : Type 0 where
+  pub fit : Fit need minutes jobs modules
+  pub chains : Tails (sheetOf need minutes earlier jobs modules) tails
+  pub laters : Laters earlier jobs later
+  pub best-is : OrderOf (sheetOf need minutes earlier jobs modules) best
+  pub remembered : Remembered (sheetOf need minutes earlier jobs modules) memory (best .end)
+
+-- an order that ends earlier, or the same end, before which no order ends
+pub record Lowered (S : Sheet) (best r : Found) : Type 0 where
+  pub is : OrderOf S r
+  pub hit : r .hit ≡ true → r .end < best .end
+  pub miss : r .hit ≡ false → (r .end ≡ best .end) × ((o : List ℕ) → Order S o → r .end ≤ endOf S o)
+
+-- an order, and no order ends earlier
+pub record Lowest (S : Sheet) (r : Found) : Type 0 where
+  pub is : OrderOf S r
   pub least : (o : List ℕ) → Order S o → r .end ≤ endOf S o
 
--- and it begins with the jobs w, before which nothing ends as early
+-- the same, from a part-plan on
+pub record Going (need minutes earlier later tails : List ℕ) (jobs modules : ℕ) (part : Part) (target : ℕ) (memory : List ℕ) : Type 0 where
+  pub low : target < 65535
+  pub known : Known need minutes earlier jobs modules part
+  pub chains : Tails (sheetOf need minutes earlier jobs modules) tails
+  pub laters : Laters earlier jobs later
+  pub remembered : Remembered (sheetOf need minutes earlier jobs modules) memory (suc target)
+
+-- an order that ends first and begins with the jobs w, before which nothing ends as early
 pub record Placing (S : Sheet) (w : List ℕ) (r : Found) : Type 0 where
   pub lowest : Lowest S r
   pub begins : Begins w (take (S .jobs) (r .order))

@@ -2,18 +2,23 @@
 // end until no order ends earlier, and then it settles the places of the order one after another.
 ghost use mathlib.Core.Path.{_≡_};
 ghost use mathlib.Core.Logic.{_⊎_};
-ghost use mathlib.Core.Bool.{true, false};
+ghost use mathlib.Core.Bool.{true, false, cond};
 ghost use mathlib.Core.List.{[], _∷_, _++_};
-ghost use Prim.Native.Nat.{ℕ, suc, _+_, _-_, _*_, _<_, _≤_, min};
+ghost use Prim.Native.Nat.{suc, _+_, _-_, _*_, _<_, _≤_, min};
 ghost use lib.ListN.{length, getD, take, replicate};
 ghost use Rattle.counting.specs.Counting.{only, largest};
-ghost use Rattle.bits.specs.Bits.{bit};
+ghost use Rattle.bits.specs.Bits.{bit, withBit};
 ghost use Rattle.placement.specs.Profile.{heldAfter};
 ghost use Rattle.placement.specs.Part.{wordOf};
 ghost use Rattle.tables.specs.Tables.{sheetOf, Fit};
 ghost use Rattle.search.specs.Search.{Known, JobStart, JobStarts, HeldAfter, SomeTooLong, Hopeless, ChainsOf, Laters, LaterOf};
 ghost use Rattle.search.specs.Search.{ComesFirst, TurnsRound, Stands, PassedOver, Outcome, finishedAs, noneFound, withSettled};
-ghost use Rattle.search.specs.Search.{Searching, EachStart, TriedSo, Remembered, Chosen, ChoiceOf, Listed, Lowest, Placing, Answer};
+ghost use Rattle.search.specs.Search.{Searching, EachStart, TriedSo, Remembered, Chosen, ChoiceOf, Listed, theoryPart};
+ghost use Rattle.search.specs.Search.{noneSettled, keptAs, Lowering, Lowered, Lowest, Going, Placing, Answer};
+ghost use Rattle.schedule.specs.ListPlan.{ready};
+ghost use Rattle.schedule.specs.TieRule as tie;
+ghost use Rattle.schedule.specs.TieRule.{endOf};
+ghost use Rattle.placement.specs.Part.{firstPart};
 use placement::Part;
 
 // An order that ends by a target, with its end, or none.
@@ -615,4 +620,422 @@ fn chains(
         k += 1;
     }
     tails
+}
+
+// ---- the jobs that wait for each job
+
+// The set with k, where job k waits for job i.
+fn with_later(set: u32, earlier: u32, i: usize, k: usize) -> u32
+    requires { ⌜ (i < 20) × (k < 20) ⌝ }
+    ensures { λ r. ⌜ r ≡ cond (bit earlier i) (withBit set k) set ⌝ }
+{
+    if bits::test32(earlier, i) {
+        return bits::set32(set, k);
+    }
+    set
+}
+
+// The later jobs of job i.
+fn later_of(earlier: &[u32; 20], jobs: usize, i: usize) -> u32
+    requires { ⌜ (jobs ≤ 20) × (i < 20) ⌝ }
+    ensures { λ r. ⌜ LaterOf (now (earlier .entry)) i jobs r ⌝ }
+{
+    let mut set: u32 = 0;
+    let mut k: usize = 0;
+    while k < jobs {
+        set = with_later(set, earlier[k], i, k);
+        k += 1;
+    }
+    set
+}
+
+// The later jobs of each job.
+pub struct LaterJobs {
+    pub of: [u32; 20],
+}
+
+fn later_jobs(earlier: &[u32; 20], jobs: usize) -> LaterJobs
+    requires { ⌜ jobs ≤ 20 ⌝ }
+    ensures { λ r. ⌜ Laters (now (earlier .entry)) jobs (r .of) ⌝ }
+{
+    let mut of = [0u32; 20];
+    let mut i: usize = 0;
+    while i < jobs {
+        of[i] = later_of(earlier, jobs, i);
+        i += 1;
+    }
+    LaterJobs { of }
+}
+
+// ---- list heuristics
+
+// The list plan that takes the heaviest of the jobs that start first, or the end 65535 where some job must end before itself.
+pub fn list_order(
+    need: &[u16; 20],
+    minutes: &[u16; 20],
+    earlier: &[u32; 20],
+    weights: &[u16; 20],
+    jobs: usize,
+    modules: u16,
+) -> Found
+    requires { ⌜ Fit (now need) (now minutes) jobs modules ⌝ }
+    ensures { λ r. ⌜ Listed (sheetOf (now (need .entry)) (now (minutes .entry)) (now (earlier .entry)) jobs modules) r ⌝ }
+{
+    let mut part = placement::first_part(need, minutes, jobs, modules);
+    while u32::count_ones(part.unplaced) != 0 {
+        let starts = ready_starts(need, minutes, earlier, jobs, modules, part);
+        let at = starts.at;
+        let c = next_choice(&at, weights, part.unplaced, jobs);
+        if c.start == 65535 {
+            return Found {
+                hit: false,
+                end: 65535,
+                order: [0u8; 20],
+            };
+        }
+        let j = c.job;
+        part = placement::place(part, j, c.start, need[j], minutes[j], modules);
+    }
+    finished(part, jobs, 65535)
+}
+
+// The order that ends earlier.
+fn better(a: Found, b: Found) -> Found
+    ensures { λ r. ⌜ (r ≡ a) ⊎ (r ≡ b) ⌝ }
+{
+    if b.end < a.end {
+        return b;
+    }
+    a
+}
+
+// The best of three list plans.
+fn first_listed(
+    need: &[u16; 20],
+    minutes: &[u16; 20],
+    earlier: &[u32; 20],
+    tails: &[u16; 20],
+    jobs: usize,
+    modules: u16,
+) -> Found
+    requires { ⌜ Fit (now need) (now minutes) jobs modules ⌝ }
+    ensures { λ r. ⌜ Listed (sheetOf (now (need .entry)) (now (minutes .entry)) (now (earlier .entry)) jobs modules) r ⌝ }
+{
+    let by_tail = list_order(need, minutes, earlier, tails, jobs, modules);
+    let by_minutes = list_order(need, minutes, earlier, minutes, jobs, modules);
+    let by_need = list_order(need, minutes, earlier, need, jobs, modules);
+    better(by_tail, better(by_minutes, by_need))
+}
+
+// ---- the earliest end
+
+// Nothing is settled.
+fn none_settled() -> Settled
+    ensures { λ r. ⌜ r ≡ noneSettled ⌝ }
+{
+    Settled { by: [0u32; 20] }
+}
+
+// The same order, where none ends earlier.
+fn kept(best: Found) -> Found
+    ensures { λ r. ⌜ r ≡ keptAs best ⌝ }
+{
+    let order = best.order;
+    Found {
+        hit: false,
+        end: best.end,
+        order,
+    }
+}
+
+// An order that ends earlier, or the same one where there is none.
+fn lower(
+    need: &[u16; 20],
+    minutes: &[u16; 20],
+    earlier: &[u32; 20],
+    later: &[u32; 20],
+    tails: &[u16; 20],
+    jobs: usize,
+    modules: u16,
+    best: Found,
+    memory: &mut [u8],
+) -> Found
+    requires { ⌜ Lowering (now need) (now minutes) (now earlier) (now later) (now tails) jobs modules best (now memory) ⌝ }
+    ensures lowered { λ r. ⌜ Lowered (sheetOf (now (need .entry)) (now (minutes .entry)) (now (earlier .entry)) jobs modules) best r ⌝ }
+    ensures remembered { λ r. ⌜ Remembered (sheetOf (now (need .entry)) (now (minutes .entry)) (now (earlier .entry)) jobs modules)
+        (now (memory .exit)) (r .end) ⌝ }
+{
+    if best.end == 0 {
+        return kept(best);
+    }
+    let part = placement::first_part(need, minutes, jobs, modules);
+    let settled = none_settled();
+    let found = visit(
+        need,
+        minutes,
+        earlier,
+        later,
+        tails,
+        jobs,
+        modules,
+        part,
+        settled,
+        best.end - 1,
+        memory,
+    );
+    if found.hit {
+        return found;
+    }
+    kept(best)
+}
+
+// An order that ends first of all.
+fn lowest(
+    need: &[u16; 20],
+    minutes: &[u16; 20],
+    earlier: &[u32; 20],
+    later: &[u32; 20],
+    tails: &[u16; 20],
+    jobs: usize,
+    modules: u16,
+    listed: Found,
+    memory: &mut [u8],
+) -> Found
+    requires { ⌜ Lowering (now need) (now minutes) (now earlier) (now later) (now tails) jobs modules listed (now memory) ⌝ }
+    ensures { λ r. ⌜ Lowest (sheetOf (now (need .entry)) (now (minutes .entry)) (now (earlier .entry)) jobs modules) r ⌝ }
+{
+    let mut best = lower(
+        need,
+        minutes,
+        earlier,
+        later,
+        tails,
+        jobs,
+        modules,
+        listed,
+        memory,
+    );
+    while best.hit {
+        best = lower(
+            need,
+            minutes,
+            earlier,
+            later,
+            tails,
+            jobs,
+            modules,
+            best,
+            memory,
+        );
+    }
+    best
+}
+
+// ---- the tie rule's order
+
+// An order that goes on from this part-plan with job j and ends by the target, or none.
+fn try_place(
+    need: &[u16; 20],
+    minutes: &[u16; 20],
+    earlier: &[u32; 20],
+    later: &[u32; 20],
+    tails: &[u16; 20],
+    jobs: usize,
+    modules: u16,
+    part: Part,
+    target: u16,
+    j: usize,
+    memory: &mut [u8],
+) -> Found
+    requires { ⌜ (Going (now need) (now minutes) (now earlier) (now later) (now tails) jobs modules part target (now memory)) × (j < jobs) ⌝ }
+    ensures outcome { λ r. ⌜ Outcome (sheetOf (now (need .entry)) (now (minutes .entry)) (now (earlier .entry)) jobs modules) target (wordOf part ++ (j ∷ [])) r ⌝ }
+    ensures remembered { λ _. ⌜ Remembered (sheetOf (now (need .entry)) (now (minutes .entry)) (now (earlier .entry)) jobs modules) (now (memory .exit)) (suc target) ⌝ }
+{
+    let start = start_or_none(need, minutes, earlier, jobs, modules, part, j);
+    if start == 65535 {
+        return none_found();
+    }
+    let child = placement::place(part, j, start, need[j], minutes[j], modules);
+    let settled = none_settled();
+    visit(
+        need,
+        minutes,
+        earlier,
+        later,
+        tails,
+        jobs,
+        modules,
+        child,
+        settled,
+        target,
+        memory,
+    )
+}
+
+// A job's number as an index.
+fn wide(x: u8) -> usize
+    ensures { λ r. ⌜ r ≡ x ⌝ }
+{
+    x as usize
+}
+
+// An order that ends first, and at place k has the least job that an order which ends first can have there.
+fn settle_place(
+    need: &[u16; 20],
+    minutes: &[u16; 20],
+    earlier: &[u32; 20],
+    later: &[u32; 20],
+    tails: &[u16; 20],
+    jobs: usize,
+    modules: u16,
+    part: Part,
+    best: Found,
+    memory: &mut [u8],
+) -> Found
+    requires { ⌜ (Going (now need) (now minutes) (now earlier) (now later) (now tails) jobs modules part (best .end) (now memory))
+        × ((Placing (sheetOf (now need) (now minutes) (now earlier) jobs modules) (wordOf part) best) × (part .placed < jobs)) ⌝ }
+    ensures placed { λ r. ⌜ Placing (sheetOf (now (need .entry)) (now (minutes .entry)) (now (earlier .entry)) jobs modules)
+        (wordOf part ++ (getD (r .order) (part .placed) 0 ∷ [])) r ⌝ }
+    ensures remembered { λ r. ⌜ Remembered (sheetOf (now (need .entry)) (now (minutes .entry)) (now (earlier .entry)) jobs modules)
+        (now (memory .exit)) (suc (r .end)) ⌝ }
+{
+    let k = part.placed;
+    let stop = wide(best.order[k]);
+    let mut j: usize = 0;
+    while j < stop {
+        let found = try_place(
+            need,
+            minutes,
+            earlier,
+            later,
+            tails,
+            jobs,
+            modules,
+            part,
+            best.end,
+            j,
+            memory,
+        );
+        if found.hit {
+            return found;
+        }
+        j += 1;
+    }
+    best
+}
+
+// The part-plan with the next job of the order.
+fn go_on(
+    need: &[u16; 20],
+    minutes: &[u16; 20],
+    earlier: &[u32; 20],
+    jobs: usize,
+    modules: u16,
+    part: Part,
+    j: usize,
+) -> Part
+    requires { ⌜ (Known (now need) (now minutes) (now earlier) jobs modules part)
+        × (ready (sheetOf (now need) (now minutes) (now earlier) jobs modules)
+        (theoryPart (now need) (now minutes) (now earlier) jobs modules part .placed) j ≡ true) ⌝ }
+    ensures { λ r. ⌜ (Known (now (need .entry)) (now (minutes .entry)) (now (earlier .entry)) jobs modules r)
+        × ((wordOf r ≡ wordOf part ++ (j ∷ [])) × (r .placed ≡ part .placed + 1)) ⌝ }
+{
+    let start = start_or_none(need, minutes, earlier, jobs, modules, part, j);
+    placement::place(part, j, start, need[j], minutes[j], modules)
+}
+
+// The tie rule's order, from one that ends first.
+fn first_order(
+    need: &[u16; 20],
+    minutes: &[u16; 20],
+    earlier: &[u32; 20],
+    later: &[u32; 20],
+    tails: &[u16; 20],
+    jobs: usize,
+    modules: u16,
+    least: Found,
+    memory: &mut [u8],
+) -> Found
+    requires { ⌜ (Lowest (sheetOf (now need) (now minutes) (now earlier) jobs modules) least)
+        × (Going (now need) (now minutes) (now earlier) (now later) (now tails) jobs modules (firstPart (now need) (now minutes) jobs modules) (least .end) (now memory)) ⌝ }
+    ensures { λ r. ⌜ (tie.Best (sheetOf (now (need .entry)) (now (minutes .entry)) (now (earlier .entry)) jobs modules) (take jobs (r .order)))
+        × (r .end ≡ endOf (sheetOf (now (need .entry)) (now (minutes .entry)) (now (earlier .entry)) jobs modules) (take jobs (r .order))) ⌝ }
+{
+    let mut best = least;
+    let mut part = placement::first_part(need, minutes, jobs, modules);
+    let mut k: usize = 0;
+    while k < jobs {
+        best = settle_place(
+            need,
+            minutes,
+            earlier,
+            later,
+            tails,
+            jobs,
+            modules,
+            part,
+            best,
+            memory,
+        );
+        part = go_on(
+            need,
+            minutes,
+            earlier,
+            jobs,
+            modules,
+            part,
+            wide(best.order[k]),
+        );
+        k += 1;
+    }
+    best
+}
+
+// The tie rule's order and its list plan's end, wherever there is an order. What the memory held changes nothing, and it is left all zero.
+pub fn run(
+    need: &[u16; 20],
+    minutes: &[u16; 20],
+    earlier: &[u32; 20],
+    jobs: usize,
+    modules: u16,
+    memory: &mut [u8],
+) -> Found
+    requires { ⌜ Fit (now need) (now minutes) jobs modules ⌝ }
+    ensures answer { λ r. ⌜ Answer (sheetOf (now (need .entry)) (now (minutes .entry)) (now (earlier .entry)) jobs modules) r ⌝ }
+    ensures cleared { λ _. ⌜ now (memory .exit) ≡ replicate (length (now (memory .entry))) 0 ⌝ }
+{
+    memory::clear(memory);
+    let chains = chains(need, minutes, earlier, jobs, modules);
+    let tails = chains.at;
+    let laters = later_jobs(earlier, jobs);
+    let later = laters.of;
+    let listed = first_listed(need, minutes, earlier, &tails, jobs, modules);
+    if listed.end == 65535 {
+        return listed;
+    }
+    let least = lowest(
+        need,
+        minutes,
+        earlier,
+        &later,
+        &tails,
+        jobs,
+        modules,
+        listed,
+        memory,
+    );
+    memory::clear(memory);
+    let found = first_order(
+        need,
+        minutes,
+        earlier,
+        &later,
+        &tails,
+        jobs,
+        modules,
+        least,
+        memory,
+    );
+    memory::clear(memory);
+    found
 }

@@ -176,17 +176,16 @@ try-children-visit-requires t c κs =
     let less = child-fewer (a .need .now) (a .minutes .now) (a .earlier .now) (a .tails .now) (a .jobs) (a .modules) (a .t8) known (a .job) (p .1 .1 .1 .0) (getD (a .at .now) (a .job) 0)
     (p .1 .0 (a .job) (p .1 .1 .1 .0)) (p .1 .1 .1 .1) (place .result) (place .ensures) in
     let word = child-word (a .need .now) (a .minutes .now) (a .earlier .now) (a .tails .now) (a .jobs) (a .modules) (a .t8) known (a .job) (p .1 .1 .1 .0) (getD (a .at .now) (a .job) 0)
-    (p .1 .0 (a .job) (p .1 .1 .1 .0)) (p .1 .1 .1 .1) (place .result) (place .ensures) in
-    (
+    (p .1 .0 (a .job) (p .1 .1 .1 .0)) (p .1 .1 .1 .1) (place .result) (place .ensures) in (
       omega (arith, start .pre .0, less),
       record {
         low = p .0 .low;
         known = child-known (a .need .now) (a .minutes .now) (a .earlier .now) (a .tails .now) (a .jobs) (a .modules) (a .t8) known (a .job) (p .1 .1 .1 .0) (getD (a .at .now) (a .job) 0)
-    (p .1 .0 (a .job) (p .1 .1 .1 .0)) (p .1 .1 .1 .1) (place .result) (place .ensures);
+            (p .1 .0 (a .job) (p .1 .1 .1 .0)) (p .1 .1 .1 .1) (place .result) (place .ensures);
         chains = p .0 .chains;
         laters = p .0 .laters;
         settled = rw (c .before .with-settled .ensures, word) (settled-more (a .need .now) (a .minutes .now) (a .earlier .now) (a .later .now) (a .tails .now) (a .jobs) (a .modules) (a .t8) (a .t9 .by) (a .target) (a .memory .now) (a .at .now) (a .tried) (a .job)
-    (p .0) (p .1 .0) (p .1 .1 .0) (p .1 .1 .1 .0) (p .1 .1 .1 .1));
+            (p .0) (p .1 .0) (p .1 .1 .0) (p .1 .1 .1 .0) (p .1 .1 .1 .1));
         remembered = p .0 .remembered;
       },
     )
@@ -304,8 +303,7 @@ visit-try-children-requires t c κs =
     let loop = c .before .before .before .before .loop in
     let sweep = loop .inv .0 in
     let l : loop .c .start < 65535 = omega (arith, c .before .before .if4 .taken, sweep .choice .low) in
-    let chosen = sweep .choice .some l in
-    (
+    let chosen = sweep .choice .some l in (
       omega (arith, start .pre .0),
       (
         record {
@@ -375,8 +373,7 @@ visit-loop-again t c =
     let loop = c .before .before .before .before .before .before .before .before .before .before .before .before .loop in
     let sweep = loop .inv .0 in
     let try = c .before .before .before .before .before .before .before .try-children in
-    let l : loop .c .start < 65535 = omega (arith, c .before .before .before .before .before .before .before .before .before .before .if4 .taken, sweep .choice .low) in
-    (
+    let l : loop .c .start < 65535 = omega (arith, c .before .before .before .before .before .before .before .before .before .before .if4 .taken, sweep .choice .low) in (
       rw (c .before .before .before .clear32 .ensures, c .before .before .set32 .ensures)
           (sweep-next (a .need .now) (a .minutes .now) (a .earlier .now) (a .jobs) (a .modules) (a .t8) (p .known) (a .target) (r .result .at) (r .ensures .each) (loop .left) (loop .tried) (loop .c) (c .next-choice2 .result) sweep l
           (try .ensures .0 .miss (c .before .before .before .before .if5 .left)) (rw (c .before .before .before .clear32 .ensures) at (c .next-choice2 .ensures))),
@@ -405,8 +402,7 @@ visit-returns-5 t c =
     let loop = c .before .before .before .before .before .before .before .before .before .loop in
     let remember = c .before .before .before .remember in
     let all = sweep-all (a .need .now) (a .minutes .now) (a .earlier .now) (a .jobs) (a .modules) (a .t8) (p .known) (a .target) (r .result .at) (r .ensures .each) (loop .left) (loop .tried) (loop .c) (loop .inv .0) (c .before .before .before .before .before .before .before .if4 .left) in
-    let cut = visit-all (a .need .now) (a .minutes .now) (a .earlier .now) (a .tails .now) (a .jobs) (a .modules) (a .t8) (p .known) (a .target) (pos-of-ne-zero (c .before .before .before .before .before .before .before .before .before .before .before .before .before .before .before .before .before .before .before .before .before .before .if1 .left)) all in
-    (
+    let cut = visit-all (a .need .now) (a .minutes .now) (a .earlier .now) (a .tails .now) (a .jobs) (a .modules) (a .t8) (p .known) (a .target) (pos-of-ne-zero (c .before .before .before .before .before .before .before .before .before .before .before .before .before .before .before .before .before .before .before .before .before .before .if1 .left)) all in (
       rw (c .none-found3 .ensures) (none-outcome _ (a .target) _ cut),
       visit-remember (a .need .now) (a .minutes .now) (a .earlier .now) (a .tails .now) (a .jobs) (a .modules) (a .t8) (p .known) (a .target) (loop .memory) (remember .last .0) (loop .inv .1 .0) cut (remember .ensures),
     )

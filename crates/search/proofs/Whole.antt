@@ -1,0 +1,122 @@
+-- The whole search: from the first list plan to an order that ends first, and from there to the tie rule's.
+use mathlib.Core.Path.{_≡_, refl, sym, ap, _∙_, subst}
+use mathlib.Core.Logic.{_⊎_, inl, inr}
+use mathlib.Core.Bool.{Bool, true, false, not}
+use mathlib.Core.List.{List, [], _∷_, _++_, append-nil, append-assoc}
+use Prim.Native.Nat.{ℕ, zero, suc, _+_, _-_, _≤_, _<_}
+use native.Mathlib.Omega.{arith}
+use native.Mathlib.Nat.{le-refl}
+use lib.ListN.{length, getD, take, replicate, length-append, length-replicate, length-take}
+use lib.Seq.{getD-at}
+use Rattle.counting.specs.Counting.{only}
+use Rattle.counting.proofs.Tests.{true-or-false, clash, last-or-below}
+use Rattle.bits.specs.Bits.{bit}
+use Rattle.bits.proofs.Digits.{bit-none}
+use Rattle.schedule.specs.Plan.{Sheet, Circular}
+use Rattle.schedule.specs.ListPlan.{Order, PartPlan, noJobs, ready, Follows, partOf}
+use Rattle.schedule.specs.TieRule as tie
+use Rattle.schedule.specs.TieRule.{endOf, DictionaryLe}
+use Rattle.schedule.proofs.Existence.{order-not-circular}
+use Rattle.schedule.proofs.Prefixes.{next-ready}
+use Rattle.schedule.proofs.Places.{Begins, Before, Upto, before-upto}
+use Rattle.schedule.proofs.Swept.{CannotBeat}
+use Rattle.tables.specs.Tables.{sheetOf, Fit}
+use Rattle.placement.specs.declared.Part.{Part}
+use Rattle.placement.specs.Part.{wordOf, firstPart}
+use Rattle.search.specs.declared.Found.{Found}
+use Rattle.search.specs.Search.{Remembered, Fails, Outcome, noneSettled, SettledSo, Known, Searching, Listed}
+use Rattle.search.specs.Search.{OrderOf, keptAs, Lowering, Lowered, Lowest, Going, Placing, Answer}
+use Rattle.search.proofs.Recalls.{remembered-less, remembered-none}
+use Rattle.search.proofs.Listing.{first-known}
+
+-- ---- nothing is settled
+
+zeros : (n i : ℕ) → _≡_ {A = ℕ} (getD (replicate n 0) i 0) 0
+zeros zero i = refl
+zeros (suc n) zero = refl
+zeros (suc n) (suc i) = zeros n i
+
+pub none-settled : (S : Sheet) (target : ℕ) (v : List ℕ) → SettledSo S target v (noneSettled .by)
+none-settled S target v = record {
+  size = length-replicate {A = ℕ} 20 0;
+  each = λ u i q x e l b. clash (bit 0 x) (ap (λ (y : ℕ). bit y x) (sym (zeros 20 i)) ∙ b) (bit-none x);
+}
+
+-- ---- the earliest end
+
+pub first-word : (need minutes : List ℕ) (jobs modules : ℕ) → wordOf (firstPart need minutes jobs modules) ≡ []
+unfolding firstPart
+first-word need minutes jobs modules = refl
+
+pub one-more : (e : ℕ) → ¬ (e ≡ 0) → suc (e - 1) ≡ e
+one-more e h = omega arith
+
+kept-is : {S : Sheet} {best : Found} → OrderOf S best → OrderOf S (keptAs best)
+kept-is h = record { size = h .size; order = h .order; end = h .end; low = h .low }
+
+module _ (need minutes earlier later tails : List ℕ) (jobs modules : ℕ) where
+  abbrev S : Sheet
+  S = sheetOf need minutes earlier jobs modules
+
+  -- an order that is to end before the best
+  pub enter : {best : Found} {memory : List ℕ} → Lowering need minutes earlier later tails jobs modules best memory → ¬ (best .end ≡ 0)
+      → Searching need minutes earlier later tails jobs modules (firstPart need minutes jobs modules) (noneSettled .by) (best .end - 1) memory
+  enter {best} {memory} s z = record {
+    low = omega (arith, s .best-is .low);
+    known = first-known need minutes earlier jobs modules (s .fit);
+    chains = s .chains;
+    laters = s .laters;
+    settled = none-settled S (best .end - 1) _;
+    remembered = subst (λ (e : ℕ). Remembered S memory e) (let e : best .end ≡ suc (best .end - 1) = omega arith in e) (s .remembered);
+  }
+
+  pub lower-hit : {best r : Found} {memory : List ℕ} (memory′ : List ℕ) {v : List ℕ} → Lowering need minutes earlier later tails jobs modules best memory
+      → ¬ (best .end ≡ 0) → Outcome S (best .end - 1) v r → r .hit ≡ true → Remembered S memory′ (suc (best .end - 1))
+      → Lowered S best r × Remembered S memory′ (r .end)
+  lower-hit {best} {r} {memory} memory′ s z o e m =
+      let f = o .hit e in (
+        record {
+          is = record { size = o .size; order = f .order; end = f .end; low = omega (arith, f .within, s .best-is .low) };
+          hit = λ _. omega (arith, f .within);
+          miss = λ h. clash (r .hit) e h;
+        },
+        remembered-less S memory′ (suc (best .end - 1)) (r .end) (omega (arith, f .within)) m,
+      )
+
+  -- none ends earlier
+  pub lower-miss : {best : Found} {memory : List ℕ} → Lowering need minutes earlier later tails jobs modules best memory
+      → ((o : List ℕ) → Order S o → best .end ≤ endOf S o) → Lowered S best (keptAs best)
+  lower-miss {best} s least = record { is = kept-is (s .best-is); hit = λ x. clash false x refl; miss = λ x. (refl, least) }
+
+  pub none-earlier : (best : Found) {r : Found} {v : List ℕ} → ¬ (best .end ≡ 0) → v ≡ [] → Outcome S (best .end - 1) v r → r .hit ≡ false
+      → (o : List ℕ) → Order S o → best .end ≤ endOf S o
+  unfolding CannotBeat
+  none-earlier best {r} {v} z e m h o d = omega (arith, m .miss h o d (o, ap (λ (x : List ℕ). x ++ o) (sym e)))
+
+  -- no order ends before minute 0
+  pub from-zero : (best : Found) → best .end ≡ 0 → (o : List ℕ) → Order S o → best .end ≤ endOf S o
+  from-zero best z o d = omega arith
+
+  -- ---- a turn of the loop
+
+  -- while earlier ends are looked for, an order and what is remembered; then no order ends earlier
+  pub record Turn (best : Found) (memory : List ℕ) : Type 0 where
+    pub state : Lowering need minutes earlier later tails jobs modules best memory
+    pub done : best .hit ≡ false → (o : List ℕ) → Order S o → best .end ≤ endOf S o
+
+  pub turn-next : {best r : Found} {memory : List ℕ} (memory′ : List ℕ) → Lowering need minutes earlier later tails jobs modules best memory
+      → Lowered S best r → Remembered S memory′ (r .end) → Turn r memory′
+  turn-next {best} {r} memory′ s l m = record {
+    state = record { fit = s .fit; chains = s .chains; laters = s .laters; best-is = l .is; remembered = m };
+    done = λ e. l .miss e .1;
+  }
+
+  pub turn-less : {best r : Found} → Lowered S best r → best .hit ≡ true → r .end + only (r .hit) 1 < best .end + only (best .hit) 1
+  turn-less {best} {r} l e = rw e (go (true-or-false (r .hit)))
+    where
+      go : (r .hit ≡ true) ⊎ (r .hit ≡ false) → r .end + only (r .hit) 1 < best .end + 1
+      go (inl h) = rw h (omega (arith, l .hit h))
+      go (inr h) = rw h (omega (arith, l .miss h .0))
+
+  pub turn-last : {best : Found} {memory : List ℕ} → Turn best memory → best .hit ≡ false → Lowest S best
+  turn-last t e = record { is = t .state .best-is; least = t .done e }
