@@ -7,14 +7,15 @@ use Prim.Native.Nat.{ℕ, suc, _+_, _≤_, _<_}
 use native.Mathlib.Omega.{arith}
 use lib.Dec.{ltb}
 use lib.Count.{ones}
-use lib.ListN.{length, getD, length-replicate}
+use lib.ListN.{length, getD, take}
 use borrow.Author.Tests.{not-true, le-ltb}
 use Rattle.counting.specs.Counting.{largest}
 use Rattle.counting.proofs.Tests.{true-or-false}
 use Rattle.counting.proofs.Ranges.{largest-le, find}
 use Rattle.counting.proofs.Counts.{count-none, count-not}
 use Rattle.schedule.specs.Plan.{Sheet, Circular, finish}
-use Rattle.schedule.specs.ListPlan.{PartPlan, ready}
+use Rattle.schedule.specs.ListPlan.{Order, PartPlan, ready}
+use Rattle.schedule.specs.TieRule.{endOf}
 use Rattle.schedule.proofs.Starts.{ready-says}
 use Rattle.schedule.proofs.Existence.{stuck-circular}
 use Rattle.schedule.proofs.Prefixes.{part-count}
@@ -24,7 +25,7 @@ use Rattle.placement.specs.Part.{wordOf, firstPart, Placeable, Placed}
 use Rattle.placement.proofs.Parts.{first-is, left-count, start-short, end-short, all-placed}
 use Rattle.search.specs.declared.Choice.{Choice}
 use Rattle.search.specs.declared.Found.{Found}
-use Rattle.search.specs.Search.{Known, theoryPart, JobStart, JobStarts, ChoiceOf, finishedAs, noneFound, Listed}
+use Rattle.search.specs.Search.{Known, theoryPart, JobStart, JobStarts, ChoiceOf, finishedAs, Listed, OrderOf, Answer}
 use Rattle.search.proofs.Turns.{visit-leaf, child-placeable, child-fewer, child-known}
 
 -- before the first job
@@ -104,3 +105,20 @@ module _ {need minutes earlier : List ℕ} {jobs modules : ℕ} {part : Part} (k
 pub listed-of : {S : Sheet} {a b r : Found} → Listed S a → Listed S b → (r ≡ a) ⊎ (r ≡ b) → Listed S r
 listed-of {S} ha hb (inl e) = subst (λ (x : Found). Listed S x) (sym e) ha
 listed-of {S} ha hb (inr e) = subst (λ (x : Found). Listed S x) (sym e) hb
+
+-- the end 65535 stands for a circle
+pub listed-circular : {S : Sheet} {r : Found} → Listed S r → r .end ≡ 65535 → Answer S r
+listed-circular {S} {r} h e = record { best = λ c. absurd (c (circle (h .says))); end = λ c. absurd (c (circle (h .says))) }
+  where
+    circle : ((r .end ≡ 65535) × Circular S)
+        ⊎ ((Order S (take (S .jobs) (r .order))) × ((endOf S (take (S .jobs) (r .order)) ≡ r .end) × (r .end < 65535))) → Circular S
+    circle (inl x) = x .1
+    circle (inr x) = absurd (omega (arith, x .1 .1))
+
+pub listed-order : {S : Sheet} {r : Found} → Listed S r → ¬ (r .end ≡ 65535) → OrderOf S r
+listed-order {S} {r} h n = go (h .says)
+  where
+    go : ((r .end ≡ 65535) × Circular S)
+        ⊎ ((Order S (take (S .jobs) (r .order))) × ((endOf S (take (S .jobs) (r .order)) ≡ r .end) × (r .end < 65535))) → OrderOf S r
+    go (inl x) = absurd (n (x .0))
+    go (inr x) = record { size = h .size; order = x .0; end = x .1 .0; low = x .1 .1 }

@@ -1,4 +1,9 @@
 -- `search::run` meets its contract.
+use mathlib.Core.Path.{_≡_, ap, _∙_}
+use Prim.Native.Nat.{ℕ}
+use lib.ListN.{length, replicate}
+use Rattle.search.proofs.Recalls.{remembered-none}
+use Rattle.search.proofs.Listing.{first-known, listed-circular, listed-order}
 use borrow.Author.Needs.{needs}
 use Rattle.search.proofs.run.Statement.{statement}
 use Rattle.search.proofs.run.Tie as tie
@@ -19,25 +24,58 @@ same-length : tie.Need-same-length
 same-length c = search needs
 
 returns : tie.Need-returns
-returns c = ?
+returns c =
+    (listed-circular (c .before .before .first-listed .ensures) (c .if1 .taken), c .before .before .before .before .before .before .before .before .before .before .clear .ensures)
 
 lowest-requires : tie.Need-lowest-requires
-lowest-requires c κs = ?
+lowest-requires c κs =
+    let start = c .before .before .before .before .before .before .before .before .before .before .before .before .before .before .before .before in
+    let a = start .args in
+    record {
+      fit = start .pre;
+      chains = c .before .before .before .before .before .before .before .before .before .before .chains .ensures .each;
+      laters = c .before .before .before .before .before .before .before .before .later-jobs .ensures;
+      best-is = listed-order (c .before .before .before .before .before .first-listed .ensures) (c .before .before .before .if1 .left);
+      remembered = remembered-none _ _ (length (a .memory .now)) _ (c .before .before .before .before .before .before .before .before .before .before .before .before .before .clear .ensures);
+    }
 
 clear-requires-2 : tie.Need-clear-requires-2
 clear-requires-2 c κs = search needs
 
 first-order-requires : tie.Need-first-order-requires
-first-order-requires c κs = ?
+first-order-requires c κs =
+    let start = c .before .before .before .before .before .before .before .before .before .before .before .before .before .before .before .before .before .before .before .before .before .before .before .before .before .before in
+    let a = start .args in
+    let lowest = c .before .before .before .before .before .before .before .before .before .lowest .ensures in
+    (
+      lowest,
+      record {
+        low = lowest .is .low;
+        known = first-known (a .need .now) (a .minutes .now) (a .earlier .now) (a .jobs) (a .modules) (start .pre);
+        chains = c .before .before .before .before .before .before .before .before .before .before .before .before .before .before .before .before .before .before .before .before .chains .ensures .each;
+        laters = c .before .before .before .before .before .before .before .before .before .before .before .before .before .before .before .before .before .before .later-jobs .ensures;
+        remembered = remembered-none _ _ (length (c .before .before .before .before .before .before .before .before .before .lowest .last .1 .1 .1 .1 .1 .1 .1 .1 .0)) _ (c .before .before .before .before .before .clear2 .ensures);
+      },
+    )
 
 clear-requires-3 : tie.Need-clear-requires-3
 clear-requires-3 c κs = search needs
 
+-- the memory's length, up to the last clearing
+memory-length : (c : tie.After-slice-known6) → length (c .before .before .before .before .before .before .first-order .last .1 .1 .1 .1 .1 .1 .1 .1 .0) ≡ length (c .before .before .before .before .before .before .before .before .before .before .before .before .before .before .before .before .before .before .before .before .before .before .before .before .before .before .before .before .before .before .before .before .before .args .memory .now)
+memory-length c =
+    c .before .before .before .before .before .before .first-order .kept .1 .1 .1 .1 .1 .1 .1 .1 .0 ∙ c .before .before .before .before .before .before .before .before .before .before .before .before .clear2 .kept .0 ∙ c .before .before .before .before .before .before .before .before .before .before .before .before .before .before .before .before .lowest .kept .1 .1 .1 .1 .1 .1 .1 .1 .0 ∙ c .before .before .before .before .before .before .before .before .before .before .before .before .before .before .before .before .before .before .before .before .before .before .before .before .before .before .before .before .before .before .clear .kept .0
+
 same-length-2 : tie.Need-same-length-2
-same-length-2 c = ?
+same-length-2 c = c .before .before .clear3 .kept .0 ∙ memory-length c
 
 returns-2 : tie.Need-returns-2
-returns-2 c = ?
+returns-2 c =
+    let found = c .before .before .before .before .before .before .first-order .ensures in
+    (
+      record { best = λ _. found .0; end = λ _. found .1 },
+      c .before .before .clear3 .ensures ∙ ap (λ (k : ℕ). replicate k 0) (memory-length c),
+    )
 
 pub run-spec : {M : Type 1} → statement M
 run-spec =
