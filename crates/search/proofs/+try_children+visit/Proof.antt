@@ -1,5 +1,5 @@
 -- `search::visit` and `search::try_children`, which call each other, meet their contracts.
-use Prim.Native.Nat.{_+_, _-_, _*_, _≤_, _<_, zero-le}
+use Prim.Native.Nat.{ℕ, _+_, _-_, _*_, _≤_, _<_}
 use mathlib.Core.Path.{_≡_, refl, _∙_}
 use native.Mathlib.Omega.{arith}
 use native.Mathlib.Nat.{pos-of-ne-zero}
@@ -12,7 +12,6 @@ use Rattle.search.specs.Search.{Visited}
 use Rattle.search.proofs.Steps.{in-20, at-2, next-fits, next-in, fewer-left, all-done}
 use Rattle.search.proofs.Turns.{visit-leaf, visit-cut, held-ready, hopeless-cut, recall-cut, child-none, child-placeable}
 use Rattle.search.proofs.Turns.{child-fewer, child-known, child-enter, child-leave, visit-first, visit-all, visit-remember}
-use Prim.Native.Nat.{ℕ}
 use borrow.Fn.Kinds.{In}
 use borrow.Fn.PlainCycle.{Measures, is, falls, and}
 use Rattle.search.proofs.try_children.Reads as try-children
@@ -272,7 +271,7 @@ visit-loop-holds t c =
     let pre = c .before .before .before .before .before .before .before .before .before .before .before .before .pre in
     let a = args in
     let v = pre .1 in (
-      zero-le,
+      omega arith,
       record {
         state = visit-first (a .need .now) (a .minutes .now) (a .earlier .now) (a .tails .now) (a .jobs) (a .modules) (a .t7)
             (v .known) (a .best) (a .memory .now) (v .state);
@@ -367,20 +366,7 @@ pub +try-children+visit-spec : {M : Type 1} → statement M
     (try-children-visit-requires t)
     (try-children-same-length t)
     (try-children-returns-2 t))
-    λ t. visit-lts.spec (
-      finished-reads.Asked,
-      finished-reads.Learnt,
-      ready-starts-reads.Asked,
-      ready-starts-reads.Learnt,
-      hopeless-reads.Asked,
-      hopeless-reads.Learnt,
-      recall-reads.Asked,
-      recall-reads.Learnt,
-      try-children-below t,
-      try-children.Post,
-      remember-reads.Asked,
-      remember-reads.Learnt,
-    )
+    λ t. visit-lts.spec (visit-claims t)
     (visit-at t)
     visit.Post
     visit-Inv-loop
