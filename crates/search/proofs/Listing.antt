@@ -1,9 +1,9 @@
 -- List heuristics: the list plan that the choices lead to.
-use mathlib.Core.Path.{_≡_, refl, sym, ap, _∙_, subst}
+use mathlib.Core.Path.{_≡_, sym, ap, _∙_, subst}
 use mathlib.Core.Logic.{_⊎_, inl, inr}
-use mathlib.Core.Bool.{Bool, true, false, not}
-use mathlib.Core.List.{List, [], _∷_, _++_}
-use Prim.Native.Nat.{ℕ, suc, _+_, _≤_, _<_}
+use mathlib.Core.Bool.{true, false, not}
+use mathlib.Core.List.{List, []}
+use Prim.Native.Nat.{ℕ, suc, _≤_, _<_}
 use native.Mathlib.Omega.{arith}
 use lib.Dec.{ltb}
 use lib.Count.{ones}
@@ -107,13 +107,16 @@ listed-of {S} ha hb (inl e) = subst (λ (x : Found). Listed S x) (sym e) ha
 listed-of {S} ha hb (inr e) = subst (λ (x : Found). Listed S x) (sym e) hb
 
 -- the end 65535 stands for a circle
-pub listed-circular : {S : Sheet} {r : Found} → Listed S r → r .end ≡ 65535 → Answer S r
-listed-circular {S} {r} h e = record { best = λ c. absurd (c (circle (h .says))); end = λ c. absurd (c (circle (h .says))) }
+pub listed-circle : {S : Sheet} {r : Found} → Listed S r → r .end ≡ 65535 → Circular S
+listed-circle {S} {r} h e = circle (h .says)
   where
     circle : ((r .end ≡ 65535) × Circular S)
         ⊎ ((Order S (take (S .jobs) (r .order))) × ((endOf S (take (S .jobs) (r .order)) ≡ r .end) × (r .end < 65535))) → Circular S
     circle (inl x) = x .1
     circle (inr x) = absurd (omega (arith, x .1 .1))
+
+pub listed-circular : {S : Sheet} {r : Found} → Listed S r → r .end ≡ 65535 → Answer S r
+listed-circular h e = record { best = λ c. absurd (c (listed-circle h e)); end = λ c. absurd (c (listed-circle h e)) }
 
 pub listed-order : {S : Sheet} {r : Found} → Listed S r → ¬ (r .end ≡ 65535) → OrderOf S r
 listed-order {S} {r} h n = go (h .says)

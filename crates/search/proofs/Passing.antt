@@ -1,12 +1,12 @@
 -- Next jobs that are passed over, and what is settled when one is chosen.
-use mathlib.Core.Path.{_≡_, refl, sym, ap, _∙_, subst}
+use mathlib.Core.Path.{_≡_, sym, ap, _∙_, subst}
 use mathlib.Core.Logic.{_⊎_, inl, inr}
-use mathlib.Core.Bool.{Bool, true, false, not, _&&_}
+use mathlib.Core.Bool.{Bool, true, false}
 use mathlib.Core.List.{List, [], _∷_, _++_}
-use Prim.Native.Nat.{ℕ, suc, _+_, _≤_, _<_}
+use Prim.Native.Nat.{ℕ, suc, _+_, _<_}
 use native.Mathlib.Omega.{arith}
 use lib.Bits.{bitAnd}
-use lib.ListN.{length, getD, set, length-set}
+use lib.ListN.{getD, set, length-set}
 use lib.Seq.{getD-set-same, getD-set-other}
 use borrow.Author.Tests.{not-false}
 use Rattle.counting.specs.Counting.{only}
@@ -24,8 +24,8 @@ use Rattle.schedule.proofs.Swaps.{swap-cut}
 use Rattle.tables.specs.Tables.{sheetOf}
 use Rattle.placement.specs.declared.Part.{Part}
 use Rattle.placement.specs.Part.{wordOf}
-use Rattle.search.specs.Search.{Laters, ComesFirst, TurnsRound, Stands, PassedOver, Fails, SettledAt, SettledSo}
-use Rattle.search.specs.Search.{Known, Searching, EachStart, TriedSo}
+use Rattle.search.specs.Search.{ComesFirst, TurnsRound, PassedOver, Fails, SettledAt, SettledSo}
+use Rattle.search.specs.Search.{Searching, EachStart, TriedSo}
 use Rattle.search.proofs.Turns.{started}
 
 -- a set that is in another

@@ -1,17 +1,16 @@
 -- The tie rule's order, place by place.
 use mathlib.Core.Path.{_≡_, refl, sym, ap, _∙_, subst}
 use mathlib.Core.Logic.{_⊎_, inl, inr}
-use mathlib.Core.Bool.{Bool, true, false}
+use mathlib.Core.Bool.{true, false}
 use mathlib.Core.List.{List, [], _∷_, _++_, append-nil, append-assoc}
 use Prim.Native.Nat.{ℕ, suc, _+_, _≤_, _<_, zero-le}
 use native.Mathlib.Omega.{arith}
 use native.Mathlib.Nat.{not-suc-le-zero}
-use lib.Count.{ones}
 use lib.ListN.{length, getD, take, length-append}
 use lib.Seq.{getD-at, getD-take}
 use Rattle.counting.proofs.Tests.{true-or-false, last-or-below, less-or-not}
 use Rattle.schedule.specs.Plan.{Sheet}
-use Rattle.schedule.specs.ListPlan.{Order, PartPlan, ready, partOf}
+use Rattle.schedule.specs.ListPlan.{Order, ready, partOf}
 use Rattle.schedule.specs.TieRule as tie
 use Rattle.schedule.specs.TieRule.{endOf, DictionaryLe}
 use Rattle.schedule.proofs.Starts.{ready-says}
@@ -23,7 +22,7 @@ use Rattle.placement.specs.declared.Part.{Part}
 use Rattle.placement.specs.Part.{wordOf, Placed, firstPart}
 use Rattle.placement.proofs.Parts.{left-count, start-short}
 use Rattle.search.specs.declared.Found.{Found}
-use Rattle.search.specs.Search.{Known, theoryPart, JobStart, Remembered, Fails, Outcome, noneSettled, Searching, OrderOf, Lowest, Going, Placing}
+use Rattle.search.specs.Search.{Known, theoryPart, JobStart, Remembered, Fails, Outcome, noneSettled, Searching, Lowest, Going, Placing}
 use Rattle.search.proofs.Turns.{child-known}
 use Rattle.search.proofs.Whole.{none-settled}
 
@@ -101,8 +100,7 @@ module _ {S : Sheet} {w : List ℕ} {best : Found} (h : Placing S w best) where
       → Placing S (w ++ (j ∷ [])) r × (r .end ≡ best .end)
   place-hit {j} {r} o e n =
       let f = o .hit e in
-      let same : r .end ≡ best .end = omega (arith, f .within, f .end, h .lowest .least (take (S .jobs) (r .order)) (f .order)) in
-      (
+      let same : r .end ≡ best .end = omega (arith, f .within, f .end, h .lowest .least (take (S .jobs) (r .order)) (f .order)) in (
         record {
           lowest = record {
             is = record { size = o .size; order = f .order; end = f .end; low = omega (arith, h .lowest .is .low) };

@@ -1,14 +1,14 @@
 -- The jobs that may come next, tried one after another in the order of their starts.
-use mathlib.Core.Path.{_≡_, refl, sym, ap, _∙_, subst}
+use mathlib.Core.Path.{_≡_, refl, sym, ap, _∙_}
 use mathlib.Core.Logic.{_⊎_, inl, inr}
-use mathlib.Core.Bool.{Bool, true, false, not, _&&_, _||_}
+use mathlib.Core.Bool.{Bool, true, false, not, _&&_}
 use mathlib.Core.List.{List, [], _∷_, _++_, append-assoc}
 use Prim.Native.Nat.{ℕ, suc, _+_, _≤_, _<_}
 use native.Mathlib.Omega.{arith}
 use lib.Dec.{eqb}
 use lib.Count.{ones}
-use lib.ListN.{length, getD, length-replicate}
-use borrow.Author.Tests.{eqb-true, eq-eqb}
+use lib.ListN.{getD, length-replicate}
+use borrow.Author.Tests.{eqb-true}
 use Rattle.counting.proofs.Tests.{true-or-false, clash, and-left, less-or-not}
 use Rattle.bits.specs.Bits.{bit, withBit, withoutBit}
 use Rattle.bits.proofs.Digits.{bit-none}

@@ -1,32 +1,26 @@
 -- The whole search: from the first list plan to an order that ends first, and from there to the tie rule's.
 use mathlib.Core.Path.{_≡_, refl, sym, ap, _∙_, subst}
 use mathlib.Core.Logic.{_⊎_, inl, inr}
-use mathlib.Core.Bool.{Bool, true, false, not}
-use mathlib.Core.List.{List, [], _∷_, _++_, append-nil, append-assoc}
+use mathlib.Core.Bool.{true, false}
+use mathlib.Core.List.{List, [], _++_}
 use Prim.Native.Nat.{ℕ, zero, suc, _+_, _-_, _≤_, _<_}
 use native.Mathlib.Omega.{arith}
-use native.Mathlib.Nat.{le-refl}
-use lib.ListN.{length, getD, take, replicate, length-append, length-replicate, length-take}
-use lib.Seq.{getD-at}
+use lib.ListN.{getD, replicate, length-replicate}
 use Rattle.counting.specs.Counting.{only}
-use Rattle.counting.proofs.Tests.{true-or-false, clash, last-or-below}
+use Rattle.counting.proofs.Tests.{true-or-false, clash}
 use Rattle.bits.specs.Bits.{bit}
 use Rattle.bits.proofs.Digits.{bit-none}
-use Rattle.schedule.specs.Plan.{Sheet, Circular}
-use Rattle.schedule.specs.ListPlan.{Order, PartPlan, noJobs, ready, Follows, partOf}
+use Rattle.schedule.specs.Plan.{Sheet}
+use Rattle.schedule.specs.ListPlan.{Order}
 use Rattle.schedule.specs.TieRule as tie
-use Rattle.schedule.specs.TieRule.{endOf, DictionaryLe}
-use Rattle.schedule.proofs.Existence.{order-not-circular}
-use Rattle.schedule.proofs.Prefixes.{next-ready}
-use Rattle.schedule.proofs.Places.{Begins, Before, Upto, before-upto}
+use Rattle.schedule.specs.TieRule.{endOf}
 use Rattle.schedule.proofs.Swept.{CannotBeat}
-use Rattle.tables.specs.Tables.{sheetOf, Fit}
-use Rattle.placement.specs.declared.Part.{Part}
+use Rattle.tables.specs.Tables.{sheetOf}
 use Rattle.placement.specs.Part.{wordOf, firstPart}
 use Rattle.search.specs.declared.Found.{Found}
-use Rattle.search.specs.Search.{Remembered, Fails, Outcome, noneSettled, SettledSo, Known, Searching, Listed}
-use Rattle.search.specs.Search.{OrderOf, keptAs, Lowering, Lowered, Lowest, Going, Placing, Answer}
-use Rattle.search.proofs.Recalls.{remembered-less, remembered-none}
+use Rattle.search.specs.Search.{Remembered, Outcome, noneSettled, SettledSo, Searching}
+use Rattle.search.specs.Search.{OrderOf, keptAs, Lowering, Lowered, Lowest}
+use Rattle.search.proofs.Recalls.{remembered-less}
 use Rattle.search.proofs.Listing.{first-known}
 
 -- ---- nothing is settled

@@ -1,18 +1,15 @@
 -- `search::visit` and `search::try_children`, which call each other, meet their contracts.
-use mathlib.Core.Path.{_≡_, refl, sym, ap, subst, _∙_}
-use mathlib.Core.Bool.{true}
-use mathlib.Core.List.{List, [], _∷_, _++_}
+use mathlib.Core.Path.{_≡_, refl, _∙_}
 use Prim.Native.Nat.{ℕ, suc, _+_, _*_, _<_}
 use native.Mathlib.Omega.{arith}
 use native.Mathlib.Nat.{pos-of-ne-zero}
 use native.Mathlib.Numerals.{add-one}
 use lib.Count.{ones}
 use lib.ListN.{length, getD}
-use borrow.Author.Needs.{needs}
 use Rattle.tables.specs.Tables.{sheetOf}
 use Rattle.placement.specs.Part.{wordOf}
 use Rattle.placement.proofs.Parts.{left-small}
-use Rattle.search.specs.Search.{Remembered, Fails, Outcome}
+use Rattle.search.specs.Search.{Remembered}
 use Rattle.search.proofs.Turns.{visit-leaf, held-ready, hopeless-cut, recall-cut, child-placeable, child-fewer, child-known, child-word, visit-all, visit-remember}
 use Rattle.search.proofs.Steps.{one-less}
 use Rattle.search.proofs.Passing.{passed-cut, settled-more}

@@ -52,8 +52,7 @@ loop-again : tie.Need-loop-again Inv-loop μ-loop
 loop-again c =
     let loop = c .before .before .before .before .before .before .before .before .loop in
     let settle = c .before .before .before .before .before .settle-place in
-    let go = c .go-on .ensures in
-    (
+    let go = c .go-on .ensures in (
       stands-next (loop .inv .0) (c .before .before .before .before .before .before .before .loop-test .taken) _ (settle .ensures .0) (settle .ensures .1) (c .before .wide .ensures) (go .0) (go .1 .0)
           (go .1 .1),
       settle .kept .1 .1 .1 .1 .1 .1 .1 .1 .1 .0 ∙ loop .inv .1,

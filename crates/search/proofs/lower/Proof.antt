@@ -53,8 +53,7 @@ returns-3 c =
     let visit = c .before .before .before .before .visit in
     let some = c .before .before .before .before .before .before .before .before .before .if1 .left in
     let word = ap wordOf (c .before .before .before .before .before .before .before .before .first-part .ensures) ∙ first-word (a .need .now) (a .minutes .now) (a .jobs) (a .modules) in
-    rw (c .kept2 .ensures)
-    (
+    rw (c .kept2 .ensures) (
       lower-miss (a .need .now) (a .minutes .now) (a .earlier .now) (a .later .now) (a .tails .now) (a .jobs) (a .modules) (start .pre) (none-earlier (a .need .now) (a .minutes .now) (a .earlier .now) (a .later .now) (a .tails .now) (a .jobs) (a .modules) (a .best) some word (visit .ensures .0) (c .before .if2 .left)),
       rw (one-more (a .best .end) some) at (visit .ensures .1),
     )

@@ -46,8 +46,7 @@ first-order-requires : tie.Need-first-order-requires
 first-order-requires c κs =
     let start = c .before .before .before .before .before .before .before .before .before .before .before .before .before .before .before .before .before .before .before .before .before .before .before .before .before .before in
     let a = start .args in
-    let lowest = c .before .before .before .before .before .before .before .before .before .lowest .ensures in
-    (
+    let lowest = c .before .before .before .before .before .before .before .before .before .lowest .ensures in (
       lowest,
       record {
         low = lowest .is .low;
@@ -71,8 +70,7 @@ same-length-2 c = c .before .before .clear3 .kept .0 ∙ memory-length c
 
 returns-2 : tie.Need-returns-2
 returns-2 c =
-    let found = c .before .before .before .before .before .before .first-order .ensures in
-    (
+    let found = c .before .before .before .before .before .before .first-order .ensures in (
       record { best = λ _. found .0; end = λ _. found .1 },
       c .before .before .clear3 .ensures ∙ ap (λ (k : ℕ). replicate k 0) (memory-length c),
     )

@@ -41,8 +41,7 @@ try-place-requires c κs =
     let g = start .pre .0 in
     let h = start .pre .1 .0 in
     let loop = c .before .before .loop in
-    let below : loop .j < a .jobs = omega (arith, c .before .loop-test .taken, c .before .before .before .wide .ensures, job-below h (a .part .placed) (word-length (g .known)) (start .pre .1 .1)) in
-    (
+    let below : loop .j < a .jobs = omega (arith, c .before .loop-test .taken, c .before .before .before .wide .ensures, job-below h (a .part .placed) (word-length (g .known)) (start .pre .1 .1)) in (
       record { low = g .low; known = g .known; chains = g .chains; laters = g .laters; remembered = loop .inv .1 .1 .0 },
       below,
     )
@@ -75,8 +74,7 @@ loop-again c =
     let g = start .pre .0 in
     let h = start .pre .1 .0 in
     let try = c .before .before .before .try-place in
-    let loop = c .before .before .before .before .before .before .loop in
-    (
+    let loop = c .before .before .before .before .before .before .loop in (
       omega (arith, c .before .before .before .before .before .loop-test .taken),
       (
         upto-more _ (a .t9 .end) (wordOf (a .part)) (loop .j) (loop .inv .1 .0) (try .ensures .0 .miss (c .if1 .left)),
