@@ -132,7 +132,8 @@ sum-put-in (suc n) at x f g l below here above =
 pub sum-two-le : (n : ℕ) (f g : ℕ → ℕ) (i j : ℕ) → i < n → j < n → i ≢ j → f i + f j ≤ g i + g j
     → ((k : ℕ) → k < n → k ≢ i → k ≢ j → f k ≤ g k) → sum n f ≤ sum n g
 sum-two-le n f g i j l m d two h =
-    let each = sum-le n (λ k. f k + (only (eqb k i) (g k) + only (eqb k j) (g k))) (λ k. g k + (only (eqb k i) (f k) + only (eqb k j) (f k)))
+    let each = sum-le n (λ k. f k + (only (eqb k i) (g k) + only (eqb k j) (g k))) (λ k. g k + (only (eqb k i) (f k) + only (eqb k j)
+    (f k)))
     (λ k x. one k x (eqb k i) (eqb k j) refl refl) in
     omega (
       arith,

@@ -95,7 +95,8 @@ placed-within S P (j ∷ o) i b = go (placed-within S (place S P j (startOf S P 
 pub placed-splits : (S : Sheet) (v : List ℕ) (i : ℕ) → partOf S v .placed i ≡ true → (u : List ℕ) × (q : List ℕ) × (v ≡ u ++ (i ∷ q))
 placed-splits S v i b = go (placed-within S emptyPart v i b)
   where
-    go : (emptyPart .placed i ≡ true) ⊎ ((u : List ℕ) × (q : List ℕ) × (v ≡ u ++ (i ∷ q))) → (u : List ℕ) × (q : List ℕ) × (v ≡ u ++ (i ∷ q))
+    go : (emptyPart .placed i ≡ true) ⊎ ((u : List ℕ) × (q : List ℕ) × (v ≡ u ++ (i ∷ q)))
+        → (u : List ℕ) × (q : List ℕ) × (v ≡ u ++ (i ∷ q))
     go (inl p) = clash false p refl
     go (inr r) = r
 

@@ -64,7 +64,11 @@ module _ (S : Sheet) (Q : Plan) (v : Valid S Q) (w : Lasting S) where
   -- Some order's list plan starts no job later than Q,
   pub matched : (o : List ℕ) × Order S o × ((j : ℕ) → j < S .jobs → listPlan S o .start j ≤ Q .start j)
   matched =
-      let r = keep-up S Q (valid-timed S Q v) w (S .jobs) emptyPart (empty-sound S) empty-keeps-up (omega (arith, count-none (S .jobs) noJobs (λ i l. refl))) in
+      let r = keep-up S Q (valid-timed S Q v) w (S .jobs) emptyPart (empty-sound S) empty-keeps-up (omega (
+        arith,
+        count-none
+            (S .jobs) noJobs (λ i l. refl),
+      )) in
       (r .0, record { all = r .1; follows = r .2 }, r .3)
 
   -- and so ends no later.

@@ -71,7 +71,8 @@ module _ (S : Sheet) (w : Lasting S) (P : PartPlan) (l : ℕ) (Q : Plan) (h : Go
   unfolding busy
   over-minutes m k x = go (served m k) refl
     where
-      go : (b : Bool) → served m k ≡ b → only (served m k) (S .minutes k) ≡ sum T (λ t. only (served m k && inside (Q .start k) (finish S Q k) t) 1)
+      go : (b : Bool) → served m k ≡ b
+          → only (served m k) (S .minutes k) ≡ sum T (λ t. only (served m k && inside (Q .start k) (finish S Q k) t) 1)
       go true q =
           let d : S .minutes k ≡ (min T (finish S Q k) - Q .start k) * 1 = omega (arith, e, le-largest (S .jobs) (finish S Q) k x) in
           rw q (d ∙ sym (sum-inside T (Q .start k) (finish S Q k) 1))
@@ -93,7 +94,8 @@ module _ (S : Sheet) (w : Lasting S) (P : PartPlan) (l : ℕ) (Q : Plan) (h : Go
   minute : (m t : ℕ) → (t < freeFrom S P l m) ⊎ (freeFrom S P l m ≤ t)
       → sum (S .jobs) (λ k. only (busy m t k) 1) ≤ only (leb (freeFrom S P l m) t) 1
   unfolding busy
-  minute m t (inr c) = rw (le-leb (freeFrom S P l m) t c) (count-one (S .jobs) (busy m t) (λ i k x z a b. alone m t i k x z a b (eqb i k) refl))
+  minute m t (inr c) = rw (le-leb (freeFrom S P l m) t c) (count-one (S .jobs) (busy m t) (λ i k x z a b. alone m t i k x z a b
+      (eqb i k) refl))
   minute m t (inl c) =
       let none : count (S .jobs) (busy m t) ≡ 0 = count-none (S .jobs) (busy m t) (λ k x. idle k x (true-or-false (served m k))) in
       rw none zero-le
@@ -190,7 +192,8 @@ module _ (S : Sheet) (P : PartPlan) (s : Sound S P) (l : ℕ) (from : P .last �
       two false = omega arith
 
       go : (b : Bool) → occupies S P l k ≡ b
-          → sum (S .modules) (λ m. only (occupies S P l k && P .plan .uses k m) (rest-of k)) ≡ only (occupies S P l k) (S .need k * rest-of k)
+          → sum (S .modules) (λ m. only (occupies S P l k && P .plan .uses k m) (rest-of k)) ≡ only (occupies S P l k)
+          (S .need k * rest-of k)
       go true q =
           rw q
           (sum-same (S .modules) _ _ (λ m z. two (P .plan .uses k m)) ∙ sum-mul (S .modules) (λ m. only (P .plan .uses k m) 1) (rest-of k)

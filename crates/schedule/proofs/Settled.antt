@@ -30,7 +30,11 @@ unfolding CannotBeat
 settled S w e v f cut Q q h =
     let A = partOf S v in
     let c = part-count S v f in
-    let r = keep-up S Q q w (S .jobs - count (S .jobs) (A .placed)) A (part-sound S (timed-narrow S Q q w) v f) h (omega (arith, count-le (S .jobs) (A .placed))) in
+    let r = keep-up S Q q w (S .jobs - count (S .jobs) (A .placed)) A (part-sound S (timed-narrow S Q q w) v f) h (omega (
+      arith,
+      count-le
+          (S .jobs) (A .placed),
+    )) in
     let d : Completes S A (r .0) = (r .2, omega (arith, r .1, count-le (S .jobs) (A .placed))) in
     let last = largest-le (S .jobs) (finish S (placeAll S A (r .0) .plan)) (planEnd S Q)
     (λ i l. omega (arith, r .3 i l, le-largest (S .jobs) (finish S Q) i l)) in
@@ -38,7 +42,8 @@ settled S w e v f cut Q q h =
 
 -- ---- a settled next job
 
-module _ (S : Sheet) (w : Lasting S) (n : Narrow S) (u : List ℕ) (f : Follows S noJobs u) (x : ℕ) (r : ready S (partOf S u .placed) x ≡ true) where
+module _ (S : Sheet) (w : Lasting S) (n : Narrow S) (u : List ℕ) (f : Follows S noJobs u) (x : ℕ) (r : ready S
+    (partOf S u .placed) x ≡ true) where
   abbrev P : PartPlan
   P = partOf S u
 

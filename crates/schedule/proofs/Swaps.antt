@@ -35,8 +35,16 @@ module _ (S : Sheet) (Q R : Plan) (i j t : ℕ) (qi : Q .start i ≡ t) (qj : Q 
 
       in-r : t ≤ u → u < t + S .minutes i + S .rest + S .minutes j + S .rest
           → (u < t + S .minutes j + S .rest) ⊎ (t + S .minutes j + S .rest ≤ u) → only (runs S R u i) x + only (runs S R u j) x ≤ x
-      in-r a b (inl y) = let e = runs-not-yet S R i u (omega (arith, ri)) in rw (e, runs-on S R j u (omega (arith, rj)) (omega (arith, rj))) (omega arith)
-      in-r a b (inr y) = let e = runs-no-more S R j u (omega (arith, rj)) in rw (e, runs-on S R i u (omega (arith, ri)) (omega (arith, ri))) (omega arith)
+      in-r a b (inl y) = let e = runs-not-yet S R i u (omega (arith, ri)) in rw (
+        e,
+        runs-on S R j u (omega (arith, rj)) (omega
+            (arith, rj)),
+      ) (omega arith)
+      in-r a b (inr y) = let e = runs-no-more S R j u (omega (arith, rj)) in rw (
+        e,
+        runs-on S R i u (omega (arith, ri)) (omega
+            (arith, ri)),
+      ) (omega arith)
 
       within : t ≤ u → (u < t + S .minutes i + S .rest + S .minutes j + S .rest) ⊎ (t + S .minutes i + S .rest + S .minutes j + S .rest ≤ u)
           → only (runs S R u i) x + only (runs S R u j) x ≤ only (runs S Q u i) x + only (runs S Q u j) x

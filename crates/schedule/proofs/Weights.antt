@@ -47,7 +47,8 @@ module _ (S : Sheet) (P : PartPlan) (l : ℕ) (Q : Plan) (h : GoesOn S P l Q) (T
   beside : (t : ℕ) → l ≤ t → sum (S .jobs) (λ k. only (left t k) (S .need k)) + occupied S P t ≤ S .modules
   unfolding occupied
   beside t m =
-      let each = sum-le (S .jobs) (λ k. only (left t k) (S .need k) + only (occupies S P t k) (S .need k)) (λ k. only (runs S Q t k) (S .need k))
+      let each = sum-le (S .jobs) (λ k. only (left t k) (S .need k) + only (occupies S P t k) (S .need k)) (λ k. only (runs S Q t k)
+      (S .need k))
       (λ k x. one k x (true-or-false (P .placed k))) in
       omega (arith, each, sum-add (S .jobs) (λ k. only (left t k) (S .need k)) (λ k. only (occupies S P t k) (S .need k)), h .timed .room t)
     where

@@ -43,7 +43,8 @@ module _ (need minutes earlier : List ℕ) (jobs modules : ℕ) (part : Part) (k
 
   -- no job may come next, and some is left
   pub list-stuck : (at : List ℕ) (least : ℕ) (c : Choice) (r : Found) → JobStarts need minutes earlier jobs modules part at least
-      → ChoiceOf at (part .unplaced) jobs c → c .start ≡ 65535 → 0 < ones (part .unplaced) → r .end ≡ 65535 → length (r .order) ≡ 20 → Listed S r
+      → ChoiceOf at (part .unplaced) jobs c → c .start ≡ 65535 → 0 < ones (part .unplaced) → r .end ≡ 65535 → length (r .order) ≡ 20
+      → Listed S r
   list-stuck at least c r starts h e pos end size = record { size = size; says = inl (end, go (find jobs (λ i. not (P .placed i)))) }
     where
       stuck : (j : ℕ) → j < jobs → ready S (P .placed) j ≡ false
@@ -68,7 +69,8 @@ module _ (need minutes earlier : List ℕ) (jobs modules : ℕ) (part : Part) (k
   unfolding finishedAs
   list-done z =
       let o = visit-leaf need minutes earlier [] jobs modules part known z 65535 in
-      let hit : not (ltb 65535 (largest jobs (λ i. getD (part .ends) i 0))) ≡ true = ap not (le-ltb 65535 (largest jobs (λ i. getD (part .ends) i 0)) (omega (arith, short))) in
+      let hit : not (ltb 65535 (largest jobs (λ i. getD (part .ends) i 0))) ≡ true = ap not (le-ltb 65535 (largest jobs (λ i. getD
+      (part .ends) i 0)) (omega (arith, short))) in
       let f = o .hit hit in
       record { size = o .size; says = inr (f .order, (f .end, omega (arith, short))) }
     where

@@ -35,7 +35,8 @@ subset a b e k h = and-right (bit a k) (bit b k) (sym (bit-and a b k) ∙ ap (λ
 module _ (need minutes earlier later tails : List ℕ) (jobs modules : ℕ) (part : Part) (by : List ℕ) (target : ℕ) (memory at : List ℕ)
     (tried job : ℕ) (s : Searching need minutes earlier later tails jobs modules part by target memory)
     (starts : EachStart need minutes earlier jobs modules part at)
-    (before : TriedSo need minutes earlier jobs modules part target at tried (getD at job 0)) (l : job < jobs) (low : getD at job 0 < 65535) where
+    (before : TriedSo need minutes earlier jobs modules part target at tried (getD at job 0)) (l : job < jobs)
+    (low : getD at job 0 < 65535) where
   abbrev S : Sheet
   S = sheetOf need minutes earlier jobs modules
 
@@ -87,7 +88,8 @@ module _ (need minutes earlier later tails : List ℕ) (jobs modules : ℕ) (par
 
   module _ (i : ℕ) (m : i < jobs) (placed : P .placed i ≡ true) (ends : List ℕ) (end : getD ends i 0 ≡ finish S (P .plan) i)
       (b : bit (getD by i 0) job ≡ true) where
-    turn-round : TurnsRound (getD need i 0) (getD need job 0) (getD minutes i 0) (getD later i 0) (getD later job 0) (getD ends i 0) (getD at job 0)
+    turn-round : TurnsRound (getD need i 0) (getD need job 0) (getD minutes i 0) (getD later i 0) (getD later job 0) (getD ends i 0)
+        (getD at job 0)
         → Fails S target (w ++ (job ∷ []))
     turn-round h = go (placed-splits S w i placed)
       where
@@ -117,10 +119,12 @@ module _ (need minutes earlier later tails : List ℕ) (jobs modules : ℕ) (par
             at-place : SettledAt S target u i job
             at-place = s .settled .each u i q job e l b
 
-            which : TurnsRound (getD need i 0) (getD need job 0) (getD minutes i 0) (getD later i 0) (getD later job 0) (getD ends i 0) (getD at job 0)
+            which : TurnsRound (getD need i 0) (getD need job 0) (getD minutes i 0) (getD later i 0) (getD later job 0) (getD ends i 0)
+                (getD at job 0)
                 → Fails S target (w ++ (job ∷ []))
             which (inl h) = same u q w e follows at-place (omega (arith, h, end, starts-at job l low))
-            which (inr (n, (a, g))) = behind u q w e follows at-place new n (waits-too i job m l g) (omega (arith, a, end, starts-at job l low))
+            which (inr (n, (a, g))) = behind u q w e follows at-place new n (waits-too i job m l g) (omega
+                (arith, a, end, starts-at job l low))
 
   pub passed-cut : PassedOver need minutes later at (part .ends) by (part .unplaced) tried jobs job → Fails S target (w ++ (job ∷ []))
   passed-cut (i, m, inl (t, h)) = come-first i m t h
@@ -152,5 +156,6 @@ module _ (need minutes earlier later tails : List ℕ) (jobs modules : ℕ) (par
       go u i q x m b (inr (p, e)) =
           let placed : P .placed i ≡ true = subst (λ (v : List ℕ). partOf S v .placed i ≡ true) (sym e)
           (branch-placed S narrow u i p (subst (λ (v : List ℕ). Follows S noJobs v) e follows)) in
-          let other : ¬ (i ≡ job) = λ z. clash (P .placed i) placed (ap (P .placed) z ∙ ready-says S (P .placed) job (may-come job l low) .new) in
+          let other : ¬ (i ≡ job) = λ z. clash (P .placed i) placed (ap (P .placed) z ∙ ready-says S (P .placed) job
+          (may-come job l low) .new) in
           s .settled .each u i p x e m (ap (λ (y : ℕ). bit y x) (sym (getD-set-other by job i tried 0 other)) ∙ b)

@@ -22,7 +22,8 @@ use Rattle.placement.specs.declared.Part.{Part}
 use Rattle.placement.specs.Part.{wordOf, Placed, firstPart}
 use Rattle.placement.proofs.Parts.{left-count, start-short}
 use Rattle.search.specs.declared.Found.{Found}
-use Rattle.search.specs.Search.{Known, theoryPart, JobStart, Remembered, Fails, Outcome, noneSettled, Searching, Lowest, Going, Placing}
+use Rattle.search.specs.Search.{Known, theoryPart, JobStart, Remembered, Fails}
+use Rattle.search.specs.Search.{Outcome, noneSettled, Searching, Lowest, Going, Placing}
 use Rattle.search.proofs.Turns.{child-known}
 use Rattle.search.proofs.Whole.{none-settled}
 
@@ -46,7 +47,8 @@ start-low {need} {minutes} {earlier} {jobs} {modules} {part} {j} {s} k h n =
     go (true-or-false (ready (sheetOf need minutes earlier jobs modules) (theoryPart need minutes earlier jobs modules part .placed) j))
   where
     go : (ready (sheetOf need minutes earlier jobs modules) (theoryPart need minutes earlier jobs modules part .placed) j ≡ true)
-        ⊎ (ready (sheetOf need minutes earlier jobs modules) (theoryPart need minutes earlier jobs modules part .placed) j ≡ false) → s < 65535
+        ⊎ (ready (sheetOf need minutes earlier jobs modules) (theoryPart need minutes earlier jobs modules part .placed) j ≡ false)
+        → s < 65535
     go (inl r) = starts-short k r h
     go (inr r) = absurd (n (h .none r))
 
@@ -85,7 +87,8 @@ pub upto-none : {S : Sheet} {w : List ℕ} {best : Found} → Placing S w best �
 upto-none h o d (inl b) = h .before o d b
 upto-none h o d (inr (i, l, b)) = absurd (not-suc-le-zero l)
 
-pub upto-more : (S : Sheet) (target : ℕ) (w : List ℕ) (j : ℕ) → NoneUpto S target w j → Fails S target (w ++ (j ∷ [])) → NoneUpto S target w (j + 1)
+pub upto-more : (S : Sheet) (target : ℕ) (w : List ℕ) (j : ℕ) → NoneUpto S target w j → Fails S target (w ++ (j ∷ []))
+    → NoneUpto S target w (j + 1)
 unfolding CannotBeat
 upto-more S target w j h f o d (inl b) = h o d (inl b)
 upto-more S target w j h f o d (inr (i, l, b)) = go (last-or-below j i (omega (arith, l)))
@@ -113,7 +116,8 @@ module _ {S : Sheet} {w : List ℕ} {best : Found} (h : Placing S w best) where
       )
 
   -- what the order has in the place, where no lower job is found
-  pub place-miss : (x : ℕ) (p : List ℕ) → take (S .jobs) (best .order) ≡ w ++ (x ∷ p) → NoneUpto S (best .end) w x → Placing S (w ++ (x ∷ [])) best
+  pub place-miss : (x : ℕ) (p : List ℕ) → take (S .jobs) (best .order) ≡ w ++ (x ∷ p) → NoneUpto S (best .end) w x
+      → Placing S (w ++ (x ∷ [])) best
   place-miss x p e n = record {
     lowest = h .lowest;
     begins = (p, e ∙ sym (append-assoc w (x ∷ []) p));
@@ -196,7 +200,8 @@ placing-first {S} {r} h = record { lowest = h; begins = (take (S .jobs) (r .orde
 -- ---- a turn of the loop
 
 -- k jobs of the order stand in their places
-pub record Standing (need minutes earlier later tails : List ℕ) (jobs modules : ℕ) (part : Part) (best : Found) (memory : List ℕ) (k : ℕ) : Type 0 where
+pub record Standing (need minutes earlier later tails : List ℕ) (jobs modules : ℕ) (part : Part) (best : Found) (memory : List ℕ)
+    (k : ℕ) : Type 0 where
   pub inside : k ≤ jobs
   pub going : Going need minutes earlier later tails jobs modules part (best .end) memory
   pub count : part .placed ≡ k
@@ -215,8 +220,10 @@ module _ {need minutes earlier later tails : List ℕ} {jobs modules : ℕ} {par
   stands-below = omega (arith, h .count)
 
   -- the job that is settled in the place may come next
-  pub settled-next : {r : Found} → Placing (sheetOf need minutes earlier jobs modules) (wordOf part ++ (getD (r .order) (part .placed) 0 ∷ [])) r
-      → ready (sheetOf need minutes earlier jobs modules) (theoryPart need minutes earlier jobs modules part .placed) (getD (r .order) k 0) ≡ true
+  pub settled-next : {r : Found}
+      → Placing (sheetOf need minutes earlier jobs modules) (wordOf part ++ (getD (r .order) (part .placed) 0 ∷ [])) r
+      → ready (sheetOf need minutes earlier jobs modules) (theoryPart need minutes earlier jobs modules part .placed) (getD
+      (r .order) k 0) ≡ true
   settled-next {r} q =
       let S = sheetOf need minutes earlier jobs modules in
       let w = wordOf part in
@@ -224,7 +231,8 @@ module _ {need minutes earlier later tails : List ℕ} {jobs modules : ℕ} {par
       subst (λ (n : ℕ). ready S (partOf S w .placed) (getD (r .order) n 0) ≡ true) (h .count)
       (next-ready S w (getD (r .order) (part .placed) 0) (b .0) (subst (λ (x : List ℕ). Order S x) (b .1) (q .lowest .is .order)))
 
-  pub stands-next : {r : Found} (memory′ : List ℕ) → Placing (sheetOf need minutes earlier jobs modules) (wordOf part ++ (getD (r .order) (part .placed) 0 ∷ [])) r
+  pub stands-next : {r : Found} (memory′ : List ℕ)
+      → Placing (sheetOf need minutes earlier jobs modules) (wordOf part ++ (getD (r .order) (part .placed) 0 ∷ [])) r
       → Remembered (sheetOf need minutes earlier jobs modules) memory′ (suc (r .end)) → {j : ℕ} → j ≡ getD (r .order) k 0 → {next : Part}
       → Known need minutes earlier jobs modules next → wordOf next ≡ wordOf part ++ (j ∷ []) → next .placed ≡ part .placed + 1
       → Standing need minutes earlier later tails jobs modules next r memory′ (k + 1)

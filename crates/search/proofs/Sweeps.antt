@@ -51,7 +51,8 @@ pub record Sweep (need minutes earlier : List ℕ) (jobs modules : ℕ) (part : 
   pub choice : ChoiceOf at left jobs c
   pub before : TriedSo need minutes earlier jobs modules part target at tried (c .start)
   pub gone : (j : ℕ) → j < jobs → bit left j ≡ false
-      → ready (sheetOf need minutes earlier jobs modules) (partOf (sheetOf need minutes earlier jobs modules) (wordOf part) .placed) j ≡ true
+      → ready (sheetOf need minutes earlier jobs modules) (partOf (sheetOf need minutes earlier jobs modules)
+      (wordOf part) .placed) j ≡ true
       → Fails (sheetOf need minutes earlier jobs modules) target (wordOf part ++ (j ∷ []))
 
 module _ (need minutes earlier : List ℕ) (jobs modules : ℕ) (part : Part) (known : Known need minutes earlier jobs modules part)
@@ -82,7 +83,12 @@ module _ (need minutes earlier : List ℕ) (jobs modules : ℕ) (part : Part) (k
 
   pub sweep-next : (left tried : ℕ) (c d : Choice) → Swept left tried c → c .start < 65535 → Fails S target (w ++ (c .job ∷ []))
       → ChoiceOf at (withoutBit left (c .job)) jobs d → Swept (withoutBit left (c .job)) (withBit tried (c .job)) d
-  sweep-next left tried c d s l f h = record { choice = h; before = λ x m b. earlier-ones x m b (eqb x (c .job)) refl; gone = λ j m b. go j m b (eqb j (c .job)) refl }
+  sweep-next left tried c d s l f h = record {
+    choice = h;
+    before = λ x m b. earlier-ones x m b (eqb x
+        (c .job)) refl;
+    gone = λ j m b. go j m b (eqb j (c .job)) refl;
+  }
     where
       c-at : getD at (c .job) 0 ≡ c .start
       c-at = s .choice .some l .1 .1

@@ -67,7 +67,12 @@ module _ (need minutes earlier tails : List ℕ) (jobs modules : ℕ) where
           end = ap (endOf S) word-is ∙ sym end-is;
           within = ltb-false target (largest jobs (λ i. getD (part .ends) i 0)) (not-true _ h);
         };
-        miss = λ h o d b. rw (alone o d b) (omega (arith, end-is, ltb-true target (largest jobs (λ i. getD (part .ends) i 0)) (not-false _ h)));
+        miss = λ h o d b. rw (alone o d b) (omega (
+          arith,
+          end-is,
+          ltb-true target (largest jobs (λ i. getD (part .ends) i 0))
+              (not-false _ h),
+        ));
       }
         where
           alone : (o : List ℕ) → Order S o → Begins w o → o ≡ w

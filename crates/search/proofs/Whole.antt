@@ -54,7 +54,8 @@ module _ (need minutes earlier later tails : List ℕ) (jobs modules : ℕ) wher
 
   -- an order that is to end before the best
   pub enter : {best : Found} {memory : List ℕ} → Lowering need minutes earlier later tails jobs modules best memory → ¬ (best .end ≡ 0)
-      → Searching need minutes earlier later tails jobs modules (firstPart need minutes jobs modules) (noneSettled .by) (best .end - 1) memory
+      → Searching need minutes earlier later tails jobs modules (firstPart need minutes jobs modules) (noneSettled .by)
+      (best .end - 1) memory
   enter {best} {memory} s z = record {
     low = omega (arith, s .best-is .low);
     known = first-known need minutes earlier jobs modules (s .fit);
@@ -64,7 +65,8 @@ module _ (need minutes earlier later tails : List ℕ) (jobs modules : ℕ) wher
     remembered = subst (λ (e : ℕ). Remembered S memory e) (let e : best .end ≡ suc (best .end - 1) = omega arith in e) (s .remembered);
   }
 
-  pub lower-hit : {best r : Found} {memory : List ℕ} (memory′ : List ℕ) {v : List ℕ} → Lowering need minutes earlier later tails jobs modules best memory
+  pub lower-hit : {best r : Found} {memory : List ℕ} (memory′ : List ℕ) {v : List ℕ}
+      → Lowering need minutes earlier later tails jobs modules best memory
       → ¬ (best .end ≡ 0) → Outcome S (best .end - 1) v r → r .hit ≡ true → Remembered S memory′ (suc (best .end - 1))
       → Lowered S best r × Remembered S memory′ (r .end)
   lower-hit {best} {r} {memory} memory′ s z o e m =

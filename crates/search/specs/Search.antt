@@ -120,7 +120,8 @@ TurnsRound need1 need2 minutes1 later1 later2 end1 at2 =
 abbrev pub Stands : List ℕ → List ℕ → List ℕ → List ℕ → List ℕ → List ℕ → ℕ → ℕ → ℕ → ℕ → Type 0
 Stands need minutes later at ends by unplaced tried j i =
     ((bit tried i ≡ true)
-    × ComesFirst (getD need i 0) (getD need j 0) (getD minutes i 0) (getD minutes j 0) (getD later i 0) (getD later j 0) (getD at i 0) (getD at j 0))
+    × ComesFirst (getD need i 0) (getD need j 0) (getD minutes i 0) (getD minutes j 0) (getD later i 0) (getD later j 0) (getD at i 0)
+    (getD at j 0))
     ⊎ (((bit unplaced i ≡ false) × (bit (getD by i 0) j ≡ true))
     × TurnsRound (getD need i 0) (getD need j 0) (getD minutes i 0) (getD later i 0) (getD later j 0) (getD ends i 0) (getD at j 0))
 
@@ -178,7 +179,8 @@ noneSettled = record { by = replicate 20 0 }
 abbrev pub withSettled : Settled → ℕ → ℕ → Settled
 withSettled s i tried = record { by = set (s .by) i tried }
 
-pub record Searching (need minutes earlier later tails : List ℕ) (jobs modules : ℕ) (part : Part) (by : List ℕ) (target : ℕ) (memory : List ℕ)
+pub record Searching (need minutes earlier later tails : List ℕ) (jobs modules : ℕ) (part : Part) (by : List ℕ) (target : ℕ)
+    (memory : List ℕ)
     : Type 0 where
   pub low : target < 65535
   pub known : Known need minutes earlier jobs modules part

@@ -445,9 +445,12 @@ fn visit(
     target: u16,
     memory: &mut [u8],
 ) -> Found
-    requires { ⌜ Searching (now need) (now minutes) (now earlier) (now later) (now tails) jobs modules part (settled .by) target (now memory) ⌝ }
-    ensures outcome { λ r. ⌜ Outcome (sheetOf (now (need .entry)) (now (minutes .entry)) (now (earlier .entry)) jobs modules) target (wordOf part) r ⌝ }
-    ensures remembered { λ _. ⌜ Remembered (sheetOf (now (need .entry)) (now (minutes .entry)) (now (earlier .entry)) jobs modules) (now (memory .exit)) (suc target) ⌝ }
+    requires { ⌜ Searching (now need) (now minutes) (now earlier) (now later) (now tails) jobs modules part (settled .by) target
+        (now memory) ⌝ }
+    ensures outcome { λ r. ⌜ Outcome (sheetOf (now (need .entry)) (now (minutes .entry)) (now (earlier .entry)) jobs modules) target
+        (wordOf part) r ⌝ }
+    ensures remembered { λ _. ⌜ Remembered (sheetOf (now (need .entry)) (now (minutes .entry)) (now (earlier .entry)) jobs modules)
+        (now (memory .exit)) (suc target) ⌝ }
 {
     let unplaced = part.unplaced;
     if u32::count_ones(unplaced) == 0 {
@@ -511,12 +514,15 @@ fn try_children(
     job: usize,
     memory: &mut [u8],
 ) -> Found
-    requires { ⌜ Searching (now need) (now minutes) (now earlier) (now later) (now tails) jobs modules part (settled .by) target (now memory) ⌝ }
+    requires { ⌜ Searching (now need) (now minutes) (now earlier) (now later) (now tails) jobs modules part (settled .by) target
+        (now memory) ⌝ }
     requires { ⌜ EachStart (now need) (now minutes) (now earlier) jobs modules part (now at) ⌝ }
     requires { ⌜ (TriedSo (now need) (now minutes) (now earlier) jobs modules part target (now at) tried (getD (now at) job 0))
         × ((job < jobs) × (getD (now at) job 0 < 65535)) ⌝ }
-    ensures outcome { λ r. ⌜ Outcome (sheetOf (now (need .entry)) (now (minutes .entry)) (now (earlier .entry)) jobs modules) target (wordOf part ++ (job ∷ [])) r ⌝ }
-    ensures remembered { λ _. ⌜ Remembered (sheetOf (now (need .entry)) (now (minutes .entry)) (now (earlier .entry)) jobs modules) (now (memory .exit)) (suc target) ⌝ }
+    ensures outcome { λ r. ⌜ Outcome (sheetOf (now (need .entry)) (now (minutes .entry)) (now (earlier .entry)) jobs modules) target
+        (wordOf part ++ (job ∷ [])) r ⌝ }
+    ensures remembered { λ _. ⌜ Remembered (sheetOf (now (need .entry)) (now (minutes .entry)) (now (earlier .entry)) jobs modules)
+        (now (memory .exit)) (suc target) ⌝ }
 {
     if passed_over(
         need,
@@ -847,9 +853,12 @@ fn try_place(
     j: usize,
     memory: &mut [u8],
 ) -> Found
-    requires { ⌜ (Going (now need) (now minutes) (now earlier) (now later) (now tails) jobs modules part target (now memory)) × (j < jobs) ⌝ }
-    ensures outcome { λ r. ⌜ Outcome (sheetOf (now (need .entry)) (now (minutes .entry)) (now (earlier .entry)) jobs modules) target (wordOf part ++ (j ∷ [])) r ⌝ }
-    ensures remembered { λ _. ⌜ Remembered (sheetOf (now (need .entry)) (now (minutes .entry)) (now (earlier .entry)) jobs modules) (now (memory .exit)) (suc target) ⌝ }
+    requires { ⌜ (Going (now need) (now minutes) (now earlier) (now later) (now tails) jobs modules part target (now memory))
+        × (j < jobs) ⌝ }
+    ensures outcome { λ r. ⌜ Outcome (sheetOf (now (need .entry)) (now (minutes .entry)) (now (earlier .entry)) jobs modules) target
+        (wordOf part ++ (j ∷ [])) r ⌝ }
+    ensures remembered { λ _. ⌜ Remembered (sheetOf (now (need .entry)) (now (minutes .entry)) (now (earlier .entry)) jobs modules)
+        (now (memory .exit)) (suc target) ⌝ }
 {
     let start = start_or_none(need, minutes, earlier, jobs, modules, part, j);
     if start == 65535 {
@@ -957,9 +966,12 @@ fn first_order(
     memory: &mut [u8],
 ) -> Found
     requires { ⌜ (Lowest (sheetOf (now need) (now minutes) (now earlier) jobs modules) least)
-        × (Going (now need) (now minutes) (now earlier) (now later) (now tails) jobs modules (firstPart (now need) (now minutes) jobs modules) (least .end) (now memory)) ⌝ }
-    ensures { λ r. ⌜ (tie.Best (sheetOf (now (need .entry)) (now (minutes .entry)) (now (earlier .entry)) jobs modules) (take jobs (r .order)))
-        × (r .end ≡ endOf (sheetOf (now (need .entry)) (now (minutes .entry)) (now (earlier .entry)) jobs modules) (take jobs (r .order))) ⌝ }
+        × (Going (now need) (now minutes) (now earlier) (now later) (now tails) jobs modules
+        (firstPart (now need) (now minutes) jobs modules) (least .end) (now memory)) ⌝ }
+    ensures { λ r. ⌜ (tie.Best (sheetOf (now (need .entry)) (now (minutes .entry)) (now (earlier .entry)) jobs modules)
+        (take jobs (r .order)))
+        × (r .end ≡ endOf (sheetOf (now (need .entry)) (now (minutes .entry)) (now (earlier .entry)) jobs modules)
+        (take jobs (r .order))) ⌝ }
 {
     let mut best = least;
     let mut part = placement::first_part(need, minutes, jobs, modules);

@@ -10,7 +10,8 @@ use Rattle.tables.specs.Tables.{sheetOf}
 use Rattle.placement.specs.Part.{wordOf}
 use Rattle.placement.proofs.Parts.{left-small}
 use Rattle.search.specs.Search.{Remembered}
-use Rattle.search.proofs.Turns.{visit-leaf, held-ready, hopeless-cut, recall-cut, child-placeable, child-fewer, child-known, child-word, visit-all, visit-remember}
+use Rattle.search.proofs.Turns.{visit-leaf, held-ready, hopeless-cut, recall-cut, child-placeable}
+use Rattle.search.proofs.Turns.{child-fewer, child-known, child-word, visit-all, visit-remember}
 use Rattle.search.proofs.Steps.{one-less}
 use Rattle.search.proofs.Passing.{passed-cut, settled-more}
 use Rattle.search.proofs.Sweeps.{none-outcome, found-below, Sweep, sweep-first, chosen-in, sweep-next, sweep-all}
@@ -100,12 +101,14 @@ visit-claims t = (
   remember-reads.Learnt,
 )
 
-try-children-passed-over-requires : (t : ℕ) → try-children-lts.Need-passed-over-requires (try-children-claims t) (try-children-at t) try-children.Post
+try-children-passed-over-requires : (t : ℕ)
+    → try-children-lts.Need-passed-over-requires (try-children-claims t) (try-children-at t) try-children.Post
 try-children-passed-over-requires t c κs =
     let p = c .before .before .before .before .before .pre .1 in
     (p .0 .known .fit .few, omega (arith, p .1 .1 .1 .0, p .0 .known .fit .few))
 
-try-children-none-found-requires : (t : ℕ) → try-children-lts.Need-none-found-requires (try-children-claims t) (try-children-at t) try-children.Post
+try-children-none-found-requires : (t : ℕ)
+    → try-children-lts.Need-none-found-requires (try-children-claims t) (try-children-at t) try-children.Post
 try-children-none-found-requires t c κs = tt
 
 try-children-returns : (t : ℕ) → try-children-lts.Need-returns (try-children-claims t) (try-children-at t) try-children.Post
@@ -114,7 +117,8 @@ try-children-returns t c =
     let a = start .args in
     let p = start .pre .1 in
     let known = p .0 .known in
-    let cut = passed-cut (a .need .now) (a .minutes .now) (a .earlier .now) (a .later .now) (a .tails .now) (a .jobs) (a .modules) (a .t8) (a .t9 .by) (a .target) (a .memory .now) (a .at .now) (a .tried) (a .job)
+    let cut = passed-cut (a .need .now) (a .minutes .now) (a .earlier .now) (a .later .now) (a .tails .now) (a .jobs) (a .modules)
+    (a .t8) (a .t9 .by) (a .target) (a .memory .now) (a .at .now) (a .tried) (a .job)
     (p .0) (p .1 .0) (p .1 .1 .0) (p .1 .1 .1 .0) (p .1 .1 .1 .1)
     (c .before .before .passed-over .ensures (c .before .if1 .taken)) in
     (rw (c .none-found .ensures) (none-outcome _ (a .target) _ cut), p .0 .remembered)
@@ -124,7 +128,8 @@ try-children-mul-place t c =
     let p = c .before .before .before .before .before .before .before .pre .1 in
     record { fits = omega (arith, p .1 .1 .1 .0, p .0 .known .fit .few) }
 
-try-children-element-copy-out-place : (t : ℕ) → try-children-lts.Need-element-copy-out-place (try-children-claims t) (try-children-at t) try-children.Post
+try-children-element-copy-out-place : (t : ℕ)
+    → try-children-lts.Need-element-copy-out-place (try-children-claims t) (try-children-at t) try-children.Post
 try-children-element-copy-out-place t c =
     let p = c .before .before .before .before .before .before .before .pre .1 in
     omega (arith, p .1 .1 .1 .0, p .0 .known .fit .few)
@@ -134,7 +139,8 @@ try-children-mul-place-2 t c =
     let p = c .before .before .before .before .before .before .before .before .pre .1 in
     record { fits = omega (arith, p .1 .1 .1 .0, p .0 .known .fit .few) }
 
-try-children-element-copy-out-place-2 : (t : ℕ) → try-children-lts.Need-element-copy-out-place-2 (try-children-claims t) (try-children-at t) try-children.Post
+try-children-element-copy-out-place-2 : (t : ℕ)
+    → try-children-lts.Need-element-copy-out-place-2 (try-children-claims t) (try-children-at t) try-children.Post
 try-children-element-copy-out-place-2 t c =
     let p = c .before .before .before .before .before .before .before .before .pre .1 in
     omega (arith, p .1 .1 .1 .0, p .0 .known .fit .few)
@@ -144,7 +150,8 @@ try-children-mul-place-3 t c =
     let p = c .before .before .before .before .before .before .before .before .before .pre .1 in
     record { fits = omega (arith, p .1 .1 .1 .0, p .0 .known .fit .few) }
 
-try-children-element-copy-out-place-3 : (t : ℕ) → try-children-lts.Need-element-copy-out-place-3 (try-children-claims t) (try-children-at t) try-children.Post
+try-children-element-copy-out-place-3 : (t : ℕ)
+    → try-children-lts.Need-element-copy-out-place-3 (try-children-claims t) (try-children-at t) try-children.Post
 try-children-element-copy-out-place-3 t c =
     let p = c .before .before .before .before .before .before .before .before .before .pre .1 in
     omega (arith, p .1 .1 .1 .0, p .0 .known .fit .few)
@@ -155,10 +162,12 @@ try-children-place-requires t c κs =
     let a = start .args in
     let p = start .pre .1 in
     let known = p .0 .known in
-    child-placeable (a .need .now) (a .minutes .now) (a .earlier .now) (a .tails .now) (a .jobs) (a .modules) (a .t8) known (a .job) (p .1 .1 .1 .0) (getD (a .at .now) (a .job) 0)
+    child-placeable (a .need .now) (a .minutes .now) (a .earlier .now) (a .tails .now) (a .jobs) (a .modules) (a .t8) known (a .job)
+    (p .1 .1 .1 .0) (getD (a .at .now) (a .job) 0)
     (p .1 .0 (a .job) (p .1 .1 .1 .0)) (p .1 .1 .1 .1)
 
-try-children-with-settled-requires : (t : ℕ) → try-children-lts.Need-with-settled-requires (try-children-claims t) (try-children-at t) try-children.Post
+try-children-with-settled-requires : (t : ℕ)
+    → try-children-lts.Need-with-settled-requires (try-children-claims t) (try-children-at t) try-children.Post
 try-children-with-settled-requires t c κs =
     let p = c .before .before .before .before .before .before .before .before .before .before .before .pre .1 in
     omega (arith, p .1 .1 .1 .0, p .0 .known .fit .few)
@@ -170,18 +179,23 @@ try-children-visit-requires t c κs =
     let p = start .pre .1 in
     let known = p .0 .known in
     let place = c .before .before .place in
-    let less = child-fewer (a .need .now) (a .minutes .now) (a .earlier .now) (a .tails .now) (a .jobs) (a .modules) (a .t8) known (a .job) (p .1 .1 .1 .0) (getD (a .at .now) (a .job) 0)
+    let less = child-fewer (a .need .now) (a .minutes .now) (a .earlier .now) (a .tails .now) (a .jobs) (a .modules) (a .t8) known
+    (a .job) (p .1 .1 .1 .0) (getD (a .at .now) (a .job) 0)
     (p .1 .0 (a .job) (p .1 .1 .1 .0)) (p .1 .1 .1 .1) (place .result) (place .ensures) in
-    let word = child-word (a .need .now) (a .minutes .now) (a .earlier .now) (a .tails .now) (a .jobs) (a .modules) (a .t8) known (a .job) (p .1 .1 .1 .0) (getD (a .at .now) (a .job) 0)
+    let word = child-word (a .need .now) (a .minutes .now) (a .earlier .now) (a .tails .now) (a .jobs) (a .modules) (a .t8) known
+    (a .job) (p .1 .1 .1 .0) (getD (a .at .now) (a .job) 0)
     (p .1 .0 (a .job) (p .1 .1 .1 .0)) (p .1 .1 .1 .1) (place .result) (place .ensures) in (
       omega (arith, start .pre .0, less),
       record {
         low = p .0 .low;
-        known = child-known (a .need .now) (a .minutes .now) (a .earlier .now) (a .tails .now) (a .jobs) (a .modules) (a .t8) known (a .job) (p .1 .1 .1 .0) (getD (a .at .now) (a .job) 0)
+        known = child-known (a .need .now) (a .minutes .now) (a .earlier .now) (a .tails .now) (a .jobs) (a .modules) (a .t8) known
+            (a .job) (p .1 .1 .1 .0) (getD (a .at .now) (a .job) 0)
             (p .1 .0 (a .job) (p .1 .1 .1 .0)) (p .1 .1 .1 .1) (place .result) (place .ensures);
         chains = p .0 .chains;
         laters = p .0 .laters;
-        settled = rw (c .before .with-settled .ensures, word) (settled-more (a .need .now) (a .minutes .now) (a .earlier .now) (a .later .now) (a .tails .now) (a .jobs) (a .modules) (a .t8) (a .t9 .by) (a .target) (a .memory .now) (a .at .now) (a .tried) (a .job)
+        settled = rw (c .before .with-settled .ensures, word) (settled-more (a .need .now) (a .minutes .now) (a .earlier .now)
+            (a .later .now) (a .tails .now) (a .jobs) (a .modules) (a .t8) (a .t9 .by) (a .target) (a .memory .now) (a .at .now)
+            (a .tried) (a .job)
             (p .0) (p .1 .0) (p .1 .1 .0) (p .1 .1 .1 .0) (p .1 .1 .1 .1));
         remembered = p .0 .remembered;
       },
@@ -199,7 +213,8 @@ try-children-returns-2 t c =
     let p = start .pre .1 in
     let known = p .0 .known in
     let place = c .before .before .before .before .before .place in
-    let word = child-word (a .need .now) (a .minutes .now) (a .earlier .now) (a .tails .now) (a .jobs) (a .modules) (a .t8) known (a .job) (p .1 .1 .1 .0) (getD (a .at .now) (a .job) 0)
+    let word = child-word (a .need .now) (a .minutes .now) (a .earlier .now) (a .tails .now) (a .jobs) (a .modules) (a .t8) known
+    (a .job) (p .1 .1 .1 .0) (getD (a .at .now) (a .job) 0)
     (p .1 .0 (a .job) (p .1 .1 .1 .0)) (p .1 .1 .1 .1) (place .result) (place .ensures) in
     let visit = c .before .before .visit in
     (rw word at (visit .ensures .0), visit .ensures .1)
@@ -222,10 +237,14 @@ visit-returns : (t : ℕ) → visit-lts.Need-returns (visit-claims t) (visit-at 
 visit-returns t c =
     let start = c .before .before .before in
     let a = start .args in
-    let p = start .pre .1 in
-    (rw (c .finished .ensures) (visit-leaf (a .need .now) (a .minutes .now) (a .earlier .now) (a .tails .now) (a .jobs) (a .modules) (a .t8) (p .known) (c .before .if1 .taken) (a .target)), p .remembered)
+    let p = start .pre .1 in (
+      rw (c .finished .ensures) (visit-leaf (a .need .now) (a .minutes .now) (a .earlier .now) (a .tails .now) (a .jobs) (a .modules)
+          (a .t8) (p .known) (c .before .if1 .taken) (a .target)),
+      p .remembered,
+    )
 
-visit-ready-starts-requires : (t : ℕ) → visit-lts.Need-ready-starts-requires (visit-claims t) (visit-at t) visit.Post visit-Inv-loop visit-μ-loop
+visit-ready-starts-requires : (t : ℕ)
+    → visit-lts.Need-ready-starts-requires (visit-claims t) (visit-at t) visit.Post visit-Inv-loop visit-μ-loop
 visit-ready-starts-requires t c κs =
     let p = c .before .before .pre .1 in
     p .known
@@ -241,10 +260,15 @@ visit-hopeless-requires t c κs =
     let a = start .args in
     let p = start .pre .1 in
     let r = c .before .before .ready-starts in
-    let small = left-small (a .need .now) (a .minutes .now) (a .earlier .now) (a .jobs) (a .modules) (p .known .fit) (a .t8) (wordOf (a .t8)) (p .known .is) in
-    (held-ready (a .need .now) (a .minutes .now) (a .earlier .now) (a .tails .now) (a .jobs) (a .modules) (a .t8) (p .known) (r .result .at) (r .result .least) (r .ensures), ((small, p .known .fit .most), p .known .fit .few))
+    let small = left-small (a .need .now) (a .minutes .now) (a .earlier .now) (a .jobs) (a .modules) (p .known .fit) (a .t8) (wordOf
+    (a .t8)) (p .known .is) in (
+      held-ready (a .need .now) (a .minutes .now) (a .earlier .now) (a .tails .now) (a .jobs) (a .modules) (a .t8) (p .known)
+          (r .result .at) (r .result .least) (r .ensures),
+      ((small, p .known .fit .most), p .known .fit .few),
+    )
 
-visit-none-found-requires : (t : ℕ) → visit-lts.Need-none-found-requires (visit-claims t) (visit-at t) visit.Post visit-Inv-loop visit-μ-loop
+visit-none-found-requires : (t : ℕ)
+    → visit-lts.Need-none-found-requires (visit-claims t) (visit-at t) visit.Post visit-Inv-loop visit-μ-loop
 visit-none-found-requires t c κs = tt
 
 visit-returns-2 : (t : ℕ) → visit-lts.Need-returns-2 (visit-claims t) (visit-at t) visit.Post visit-Inv-loop visit-μ-loop
@@ -253,8 +277,10 @@ visit-returns-2 t c =
     let a = start .args in
     let p = start .pre .1 in
     let r = c .before .before .before .before .before .ready-starts in
-    let cut = hopeless-cut (a .need .now) (a .minutes .now) (a .earlier .now) (a .tails .now) (a .jobs) (a .modules) (a .t8) (p .known) (r .result .at) (r .result .least) (r .ensures) (a .target + 1) (p .chains)
-    (pos-of-ne-zero (c .before .before .before .before .before .before .if1 .left)) (c .before .before .hopeless .ensures (c .before .if2 .taken)) in
+    let cut = hopeless-cut (a .need .now) (a .minutes .now) (a .earlier .now) (a .tails .now) (a .jobs) (a .modules) (a .t8) (p .known)
+    (r .result .at) (r .result .least) (r .ensures) (a .target + 1) (p .chains)
+    (pos-of-ne-zero (c .before .before .before .before .before .before .if1 .left)) (c .before .before .hopeless .ensures
+    (c .before .if2 .taken)) in
     (rw (c .none-found .ensures) (none-outcome _ (a .target) _ (rw add-one at cut)), p .remembered)
 
 visit-recall-requires : (t : ℕ) → visit-lts.Need-recall-requires (visit-claims t) (visit-at t) visit.Post visit-Inv-loop visit-μ-loop
@@ -262,7 +288,8 @@ visit-recall-requires t c κs =
     let p = c .before .before .before .before .before .before .before .before .before .before .pre .1 in
     p .known .fit .few
 
-visit-none-found-requires-2 : (t : ℕ) → visit-lts.Need-none-found-requires-2 (visit-claims t) (visit-at t) visit.Post visit-Inv-loop visit-μ-loop
+visit-none-found-requires-2 : (t : ℕ)
+    → visit-lts.Need-none-found-requires-2 (visit-claims t) (visit-at t) visit.Post visit-Inv-loop visit-μ-loop
 visit-none-found-requires-2 t c κs = tt
 
 visit-same-length : (t : ℕ) → visit-lts.Need-same-length (visit-claims t) (visit-at t) visit.Post visit-Inv-loop visit-μ-loop
@@ -274,11 +301,14 @@ visit-returns-3 t c =
     let a = start .args in
     let p = start .pre .1 in
     let r = c .before .before .before .before .before .before .before .before .before .before .ready-starts in
-    let cut = recall-cut (a .need .now) (a .minutes .now) (a .earlier .now) (a .tails .now) (a .jobs) (a .modules) (a .t8) (p .known) (r .result .at) (r .result .least) (r .ensures) (suc (a .target)) (a .memory .now)
-    (pos-of-ne-zero (c .before .before .before .before .before .before .before .before .before .before .before .if1 .left)) (p .remembered) (c .before .before .recall .ensures (c .before .if3 .taken)) in
+    let cut = recall-cut (a .need .now) (a .minutes .now) (a .earlier .now) (a .tails .now) (a .jobs) (a .modules) (a .t8) (p .known)
+    (r .result .at) (r .result .least) (r .ensures) (suc (a .target)) (a .memory .now)
+    (pos-of-ne-zero (c .before .before .before .before .before .before .before .before .before .before .before .if1 .left))
+    (p .remembered) (c .before .before .recall .ensures (c .before .if3 .taken)) in
     (rw (c .none-found2 .ensures) (none-outcome _ (a .target) _ cut), p .remembered)
 
-visit-next-choice-requires : (t : ℕ) → visit-lts.Need-next-choice-requires (visit-claims t) (visit-at t) visit.Post visit-Inv-loop visit-μ-loop
+visit-next-choice-requires : (t : ℕ)
+    → visit-lts.Need-next-choice-requires (visit-claims t) (visit-at t) visit.Post visit-Inv-loop visit-μ-loop
 visit-next-choice-requires t c κs =
     let p = c .before .before .before .before .before .before .before .before .before .before .before .before .before .pre .1 in
     p .known .fit .few
@@ -288,10 +318,14 @@ visit-loop-holds t c =
     let start = c .before .before .before .before .before .before .before .before .before .before .before .before .before .before in
     let a = start .args in
     let p = start .pre .1 in
-    let r = c .before .before .before .before .before .before .before .before .before .before .before .ready-starts in
-    (sweep-first (a .need .now) (a .minutes .now) (a .earlier .now) (a .jobs) (a .modules) (a .t8) (p .known) (a .target) (r .result .at) (r .ensures .each) (c .next-choice .result) (c .next-choice .ensures), (p .remembered, refl))
+    let r = c .before .before .before .before .before .before .before .before .before .before .before .ready-starts in (
+      sweep-first (a .need .now) (a .minutes .now) (a .earlier .now) (a .jobs) (a .modules) (a .t8) (p .known) (a .target) (r .result .at)
+          (r .ensures .each) (c .next-choice .result) (c .next-choice .ensures),
+      (p .remembered, refl),
+    )
 
-visit-try-children-requires : (t : ℕ) → visit-lts.Need-try-children-requires (visit-claims t) (visit-at t) visit.Post visit-Inv-loop visit-μ-loop
+visit-try-children-requires : (t : ℕ)
+    → visit-lts.Need-try-children-requires (visit-claims t) (visit-at t) visit.Post visit-Inv-loop visit-μ-loop
 visit-try-children-requires t c κs =
     let start = c .before .before .before .before .before .before .before .before .before .before .before .before .before .before .before .before .before .before .before in
     let a = start .args in
@@ -342,10 +376,12 @@ visit-set32-requires t c κs =
     let loop = c .before .before .before .before .before .before .before .before .before .loop in
     let sweep = loop .inv .0 in
     let p = c .before .before .before .before .before .before .before .before .before .before .before .before .before .before .before .before .before .before .before .before .before .before .before .before .pre .1 in
-    let l : loop .c .start < 65535 = omega (arith, c .before .before .before .before .before .before .before .if4 .taken, sweep .choice .low) in
+    let l : loop .c .start < 65535 = omega
+    (arith, c .before .before .before .before .before .before .before .if4 .taken, sweep .choice .low) in
     omega (arith, sweep .choice .some l .0, p .known .fit .few)
 
-visit-next-choice-requires-2 : (t : ℕ) → visit-lts.Need-next-choice-requires-2 (visit-claims t) (visit-at t) visit.Post visit-Inv-loop visit-μ-loop
+visit-next-choice-requires-2 : (t : ℕ)
+    → visit-lts.Need-next-choice-requires-2 (visit-claims t) (visit-at t) visit.Post visit-Inv-loop visit-μ-loop
 visit-next-choice-requires-2 t c κs =
     let p = c .before .before .before .before .before .before .before .before .before .before .before .before .before .before .before .before .before .before .before .before .before .before .before .before .before .before .pre .1 in
     p .known .fit .few
@@ -358,8 +394,10 @@ visit-loop-less t c =
     let r = c .before .before .before .before .before .before .before .before .before .before .before .before .before .before .before .before .before .before .before .before .before .before .before .before .ready-starts in
     let loop = c .before .before .before .before .before .before .before .before .before .before .before .before .loop in
     let sweep = loop .inv .0 in
-    let l : loop .c .start < 65535 = omega (arith, c .before .before .before .before .before .before .before .before .before .before .if4 .taken, sweep .choice .low) in
-    rw (c .before .before .before .clear32 .ensures) (one-less (chosen-in (a .need .now) (a .minutes .now) (a .earlier .now) (a .jobs) (a .modules) (a .t8) (p .known) (a .target) (r .result .at) (r .ensures .each) (loop .left) (loop .c) (sweep .choice) l))
+    let l : loop .c .start < 65535 = omega
+    (arith, c .before .before .before .before .before .before .before .before .before .before .if4 .taken, sweep .choice .low) in
+    rw (c .before .before .before .clear32 .ensures) (one-less (chosen-in (a .need .now) (a .minutes .now) (a .earlier .now) (a .jobs)
+    (a .modules) (a .t8) (p .known) (a .target) (r .result .at) (r .ensures .each) (loop .left) (loop .c) (sweep .choice) l))
 
 visit-loop-again : (t : ℕ) → visit-lts.Need-loop-again (visit-claims t) (visit-at t) visit.Post visit-Inv-loop visit-μ-loop
 visit-loop-again t c =
@@ -370,10 +408,13 @@ visit-loop-again t c =
     let loop = c .before .before .before .before .before .before .before .before .before .before .before .before .loop in
     let sweep = loop .inv .0 in
     let try = c .before .before .before .before .before .before .before .try-children in
-    let l : loop .c .start < 65535 = omega (arith, c .before .before .before .before .before .before .before .before .before .before .if4 .taken, sweep .choice .low) in (
+    let l : loop .c .start < 65535 = omega
+    (arith, c .before .before .before .before .before .before .before .before .before .before .if4 .taken, sweep .choice .low) in (
       rw (c .before .before .before .clear32 .ensures, c .before .before .set32 .ensures)
-          (sweep-next (a .need .now) (a .minutes .now) (a .earlier .now) (a .jobs) (a .modules) (a .t8) (p .known) (a .target) (r .result .at) (r .ensures .each) (loop .left) (loop .tried) (loop .c) (c .next-choice2 .result) sweep l
-          (try .ensures .0 .miss (c .before .before .before .before .if5 .left)) (rw (c .before .before .before .clear32 .ensures) at (c .next-choice2 .ensures))),
+          (sweep-next (a .need .now) (a .minutes .now) (a .earlier .now) (a .jobs) (a .modules) (a .t8) (p .known) (a .target)
+          (r .result .at) (r .ensures .each) (loop .left) (loop .tried) (loop .c) (c .next-choice2 .result) sweep l
+          (try .ensures .0 .miss (c .before .before .before .before .if5 .left)) (rw (c .before .before .before .clear32 .ensures) at
+          (c .next-choice2 .ensures))),
       (try .ensures .1, try .kept .1 .1 .1 .1 .1 .1 .1 .1 .1 .1 .1 .1 .1 .0 ∙ loop .inv .1 .1),
     )
 
@@ -382,7 +423,8 @@ visit-remember-requires t c κs =
     let p = c .before .before .before .before .before .before .before .before .before .before .before .before .before .before .before .before .before .before .before .before .pre .1 in
     p .known .fit .few
 
-visit-none-found-requires-3 : (t : ℕ) → visit-lts.Need-none-found-requires-3 (visit-claims t) (visit-at t) visit.Post visit-Inv-loop visit-μ-loop
+visit-none-found-requires-3 : (t : ℕ)
+    → visit-lts.Need-none-found-requires-3 (visit-claims t) (visit-at t) visit.Post visit-Inv-loop visit-μ-loop
 visit-none-found-requires-3 t c κs = tt
 
 visit-same-length-3 : (t : ℕ) → visit-lts.Need-same-length-3 (visit-claims t) (visit-at t) visit.Post visit-Inv-loop visit-μ-loop
@@ -398,10 +440,15 @@ visit-returns-5 t c =
     let r = c .before .before .before .before .before .before .before .before .before .before .before .before .before .before .before .before .before .before .before .before .before .ready-starts in
     let loop = c .before .before .before .before .before .before .before .before .before .loop in
     let remember = c .before .before .before .remember in
-    let all = sweep-all (a .need .now) (a .minutes .now) (a .earlier .now) (a .jobs) (a .modules) (a .t8) (p .known) (a .target) (r .result .at) (r .ensures .each) (loop .left) (loop .tried) (loop .c) (loop .inv .0) (c .before .before .before .before .before .before .before .if4 .left) in
-    let cut = visit-all (a .need .now) (a .minutes .now) (a .earlier .now) (a .tails .now) (a .jobs) (a .modules) (a .t8) (p .known) (a .target) (pos-of-ne-zero (c .before .before .before .before .before .before .before .before .before .before .before .before .before .before .before .before .before .before .before .before .before .before .if1 .left)) all in (
+    let all = sweep-all (a .need .now) (a .minutes .now) (a .earlier .now) (a .jobs) (a .modules) (a .t8) (p .known) (a .target)
+    (r .result .at) (r .ensures .each) (loop .left) (loop .tried) (loop .c) (loop .inv .0)
+    (c .before .before .before .before .before .before .before .if4 .left) in
+    let cut = visit-all (a .need .now) (a .minutes .now) (a .earlier .now) (a .tails .now) (a .jobs) (a .modules) (a .t8) (p .known)
+    (a .target) (pos-of-ne-zero
+    (c .before .before .before .before .before .before .before .before .before .before .before .before .before .before .before .before .before .before .before .before .before .before .if1 .left)) all in (
       rw (c .none-found3 .ensures) (none-outcome _ (a .target) _ cut),
-      visit-remember (a .need .now) (a .minutes .now) (a .earlier .now) (a .tails .now) (a .jobs) (a .modules) (a .t8) (p .known) (a .target) (loop .memory) (remember .last .0) (loop .inv .1 .0) cut (remember .ensures),
+      visit-remember (a .need .now) (a .minutes .now) (a .earlier .now) (a .tails .now) (a .jobs) (a .modules) (a .t8) (p .known)
+          (a .target) (loop .memory) (remember .last .0) (loop .inv .1 .0) cut (remember .ensures),
     )
 
 pub +try-children+visit-spec : {M : Type 1} → statement M

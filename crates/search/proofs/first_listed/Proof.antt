@@ -22,7 +22,8 @@ better-requires-2 c κs = search needs
 returns : tie.Need-returns
 returns c =
     listed-of (c .before .before .before .before .list-order .ensures)
-    (listed-of (c .before .before .before .list-order2 .ensures) (c .before .before .list-order3 .ensures) (c .before .better .ensures)) (c .better2 .ensures)
+    (listed-of (c .before .before .before .list-order2 .ensures) (c .before .before .list-order3 .ensures) (c .before .better .ensures))
+    (c .better2 .ensures)
 
 pub first-listed-spec : {M : Type 1} → statement M
 first-listed-spec =

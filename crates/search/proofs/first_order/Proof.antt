@@ -39,8 +39,11 @@ wide-requires c κs = tt
 
 go-on-requires : tie.Need-go-on-requires Inv-loop μ-loop
 go-on-requires c κs =
-    let h = c .before .before .before .before .before .before .before .loop .inv .0 in
-    (h .going .known, rw (c .wide .ensures) (settled-next h (c .before .before .before .before .before .before .loop-test .taken) (c .before .before .before .before .settle-place .ensures .0)))
+    let h = c .before .before .before .before .before .before .before .loop .inv .0 in (
+      h .going .known,
+      rw (c .wide .ensures) (settled-next h (c .before .before .before .before .before .before .loop-test .taken)
+          (c .before .before .before .before .settle-place .ensures .0)),
+    )
 
 add-k : tie.Need-add-k Inv-loop μ-loop
 add-k c = search needs
@@ -53,7 +56,8 @@ loop-again c =
     let loop = c .before .before .before .before .before .before .before .before .loop in
     let settle = c .before .before .before .before .before .settle-place in
     let go = c .go-on .ensures in (
-      stands-next (loop .inv .0) (c .before .before .before .before .before .before .before .loop-test .taken) _ (settle .ensures .0) (settle .ensures .1) (c .before .wide .ensures) (go .0) (go .1 .0)
+      stands-next (loop .inv .0) (c .before .before .before .before .before .before .before .loop-test .taken) _ (settle .ensures .0)
+          (settle .ensures .1) (c .before .wide .ensures) (go .0) (go .1 .0)
           (go .1 .1),
       settle .kept .1 .1 .1 .1 .1 .1 .1 .1 .1 .0 ∙ loop .inv .1,
     )

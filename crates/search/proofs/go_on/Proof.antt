@@ -37,7 +37,8 @@ place-requires c κs =
     let known = start .pre .0 in
     let l = ready-says _ _ (a .j) (start .pre .1) .job in
     let s = c .before .before .start-or-none in
-    child-placeable (a .need .now) (a .minutes .now) (a .earlier .now) [] (a .jobs) (a .modules) (a .part) known (a .j) l (s .result) (s .ensures) (starts-short known (start .pre .1) (s .ensures))
+    child-placeable (a .need .now) (a .minutes .now) (a .earlier .now) [] (a .jobs) (a .modules) (a .part) known (a .j) l (s .result)
+    (s .ensures) (starts-short known (start .pre .1) (s .ensures))
 
 returns : tie.Need-returns
 returns c =
@@ -46,8 +47,13 @@ returns c =
     let known = start .pre .0 in
     let l = ready-says _ _ (a .j) (start .pre .1) .job in
     let s = c .before .before .before .start-or-none in (
-      child-known (a .need .now) (a .minutes .now) (a .earlier .now) [] (a .jobs) (a .modules) (a .part) known (a .j) l (s .result) (s .ensures) (starts-short known (start .pre .1) (s .ensures)) (c .place .result) (c .place .ensures),
-      (child-word (a .need .now) (a .minutes .now) (a .earlier .now) [] (a .jobs) (a .modules) (a .part) known (a .j) l (s .result) (s .ensures) (starts-short known (start .pre .1) (s .ensures)) (c .place .result) (c .place .ensures), c .place .ensures .placed),
+      child-known (a .need .now) (a .minutes .now) (a .earlier .now) [] (a .jobs) (a .modules) (a .part) known (a .j) l (s .result)
+          (s .ensures) (starts-short known (start .pre .1) (s .ensures)) (c .place .result) (c .place .ensures),
+      (
+        child-word (a .need .now) (a .minutes .now) (a .earlier .now) [] (a .jobs) (a .modules) (a .part) known (a .j) l (s .result)
+            (s .ensures) (starts-short known (start .pre .1) (s .ensures)) (c .place .result) (c .place .ensures),
+        c .place .ensures .placed,
+      ),
     )
 
 pub go-on-spec : {M : Type 1} → statement M

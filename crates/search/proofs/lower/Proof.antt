@@ -13,7 +13,12 @@ returns : tie.Need-returns
 returns c =
     let start = c .before .before .before .before in
     let a = start .args in
-    rw (c .kept .ensures) (lower-miss (a .need .now) (a .minutes .now) (a .earlier .now) (a .later .now) (a .tails .now) (a .jobs) (a .modules) (start .pre) (from-zero (a .need .now) (a .minutes .now) (a .earlier .now) (a .later .now) (a .tails .now) (a .jobs) (a .modules) (a .best) (c .before .if1 .taken)), start .pre .remembered)
+    rw (c .kept .ensures) (
+      lower-miss (a .need .now) (a .minutes .now) (a .earlier .now) (a .later .now) (a .tails .now) (a .jobs)
+          (a .modules) (start .pre) (from-zero (a .need .now) (a .minutes .now) (a .earlier .now) (a .later .now) (a .tails .now) (a .jobs)
+          (a .modules) (a .best) (c .before .if1 .taken)),
+      start .pre .remembered,
+    )
 
 first-part-requires : tie.Need-first-part-requires
 first-part-requires c κs = search needs
@@ -28,7 +33,8 @@ visit-requires : tie.Need-visit-requires
 visit-requires c κs =
     let start = c .before .before .before .before .before .before .before in
     let a = start .args in
-    rw (c .before .before .before .first-part .ensures, c .before .before .none-settled .ensures) (enter (a .need .now) (a .minutes .now) (a .earlier .now) (a .later .now) (a .tails .now) (a .jobs) (a .modules) (start .pre) (c .before .before .before .before .if1 .left))
+    rw (c .before .before .before .first-part .ensures, c .before .before .none-settled .ensures) (enter (a .need .now) (a .minutes .now)
+    (a .earlier .now) (a .later .now) (a .tails .now) (a .jobs) (a .modules) (start .pre) (c .before .before .before .before .if1 .left))
 
 same-length : tie.Need-same-length
 same-length c = search needs
@@ -38,7 +44,8 @@ returns-2 c =
     let start = c .before .before .before .before .before .before .before .before .before .before .before in
     let a = start .args in
     let visit = c .before .before .before .visit in
-    lower-hit (a .need .now) (a .minutes .now) (a .earlier .now) (a .later .now) (a .tails .now) (a .jobs) (a .modules) _ (start .pre) (c .before .before .before .before .before .before .before .before .if1 .left) (visit .ensures .0) (c .if2 .taken) (visit .ensures .1)
+    lower-hit (a .need .now) (a .minutes .now) (a .earlier .now) (a .later .now) (a .tails .now) (a .jobs) (a .modules) _ (start .pre)
+    (c .before .before .before .before .before .before .before .before .if1 .left) (visit .ensures .0) (c .if2 .taken) (visit .ensures .1)
 
 kept-requires-2 : tie.Need-kept-requires-2
 kept-requires-2 c κs = search needs
@@ -52,9 +59,12 @@ returns-3 c =
     let a = start .args in
     let visit = c .before .before .before .before .visit in
     let some = c .before .before .before .before .before .before .before .before .before .if1 .left in
-    let word = ap wordOf (c .before .before .before .before .before .before .before .before .first-part .ensures) ∙ first-word (a .need .now) (a .minutes .now) (a .jobs) (a .modules) in
+    let word = ap wordOf (c .before .before .before .before .before .before .before .before .first-part .ensures) ∙ first-word
+    (a .need .now) (a .minutes .now) (a .jobs) (a .modules) in
     rw (c .kept2 .ensures) (
-      lower-miss (a .need .now) (a .minutes .now) (a .earlier .now) (a .later .now) (a .tails .now) (a .jobs) (a .modules) (start .pre) (none-earlier (a .need .now) (a .minutes .now) (a .earlier .now) (a .later .now) (a .tails .now) (a .jobs) (a .modules) (a .best) some word (visit .ensures .0) (c .before .if2 .left)),
+      lower-miss (a .need .now) (a .minutes .now) (a .earlier .now) (a .later .now) (a .tails .now) (a .jobs) (a .modules) (start .pre)
+          (none-earlier (a .need .now) (a .minutes .now) (a .earlier .now) (a .later .now) (a .tails .now) (a .jobs) (a .modules)
+          (a .best) some word (visit .ensures .0) (c .before .if2 .left)),
       rw (one-more (a .best .end) some) at (visit .ensures .1),
     )
 

@@ -24,8 +24,11 @@ same-length : tie.Need-same-length
 same-length c = search needs
 
 returns : tie.Need-returns
-returns c =
-    (listed-circular (c .before .before .first-listed .ensures) (c .if1 .taken), c .before .before .before .before .before .before .before .before .before .before .clear .ensures)
+returns c = (
+  listed-circular (c .before .before .first-listed .ensures)
+      (c .if1 .taken),
+  c .before .before .before .before .before .before .before .before .before .before .clear .ensures,
+)
 
 lowest-requires : tie.Need-lowest-requires
 lowest-requires c κs =
@@ -36,7 +39,8 @@ lowest-requires c κs =
       chains = c .before .before .before .before .before .before .before .before .before .before .chains .ensures .each;
       laters = c .before .before .before .before .before .before .before .before .later-jobs .ensures;
       best-is = listed-order (c .before .before .before .before .before .first-listed .ensures) (c .before .before .before .if1 .left);
-      remembered = remembered-none _ _ (length (a .memory .now)) _ (c .before .before .before .before .before .before .before .before .before .before .before .before .before .clear .ensures);
+      remembered = remembered-none _ _ (length (a .memory .now)) _
+          (c .before .before .before .before .before .before .before .before .before .before .before .before .before .clear .ensures);
     }
 
 clear-requires-2 : tie.Need-clear-requires-2
@@ -53,7 +57,9 @@ first-order-requires c κs =
         known = first-known (a .need .now) (a .minutes .now) (a .earlier .now) (a .jobs) (a .modules) (start .pre);
         chains = c .before .before .before .before .before .before .before .before .before .before .before .before .before .before .before .before .before .before .before .before .chains .ensures .each;
         laters = c .before .before .before .before .before .before .before .before .before .before .before .before .before .before .before .before .before .before .later-jobs .ensures;
-        remembered = remembered-none _ _ (length (c .before .before .before .before .before .before .before .before .before .lowest .last .1 .1 .1 .1 .1 .1 .1 .1 .0)) _ (c .before .before .before .before .before .clear2 .ensures);
+        remembered = remembered-none _ _ (length
+            (c .before .before .before .before .before .before .before .before .before .lowest .last .1 .1 .1 .1 .1 .1 .1 .1 .0)) _
+            (c .before .before .before .before .before .clear2 .ensures);
       },
     )
 
@@ -61,7 +67,9 @@ clear-requires-3 : tie.Need-clear-requires-3
 clear-requires-3 c κs = search needs
 
 -- the memory's length, up to the last clearing
-memory-length : (c : tie.After-slice-known6) → length (c .before .before .before .before .before .before .first-order .last .1 .1 .1 .1 .1 .1 .1 .1 .0) ≡ length (c .before .before .before .before .before .before .before .before .before .before .before .before .before .before .before .before .before .before .before .before .before .before .before .before .before .before .before .before .before .before .before .before .before .args .memory .now)
+memory-length : (c : tie.After-slice-known6)
+    → length (c .before .before .before .before .before .before .first-order .last .1 .1 .1 .1 .1 .1 .1 .1 .0) ≡ length
+    (c .before .before .before .before .before .before .before .before .before .before .before .before .before .before .before .before .before .before .before .before .before .before .before .before .before .before .before .before .before .before .before .before .before .args .memory .now)
 memory-length c =
     c .before .before .before .before .before .before .first-order .kept .1 .1 .1 .1 .1 .1 .1 .1 .0 ∙ c .before .before .before .before .before .before .before .before .before .before .before .before .clear2 .kept .0 ∙ c .before .before .before .before .before .before .before .before .before .before .before .before .before .before .before .before .lowest .kept .1 .1 .1 .1 .1 .1 .1 .1 .0 ∙ c .before .before .before .before .before .before .before .before .before .before .before .before .before .before .before .before .before .before .before .before .before .before .before .before .before .before .before .before .before .before .clear .kept .0
 

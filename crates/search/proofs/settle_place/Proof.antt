@@ -7,7 +7,8 @@ use borrow.Author.Needs.{needs}
 use Rattle.tables.specs.Tables.{sheetOf}
 use Rattle.placement.specs.Part.{wordOf}
 use Rattle.search.specs.Search.{Remembered}
-use Rattle.search.proofs.Placings.{NoneUpto, upto-none, upto-more, word-length, placed-at, named-at, job-below, place-hit, place-miss}
+use Rattle.search.proofs.Placings.{NoneUpto, upto-none, upto-more, word-length}
+use Rattle.search.proofs.Placings.{placed-at, named-at, job-below, place-hit, place-miss}
 use Rattle.search.proofs.settle_place.Statement.{statement}
 use Rattle.search.proofs.settle_place.Tie as tie
 
@@ -41,7 +42,13 @@ try-place-requires c κs =
     let g = start .pre .0 in
     let h = start .pre .1 .0 in
     let loop = c .before .before .loop in
-    let below : loop .j < a .jobs = omega (arith, c .before .loop-test .taken, c .before .before .before .wide .ensures, job-below h (a .part .placed) (word-length (g .known)) (start .pre .1 .1)) in (
+    let below : loop .j < a .jobs = omega (
+      arith,
+      c .before .loop-test .taken,
+      c .before .before .before .wide .ensures,
+      job-below h
+          (a .part .placed) (word-length (g .known)) (start .pre .1 .1),
+    ) in (
       record { low = g .low; known = g .known; chains = g .chains; laters = g .laters; remembered = loop .inv .1 .1 .0 },
       below,
     )

@@ -62,7 +62,11 @@ comes-first-requires : tie.Need-comes-first-requires
 comes-first-requires c κs = search needs
 
 returns : tie.Need-returns
-returns c = λ e. inl (sym (c .before .before .before .before .before .before .before .before .before .before .test32 .ensures) ∙ c .before .before .before .before .before .before .before .before .before .if1 .taken, c .comes-first .ensures e)
+returns c = λ e. inl (
+  sym
+      (c .before .before .before .before .before .before .before .before .before .before .test32 .ensures) ∙ c .before .before .before .before .before .before .before .before .before .if1 .taken,
+  c .comes-first .ensures e,
+)
 
 test32-requires-2 : tie.Need-test32-requires-2
 test32-requires-2 c κs = search needs
