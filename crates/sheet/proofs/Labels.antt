@@ -109,3 +109,7 @@ module _ (s : List ℕ) (job : ℕ) where
     pub place-shown : Shown (p .offset) (p .length)
     unfolding labelPlace
     place-shown = rw e shown
+
+  -- the bytes of the sheet at the label's place are the label
+  pub label-at-place : take (labelPlace s job .length) (drop (labelPlace s job .offset) s) ≡ labelOf s job
+  label-at-place = place-shown (labelPlace s job) refl .part
