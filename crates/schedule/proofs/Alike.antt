@@ -16,7 +16,7 @@ use Rattle.schedule.specs.Plan.{Sheet, Plan, finish, planEnd, Narrow, La
 use Rattle.schedule.specs.ListPlan.{PartPlan, noJobs, ready, Follows, startOf, partOf, MayStart}
 use Rattle.schedule.proofs.Starts.{Ready, ready-says, start-may}
 use Rattle.schedule.proofs.Timed.{runs, Timed}
-use Rattle.schedule.proofs.Swept.{CannotBeat}
+use Rattle.schedule.proofs.Places.{CannotBeat}
 use Rattle.schedule.proofs.Settled.{StartsNext, settled-next, Completion, by-plans}
 use Rattle.schedule.proofs.Exchange.{exchanged, start-one, start-two, start-other, exchange-room}
 

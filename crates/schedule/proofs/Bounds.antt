@@ -15,7 +15,7 @@ use Rattle.schedule.proofs.Sound.{Sound, part-sound, place-all-sound, C
 use Rattle.schedule.proofs.Earliest.{valid-timed}
 use Rattle.schedule.proofs.Along.{place-all-keeps}
 use Rattle.schedule.proofs.Branch.{next-first}
-use Rattle.schedule.proofs.Swept.{CannotBeat}
+use Rattle.schedule.proofs.Places.{CannotBeat}
 use Rattle.schedule.proofs.Cuts.{NoneBefore, by-completions}
 use Rattle.schedule.proofs.Weights.{Holds, GoesOn, weights-bound}
 use Rattle.schedule.proofs.Modulewise.{Lasts, GoesOnWith, modules-bound, by-profile}

@@ -20,7 +20,7 @@ use Rattle.schedule.proofs.Dominance.{Ahead, nextStart, ahead-ends}
 use Rattle.schedule.proofs.Area.{work, area-bound}
 use Rattle.schedule.proofs.Chains.{chain, chain-bound}
 use Rattle.schedule.proofs.Prefixes.{order-split, order-join, end-split, part-count, next-ready}
-use Rattle.schedule.proofs.Swept.{CannotBeat}
+use Rattle.schedule.proofs.Places.{CannotBeat}
 
 -- which jobs can follow depends on the jobs of the sheet alone
 pub follows-same : (S : Sheet) (d e : ℕ → Bool) (o : List ℕ) → ((i : ℕ) → i < S .jobs → d i ≡ e i) → Follows S d o → Follows S e o

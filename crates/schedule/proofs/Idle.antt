@@ -18,7 +18,7 @@ use Rattle.schedule.proofs.Starts.{Ready, ready-says, start-may}
 use Rattle.schedule.proofs.Sound.{part-sound}
 use Rattle.schedule.proofs.Occupied.{occupied-falls, room-sum}
 use Rattle.schedule.proofs.Timed.{runs, load, Timed}
-use Rattle.schedule.proofs.Swept.{CannotBeat}
+use Rattle.schedule.proofs.Places.{CannotBeat}
 use Rattle.schedule.proofs.Settled.{StartsNext, settled-next, Completion, by-plans}
 
 module _ (S : Sheet) (w : Lasting S) (n : Narrow S) (v : List ℕ) (f : Follows S noJobs v) (i j : ℕ)

@@ -13,7 +13,6 @@ pub mod Area
 pub mod Chains
 pub mod Prefixes
 pub mod Places
-pub mod Swept
 pub mod Cuts
 pub mod Branch
 pub mod Settled

@@ -21,7 +21,7 @@ use Rattle.schedule.proofs.Earliest.{valid-timed}
 use Rattle.schedule.proofs.Along.{place-all-append, place-all-keeps, next-start-kept}
 use Rattle.schedule.proofs.Prefixes.{order-split, order-join, end-split, part-count, part-more, follows-more}
 use Rattle.schedule.proofs.Branch.{next-first}
-use Rattle.schedule.proofs.Swept.{CannotBeat}
+use Rattle.schedule.proofs.Places.{CannotBeat}
 
 -- A plan that has the jobs of v no earlier than v's part-plan, and the others behind them, ends no earlier than v's completions.
 pub settled : (S : Sheet) → Lasting S → (e : ℕ) (v : List ℕ) → Follows S noJobs v → CannotBeat S e v

@@ -15,8 +15,7 @@ use Rattle.schedule.specs.TieRule as tie
 use Rattle.schedule.specs.TieRule.{endOf, DictionaryLe}
 use Rattle.schedule.proofs.Starts.{ready-says}
 use Rattle.schedule.proofs.Prefixes.{next-ready}
-use Rattle.schedule.proofs.Places.{Begins, Before, Upto, before-upto}
-use Rattle.schedule.proofs.Swept.{CannotBeat}
+use Rattle.schedule.proofs.Places.{Begins, Before, Upto, before-upto, CannotBeat}
 use Rattle.tables.specs.Tables.{sheetOf}
 use Rattle.placement.specs.declared.Part.{Part}
 use Rattle.placement.specs.Part.{wordOf, Placed, firstPart}

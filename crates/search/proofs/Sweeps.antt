@@ -66,10 +66,10 @@ module _ (need minutes earlier : List ℕ) (jobs modules : ℕ) (part : Part) (k
   abbrev P : PartPlan
   P = partOf S w
 
-  abbrev Swept : ℕ → ℕ → Choice → Type 0
-  Swept = Sweep need minutes earlier jobs modules part target at
+  abbrev Now : ℕ → ℕ → Choice → Type 0
+  Now = Sweep need minutes earlier jobs modules part target at
 
-  pub sweep-first : (c : Choice) → ChoiceOf at (part .unplaced) jobs c → Swept (part .unplaced) 0 c
+  pub sweep-first : (c : Choice) → ChoiceOf at (part .unplaced) jobs c → Now (part .unplaced) 0 c
   sweep-first c h = record {
     choice = h;
     before = λ x m b. clash (bit 0 x) b (bit-none x);
@@ -81,8 +81,8 @@ module _ (need minutes earlier : List ℕ) (jobs modules : ℕ) (part : Part) (k
   pub chosen-in : (left : ℕ) (c : Choice) → ChoiceOf at left jobs c → c .start < 65535 → suc (ones (withoutBit left (c .job))) ≡ ones left
   chosen-in left c h l = ones-without left (c .job) (h .some l .1 .0)
 
-  pub sweep-next : (left tried : ℕ) (c d : Choice) → Swept left tried c → c .start < 65535 → Fails S target (w ++ (c .job ∷ []))
-      → ChoiceOf at (withoutBit left (c .job)) jobs d → Swept (withoutBit left (c .job)) (withBit tried (c .job)) d
+  pub sweep-next : (left tried : ℕ) (c d : Choice) → Now left tried c → c .start < 65535 → Fails S target (w ++ (c .job ∷ []))
+      → ChoiceOf at (withoutBit left (c .job)) jobs d → Now (withoutBit left (c .job)) (withBit tried (c .job)) d
   sweep-next left tried c d s l f h = record {
     choice = h;
     before = λ x m b. earlier-ones x m b (eqb x
@@ -121,7 +121,7 @@ module _ (need minutes earlier : List ℕ) (jobs modules : ℕ) (part : Part) (k
           and-true true y = y
           and-true false y = refl
 
-  pub sweep-all : (left tried : ℕ) (c : Choice) → Swept left tried c → c .start ≡ 65535
+  pub sweep-all : (left tried : ℕ) (c : Choice) → Now left tried c → c .start ≡ 65535
       → (j : ℕ) → j < jobs → ready S (P .placed) j ≡ true → Fails S target (w ++ (j ∷ []))
   sweep-all left tried c s e j l r = go (true-or-false (bit left j))
     where

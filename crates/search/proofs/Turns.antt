@@ -17,8 +17,7 @@ use Rattle.schedule.specs.ListPlan.{Order, PartPlan, ready}
 use Rattle.schedule.specs.TieRule.{endOf}
 use Rattle.schedule.proofs.Starts.{ready-says}
 use Rattle.schedule.proofs.Area.{work, todo}
-use Rattle.schedule.proofs.Places.{Begins}
-use Rattle.schedule.proofs.Swept.{CannotBeat}
+use Rattle.schedule.proofs.Places.{Begins, CannotBeat}
 use Rattle.schedule.proofs.Cuts.{NoneBefore, area-cut, chain-cut, children-cut}
 use Rattle.tables.specs.Tables.{sheetOf}
 use Rattle.placement.specs.declared.Part.{Part}

@@ -14,7 +14,7 @@ use Rattle.schedule.specs.Plan.{Sheet}
 use Rattle.schedule.specs.ListPlan.{Order}
 use Rattle.schedule.specs.TieRule as tie
 use Rattle.schedule.specs.TieRule.{endOf}
-use Rattle.schedule.proofs.Swept.{CannotBeat}
+use Rattle.schedule.proofs.Places.{CannotBeat}
 use Rattle.tables.specs.Tables.{sheetOf}
 use Rattle.placement.specs.Part.{wordOf, firstPart}
 use Rattle.search.specs.declared.Found.{Found}

@@ -14,8 +14,7 @@ use Rattle.schedule.specs.ListPlan.{Order, PartPlan, noJobs, ready, Follows, st
 use Rattle.schedule.specs.TieRule as tie
 use Rattle.schedule.specs.TieRule.{endOf}
 use Rattle.schedule.proofs.Chains.{chain}
-use Rattle.schedule.proofs.Places.{Begins, Before}
-use Rattle.schedule.proofs.Swept.{CannotBeat}
+use Rattle.schedule.proofs.Places.{Begins, Before, CannotBeat}
 use Rattle.tables.specs.Tables.{sheetOf, Fit}
 use Rattle.placement.specs.declared.Part.{Part}
 use Rattle.placement.specs.Profile.{heldAfter}
