@@ -1,7 +1,8 @@
 //! Families of job lists for the benchmark, from easy to hopeless.
 use crate::lists::List;
 use crate::random::Random;
-use crate::sheet::{mark_earlier, Job};
+use crate::raw_sheet::mark_earlier;
+use crate::Job;
 use std::ops::RangeInclusive;
 
 type Make = Box<dyn Fn(&mut Random, usize) -> Vec<Job>>;

@@ -1,8 +1,49 @@
-//! The exported calls as C sees them: a slice crosses as its pointer and its length. Each gives 0 or the refusal's number.
-use crate::Desk;
+//! The exported calls as C sees them, `include/depot.h`: a slice crosses as its pointer and its length.
+use crate::{Desk, Job, MOST_JOBS};
+
+/// What reading answers: refusal 0 with the jobs, n and N, or the number of the refusal with all else 0.
+#[repr(C)]
+#[derive(Clone, Copy, Debug, PartialEq, Eq)]
+pub struct Reading {
+    pub refusal: u32,
+    pub jobs: [Job; MOST_JOBS],
+    pub count: usize,
+    pub modules: u16,
+}
+
+/// Where a label lies: refusal 0 with its offset in the sheet and its length, or the number of the refusal with all else 0.
+#[repr(C)]
+#[derive(Clone, Copy, Debug, PartialEq, Eq)]
+pub struct LabelPlace {
+    pub refusal: u32,
+    pub offset: usize,
+    pub length: usize,
+}
+
+/// What writing answers: refusal 0 with the sheet's length, or the number of the refusal with 0.
+#[repr(C)]
+#[derive(Clone, Copy, Debug, PartialEq, Eq)]
+pub struct Written {
+    pub refusal: u32,
+    pub length: usize,
+}
 
 extern "C" {
     pub fn depot_plan(sheet: *const u8, sheet_len: usize, card: *mut u8, card_len: usize, work: *mut u8, work_len: usize) -> u32;
+
+    pub fn depot_read(sheet: *const u8, sheet_len: usize) -> Reading;
+
+    pub fn depot_label(sheet: *const u8, sheet_len: usize, job: usize) -> LabelPlace;
+
+    pub fn depot_write(
+        jobs: *const Job,
+        jobs_len: usize,
+        labels: *const u8,
+        labels_len: usize,
+        modules: u16,
+        sheet: *mut u8,
+        sheet_len: usize,
+    ) -> Written;
 
     pub fn depot_desk_open(
         desk: *mut Desk,

@@ -1,25 +1,30 @@
 //! The depot's planner and share desk for Rust programs: a safe wrapper of the proved static library.
 //!
-//! [`plan`], [`Desk`] and [`Refusal`] are the product. The other modules test it and measure it.
+//! [`plan`], [`read`], [`label`], [`write()`], [`Desk`] and [`Refusal`] are the product. The other modules test it and measure it.
 
 mod desk;
 pub mod ffi;
 mod refusal;
+mod sheet;
 
 pub mod families;
 pub mod guarded;
 pub mod lists;
 pub mod plain_search;
 pub mod random;
+pub mod raw_sheet;
 pub mod reference;
-pub mod sheet;
 pub mod stack;
 
 pub use desk::Desk;
 pub use refusal::Refusal;
+pub use sheet::{label, read, write, Job, Reading};
 
 /// The most jobs of a sheet.
 pub const MOST_JOBS: usize = 20;
+
+/// How many bytes the longest sheet has.
+pub const LONGEST_SHEET: usize = 448;
 
 /// How many bytes the card of so many jobs has.
 pub const fn card_length(jobs: usize) -> usize {

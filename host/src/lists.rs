@@ -1,5 +1,6 @@
 //! Job lists of the benchmark: a name, N and the jobs.
-use crate::sheet::{Job, Sheet};
+use crate::raw_sheet::Sheet;
+use crate::Job;
 
 #[derive(Clone, Debug)]
 pub struct List {

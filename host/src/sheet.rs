@@ -1,65 +1,52 @@
-//! Job sheets, written byte by byte; nothing is checked, so that wrong ones can be made too.
-use crate::random::Random;
+//! Job sheets: reading, labels, writing.
+use crate::{ffi, Refusal};
 
-/// A job in the widths of its record.
-#[derive(Clone, Copy, Debug, Default)]
+/// A job, in the widths of its record.
+#[repr(C)]
+#[derive(Clone, Copy, Debug, Default, PartialEq, Eq)]
 pub struct Job {
-    pub label_length: u8,
+    /// How many bytes its label has, 1 to 12.
+    pub label_len: u8,
+    /// The modules that it needs, 1 to 255.
     pub modules: u8,
+    /// The minutes that it takes, 1 to 1440.
     pub minutes: u16,
+    /// The jobs that must have ended first, bit i for job i.
     pub earlier: u32,
+    /// The minute of its departure, counted from the plan's start, 0 to 2880.
     pub departure: u16,
 }
 
-impl Job {
-    fn record(&self) -> [u8; 10] {
-        let mut bytes = [0; 10];
-        bytes[0] = self.label_length;
-        bytes[1] = self.modules;
-        bytes[2..4].copy_from_slice(&self.minutes.to_le_bytes());
-        bytes[4..8].copy_from_slice(&self.earlier.to_le_bytes());
-        bytes[8..10].copy_from_slice(&self.departure.to_le_bytes());
-        bytes
-    }
-}
-
-/// Marks earlier jobs along a random order, each with this chance of a hundred, so that no job waits for itself.
-pub fn mark_earlier(random: &mut Random, jobs: &mut [Job], percent: u32) {
-    let mut rank: Vec<usize> = (0..jobs.len()).collect();
-    random.shuffle(&mut rank);
-    for (j, job) in jobs.iter_mut().enumerate() {
-        for i in 0..rank.len() {
-            if rank[i] < rank[j] && random.percent(percent) {
-                job.earlier |= 1 << i;
-            }
-        }
-    }
-}
-
-/// A sheet's parts: the labels run together, the jobs, and the trailer's three figures.
-#[derive(Clone, Debug)]
-pub struct Sheet {
-    pub labels: Vec<u8>,
+/// What a sheet says: its jobs in order, and the modules in the cabinet.
+#[derive(Clone, Debug, PartialEq, Eq)]
+pub struct Reading {
     pub jobs: Vec<Job>,
-    pub offset: u32,
-    pub count: u16,
     pub modules: u16,
 }
 
-impl Sheet {
-    /// The parts of a sheet of these jobs, with a label of one letter for each.
-    pub fn of(modules: u16, mut jobs: Vec<Job>) -> Sheet {
-        let labels: Vec<u8> = (b'A'..).take(jobs.len()).collect();
-        jobs.iter_mut().for_each(|job| job.label_length = 1);
-        Sheet { offset: labels.len() as u32, count: jobs.len() as u16, labels, jobs, modules }
-    }
+/// Reads a job sheet.
+pub fn read(sheet: &[u8]) -> Result<Reading, Refusal> {
+    // SAFETY: a live slice; the library keeps no pointer.
+    let answer = unsafe { ffi::depot_read(sheet.as_ptr(), sheet.len()) };
+    Refusal::or_done(answer.refusal)?;
+    Ok(Reading { jobs: answer.jobs[..answer.count].to_vec(), modules: answer.modules })
+}
 
-    pub fn bytes(&self) -> Vec<u8> {
-        let mut bytes = self.labels.clone();
-        self.jobs.iter().for_each(|job| bytes.extend(job.record()));
-        bytes.extend(self.offset.to_le_bytes());
-        bytes.extend(self.count.to_le_bytes());
-        bytes.extend(self.modules.to_le_bytes());
-        bytes
-    }
+/// The label of a job: that very part of the sheet.
+pub fn label(sheet: &[u8], job: usize) -> Result<&[u8], Refusal> {
+    // SAFETY: a live slice; the library keeps no pointer.
+    let place = unsafe { ffi::depot_label(sheet.as_ptr(), sheet.len(), job) };
+    Refusal::or_done(place.refusal)?;
+    Ok(&sheet[place.offset..place.offset + place.length])
+}
+
+/// Writes the sheet of these jobs, of their labels run together and of a cabinet of so many modules, and gives its length.
+///
+/// The sheet is written to the front of `sheet`; the bytes behind it stay. A refused call writes no byte.
+pub fn write(jobs: &[Job], labels: &[u8], modules: u16, sheet: &mut [u8]) -> Result<usize, Refusal> {
+    // SAFETY: three live slices, of which the one that is written overlaps no other; the library keeps no pointer.
+    let answer = unsafe {
+        ffi::depot_write(jobs.as_ptr(), jobs.len(), labels.as_ptr(), labels.len(), modules, sheet.as_mut_ptr(), sheet.len())
+    };
+    Refusal::or_done(answer.refusal).map(|()| answer.length)
 }

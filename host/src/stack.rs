@@ -1,5 +1,7 @@
-//! How much stack a call needs.
+//! How much stack the calls need.
 use crate::guarded::{Against, Guarded};
+use crate::raw_sheet::Sheet;
+use crate::{card_length, label, plan, read, write, Desk, Job, Refusal, LONGEST_SHEET, MOST_JOBS};
 use std::ffi::{c_int, c_void};
 use std::ptr;
 
@@ -47,4 +49,53 @@ pub fn needed(call: &mut dyn FnMut()) -> usize {
     }
     let untouched = stack.left().iter().take_while(|byte| **byte == PAINT).count();
     task.from - (lowest as usize + untouched)
+}
+
+/// Every list plan ends the first five at minute 7, and 3 + 3 beside 2 + 2 + 2 ends at minute 6; the others come one after another.
+fn ends_earlier(j: usize) -> Job {
+    match [3, 3, 2, 2, 2].get(j) {
+        Some(minutes) => Job { modules: 1, minutes: *minutes, ..Job::default() },
+        None => Job { modules: 1, minutes: 1, earlier: (1 << j) - 1, ..Job::default() },
+    }
+}
+
+/// The list plans begin with the longest, and the tie rule with job 0.
+fn longer_and_longer(j: usize) -> Job {
+    Job { modules: 2, minutes: j as u16 + 1, ..Job::default() }
+}
+
+/// What each exported call needs, by its name. Planning goes as deep as there are jobs, once for an earlier end and once for a lower job
+/// in an order's first place: the larger of two lists.
+pub fn of_every_call() -> Vec<(&'static str, usize)> {
+    let lists: [Vec<Job>; 2] = [(0..MOST_JOBS).map(ends_earlier).collect(), (0..MOST_JOBS).map(longer_and_longer).collect()];
+    let mut work = vec![0; 1 << 20];
+    let mut card = [0; card_length(MOST_JOBS)];
+    let planning = lists.map(|jobs| {
+        let sheet = Sheet::of(2, jobs).bytes();
+        done(|| plan(&sheet, &mut card, &mut work))
+    });
+    let long = Job { label_len: 12, modules: 64, minutes: 1440, ..Job::default() };
+    let labels = [b'~'; 12 * MOST_JOBS];
+    let mut sheet = [0; LONGEST_SHEET];
+    let writing = done(|| write(&[long; MOST_JOBS], &labels, 64, &mut sheet));
+    let mut desk = Desk::default();
+    let opening = done(|| Desk::open(4096, &[500; 8], &[4096; 8]).map(|opened| desk = opened));
+    vec![
+        ("depot_plan", planning[0].max(planning[1])),
+        ("depot_read", done(|| read(&sheet))),
+        ("depot_label", done(|| label(&sheet, MOST_JOBS - 1))),
+        ("depot_write", writing),
+        ("depot_desk_open", opening),
+        ("depot_desk_claim", done(|| desk.claim(7, 500))),
+        ("depot_desk_hand_back", done(|| desk.hand_back(7, 500))),
+        ("depot_desk_look", done(|| desk.look(7))),
+    ]
+}
+
+/// The stack of a call that is answered.
+fn done<T>(mut call: impl FnMut() -> Result<T, Refusal>) -> usize {
+    let mut answered = false;
+    let bytes = needed(&mut || answered = call().is_ok());
+    assert!(answered);
+    bytes
 }

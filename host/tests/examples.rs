@@ -1,6 +1,6 @@
 //! Document 01's examples E1 to E11, and the edges of a sheet, through the exported calls.
-use depot_host::sheet::{Job, Sheet};
-use depot_host::{card_length, plan, Desk, Refusal};
+use depot_host::raw_sheet::Sheet;
+use depot_host::{card_length, plan, Desk, Job, Refusal};
 
 /// A job of so many modules and minutes that waits for the jobs of a set.
 fn job(modules: u8, minutes: u16, earlier: u32) -> Job {
@@ -72,7 +72,7 @@ fn edges() {
 /// The longest sheet, of 448 bytes, plans; with a byte more it is too long.
 #[test]
 fn longest_sheet() {
-    let long_label = Job { label_length: 12, ..job(1, 1, 0) };
+    let long_label = Job { label_len: 12, ..job(1, 1, 0) };
     let mut sheet = Sheet { labels: vec![b'~'; 240], jobs: vec![long_label; 20], offset: 240, count: 20, modules: 64 };
     let mut card = [0; card_length(20)];
     assert_eq!(sheet.bytes().len(), 448);

@@ -3,7 +3,7 @@ mod sheets;
 
 use depot_host::guarded::{Against, Guarded};
 use depot_host::random::Random;
-use depot_host::{card_length, ffi, reference, Refusal, MOST_JOBS};
+use depot_host::{card_length, reference, Refusal, MOST_JOBS};
 
 const SEED: u64 = 20_160;
 const GOOD: usize = 14_000;
@@ -157,12 +157,4 @@ fn bytes_of_no_sheet_are_refused() {
         let room = comparison.enough(MOST_JOBS);
         comparison.compare(&bytes, room);
     }
-}
-
-/// An empty buffer of C's may be any pointer at all.
-#[test]
-fn empty_buffers_are_not_looked_at() {
-    let nowhere = std::ptr::null_mut();
-    // SAFETY: buffers of no bytes.
-    assert_eq!(unsafe { ffi::depot_plan(nowhere, 0, nowhere, 0, nowhere, 0) }, 1);
 }

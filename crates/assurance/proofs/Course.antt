@@ -12,7 +12,8 @@ use Rattle.counting.proofs.Tests.{true-or-false, clash, and-left, and-right, an
 use Rattle.counting.proofs.Sums.{sum-le, sum-same, sum-add, sum-single}
 use Rattle.schedule.specs.Plan.{Sheet, Plan, Valid, finish, Lasting}
 use Rattle.schedule.specs.ListPlan.{placing}
-use Rattle.schedule.proofs.Earliest.{runs, load-le}
+use Rattle.schedule.proofs.Timed.{runs}
+use Rattle.schedule.proofs.Earliest.{load-le}
 use Rattle.assurance.specs.Following.{begin, end}
 use Rattle.assurance.proofs.Turns.{due, NotBefore}
 

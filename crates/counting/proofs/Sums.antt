@@ -1,12 +1,12 @@
 -- Laws of sums over the numbers below n.
 use mathlib.Core.Path.{_≡_, refl, sym, ap, ap₂, _∙_}
-use mathlib.Core.Logic.{_⊎_, inl, inr}
+use mathlib.Core.Logic.{_⊎_, inl, inr, _≢_}
 use mathlib.Core.Bool.{Bool, true, false, _||_}
 use Prim.Native.Nat.{ℕ, zero, suc, _+_, _*_, _≤_, _<_}
 use native.Mathlib.Omega.{arith}
 use native.Mathlib.Nat.{le-refl, not-suc-le-zero}
 use lib.Dec.{eqb}
-use borrow.Author.Tests.{eqb-true, eq-eqb, ne-eqb}
+use borrow.Author.Tests.{eqb-true, eqb-false, eq-eqb, ne-eqb}
 use Rattle.counting.specs.Counting.{only, sum}
 use Rattle.counting.proofs.Tests.{below-suc, last-or-below}
 
@@ -127,3 +127,31 @@ sum-put-in (suc n) at x f g l below here above =
         let last : g (suc n) ≡ x = rw e at here in
         omega arith
     go (inr k) h = omega (arith, h (omega arith), above n (omega arith) (le-refl _))
+
+-- two places that are compared together
+pub sum-two-le : (n : ℕ) (f g : ℕ → ℕ) (i j : ℕ) → i < n → j < n → i ≢ j → f i + f j ≤ g i + g j
+    → ((k : ℕ) → k < n → k ≢ i → k ≢ j → f k ≤ g k) → sum n f ≤ sum n g
+sum-two-le n f g i j l m d two h =
+    let each = sum-le n (λ k. f k + (only (eqb k i) (g k) + only (eqb k j) (g k))) (λ k. g k + (only (eqb k i) (f k) + only (eqb k j)
+    (f k)))
+    (λ k x. one k x (eqb k i) (eqb k j) refl refl) in
+    omega (
+      arith,
+      each,
+      two,
+      sum-add n f (λ k. only (eqb k i) (g k) + only (eqb k j) (g k)),
+      sum-add n (λ k. only (eqb k i) (g k)) (λ k. only (eqb k j) (g k)),
+      sum-single n g i l,
+      sum-single n g j m,
+      sum-add n g (λ k. only (eqb k i) (f k) + only (eqb k j) (f k)),
+      sum-add n (λ k. only (eqb k i) (f k)) (λ k. only (eqb k j) (f k)),
+      sum-single n f i l,
+      sum-single n f j m,
+    )
+  where
+    one : (k : ℕ) → k < n → (a b : Bool) → eqb k i ≡ a → eqb k j ≡ b
+        → f k + (only (eqb k i) (g k) + only (eqb k j) (g k)) ≤ g k + (only (eqb k i) (f k) + only (eqb k j) (f k))
+    one k x true true p q = absurd (d (sym (eqb-true k i p) ∙ eqb-true k j q))
+    one k x true false p q = rw (p, q) (omega arith)
+    one k x false true p q = rw (p, q) (omega arith)
+    one k x false false p q = rw (p, q) (omega (arith, h k x (eqb-false k i p) (eqb-false k j q)))

@@ -13,13 +13,21 @@ use Rattle.checking.specs.Checking.{firstFailing}
 use Rattle.schedule.specs.Plan.{overWide}
 use Rattle.schedule.specs.ListPlan.{ready, firstMinute, startOf, placeAll}
 use Rattle.schedule.specs.TieRule.{ordersAfter, earliestOf, answerOf}
+use Rattle.schedule.specs.Rows.{sameList}
 use Rattle.schedule.proofs.RowLaws as plans
+use Rattle.bits.specs.Bits.{bit, setOf}
+use Rattle.card.specs.Card as card
+use Rattle.sheet_format.specs.Format.{u16At, u32At, recordAt, recordBytes, trailerBytes, sheetBytes}
+use Rattle.sheet_format.specs.Format.{places as sheet-places}
+use Rattle.sheet_format.specs.Checks.{outside, faulty}
+use Rattle.sheet.specs.Read.{reading}
+use Rattle.planner.specs.Planning.{noOrder, planRefusal, bestCard, cardAfter}
 use Rattle.desk.specs.declared.Desk.{Desk}
 use Rattle.desk.specs.Checks.{wrongLengths, wrongFigures, sharesExceed, deskOk, notOfDesk}
 use Rattle.desk.specs.Calls.{Call, openRefusal, opened, claimRefusal, claimed, handBackRefusal, handedBack, lookRefusal, looked}
 use Rattle.desk.specs.Calls.{refusalOf, deskAfter}
 use Rattle.desk.specs.Rows.{figureOf}
-use Rattle.examples.specs.Rows.{Reply, Row, plan, desk, Answered, answered, Right, holds, noRow}
+use Rattle.examples.specs.Rows.{Reply, Row, plan, call, desk, Answered, answered, Right, holds, noRow}
 use Rattle.examples.specs.Table.{table}
 
 -- ---- a row that passes the test is right
@@ -38,6 +46,10 @@ calls-answered d (x ∷ l) e =
 
 pub holds-right : (r : Row) → holds r ≡ true → Right r
 holds-right (plan r) e = plans.holds-right r e
+holds-right (call s card n after) e =
+    let number = eqb (planRefusal s (length card)) n in
+    let bytes = sameList (cardAfter s card) after in
+    (eqb-true _ _ (and-left number bytes e), plans.list-same (cardAfter s card) after (and-right number bytes e))
 holds-right (desk limit assured ceilings n l) e =
     let o = opened limit assured ceilings in
     let number = eqb (o .refusal) n in
@@ -48,6 +60,8 @@ holds-right (desk limit assured ceilings n l) e =
 
 table-holds : every (length table) (λ k. holds (getD table k noRow)) ≡ true
 unfolding table sum largest every any joined overWide ready firstMinute startOf placeAll ordersAfter earliestOf answerOf
+    bit setOf u16At u32At recordAt recordBytes trailerBytes sheetBytes sheet-places outside faulty reading
+    card.rowBytes card.trailerBytes card.cardBytes noOrder planRefusal bestCard cardAfter
     firstFailing wrongLengths wrongFigures sharesExceed deskOk notOfDesk openRefusal opened claimRefusal claimed handBackRefusal handedBack
     lookRefusal looked
 table-holds = refl

@@ -1,10 +1,12 @@
--- The table's rows, of plans and of the desk: what a row says, and the same as a test.
+-- The table's rows, of plans, of the planning call and of the desk: what a row says, and the same as a test.
 use mathlib.Core.Path.{_≡_}
 use mathlib.Core.Bool.{Bool, true, _&&_}
 use mathlib.Core.List.{List, [], _∷_}
 use Prim.Native.Nat.{ℕ}
 use lib.Dec.{eqb}
+use lib.ListN.{length}
 use Rattle.schedule.specs.Rows as plans
+use Rattle.planner.specs.Planning.{planRefusal, cardAfter}
 use Rattle.desk.specs.declared.Desk.{Desk}
 use Rattle.desk.specs.Calls.{Call, opened, refusalOf, deskAfter}
 use Rattle.desk.specs.Rows.{figureOf}
@@ -25,10 +27,12 @@ gives k = record { number = 0; figure = k }
 abbrev pub refused : ℕ → Reply
 refused n = record { number = n; figure = 0 }
 
--- `plan`: a row of sheets and plans. `desk`: opening with this limit, these assured shares and these ceilings gives this number,
+-- `plan`: a row of sheets and plans. `call`: planning with this sheet's bytes and this lent card gives this number and leaves these
+-- bytes in the card. `desk`: opening with this limit, these assured shares and these ceilings gives this number,
 -- and then the calls, one after another, answer so.
 pub data Row : Type 0 where
   plan : plans.Row → Row
+  call : List ℕ → List ℕ → ℕ → List ℕ → Row
   desk : ℕ → List ℕ → List ℕ → ℕ → List (Call × Reply) → Row
 
 -- ---- what a row says
@@ -41,6 +45,7 @@ Answered d (x ∷ l) =
 
 abbrev pub Right : Row → Type 0
 Right (plan r) = plans.Right r
+Right (call s card n after) = (planRefusal s (length card) ≡ n) × (cardAfter s card ≡ after)
 Right (desk limit assured ceilings n l) =
     (opened limit assured ceilings .refusal ≡ n) × Answered (opened limit assured ceilings .desk) l
 
@@ -52,6 +57,7 @@ answered d (x ∷ l) = eqb (refusalOf d (x .0)) (x .1 .number) && (eqb (figureOf
 
 abbrev pub holds : Row → Bool
 holds (plan r) = plans.holds r
+holds (call s card n after) = eqb (planRefusal s (length card)) n && plans.sameList (cardAfter s card) after
 holds (desk limit assured ceilings n l) =
     eqb (opened limit assured ceilings .refusal) n && answered (opened limit assured ceilings .desk) l
 

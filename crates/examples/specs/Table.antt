@@ -1,10 +1,14 @@
 -- Document 01, 'Examples from the yard': a row an example, with what the document says of it.
 use mathlib.Core.List.{List, [], _∷_, _++_}
+use Prim.Native.Nat.{ℕ}
+use lib.ListN.{length, take, replicate}
 use Rattle.schedule.specs.Plan.{Sheet}
 use Rattle.schedule.specs.TieRule.{wide, circular, planned}
 use Rattle.schedule.specs.Rows.{job, sheet, slot, answers, places}
+use Rattle.sheet_format.specs.declared.Job.{Job}
+use Rattle.sheet_format.specs.Format.{jobsIn, sheetBytes}
 use Rattle.desk.specs.Calls.{Call, claim, handBack, look}
-use Rattle.examples.specs.Rows.{Reply, done, gives, refused, Row, plan, desk}
+use Rattle.examples.specs.Rows.{Reply, done, gives, refused, Row, plan, call, desk}
 
 -- E1's sheet, and E4's: "Two jobs each before the other"
 abbrev pub e1 : Sheet
@@ -12,6 +16,15 @@ e1 = sheet (job 1 10 [] ∷ job 2 20 [] ∷ job 1 10 [] ∷ []) 2
 
 abbrev pub e4 : Sheet
 e4 = sheet (job 1 1 (1 ∷ []) ∷ job 1 1 (0 ∷ []) ∷ []) 1
+
+-- a sheet's bytes: jobs with the labels A, B, C, D, on N modules
+abbrev pub sheetWith : List Job → ℕ → List ℕ
+sheetWith jobs N = sheetBytes (jobsIn jobs) (length jobs) (take (length jobs) (65 ∷ 66 ∷ 67 ∷ 68 ∷ [])) N
+
+-- a job of a sheet: modules, minutes, the set of its earlier jobs, departure
+abbrev pub entry : ℕ → ℕ → ℕ → ℕ → Job
+entry modules minutes earlier departure =
+    record { «label_len» = 1; modules = modules; minutes = minutes; earlier = earlier; departure = departure }
 
 -- E9's calls: "looks give 7 and 6; controller 0 claims 7, granted; 1 more, 17; controller 1 claims 3, granted; 1 more, 17"
 abbrev pub e9 : List (Call × Reply)
@@ -43,6 +56,35 @@ table =
     ∷ plan (answers (sheet (job 1 10 [] ∷ job 1 10 [] ∷ job 1 20 [] ∷ []) 2) (planned (0 ∷ 2 ∷ 1 ∷ []) 20))
     -- E8: "end 12, order 0, 2, 1, 3"
     ∷ plan (answers (sheet (job 1 1 [] ∷ job 1 10 [] ∷ job 2 1 (0 ∷ []) ∷ job 1 10 (2 ∷ []) ∷ []) 2) (planned (0 ∷ 2 ∷ 1 ∷ 3 ∷ []) 12))
+    -- the same of the planning call: E1's card of 47 bytes, with what stands behind it
+    ∷ call (sheetWith (entry 1 10 0 30 ∷ entry 2 20 0 25 ∷ entry 1 10 0 30 ∷ []) 2) (replicate 48 7) 0
+    (0 ∷ 0 ∷ 10 ∷ 0 ∷ 1 ∷ 0 ∷ 0 ∷ 0 ∷ 0 ∷ 0 ∷ 0 ∷ 0
+    ∷ 10 ∷ 0 ∷ 30 ∷ 0 ∷ 3 ∷ 0 ∷ 0 ∷ 0 ∷ 0 ∷ 0 ∷ 0 ∷ 0
+    ∷ 0 ∷ 0 ∷ 10 ∷ 0 ∷ 2 ∷ 0 ∷ 0 ∷ 0 ∷ 0 ∷ 0 ∷ 0 ∷ 0
+    ∷ 0 ∷ 2 ∷ 1
+    ∷ 36 ∷ 0 ∷ 0 ∷ 0 ∷ 30 ∷ 0 ∷ 3 ∷ 0
+    ∷ 7 ∷ [])
+    -- E2: "a card of 8 zero bytes"
+    ∷ call (sheetWith [] 1) (replicate 8 7) 0 (replicate 8 0)
+    -- E3: 8; E4: 9; E5: 9; E6: 8
+    ∷ call (sheetWith (entry 2 1 0 0 ∷ []) 1) (7 ∷ []) 8 (7 ∷ [])
+    ∷ call (sheetWith (entry 1 1 2 0 ∷ entry 1 1 1 0 ∷ []) 1) (7 ∷ []) 9 (7 ∷ [])
+    ∷ call (sheetWith (entry 1 1 1 0 ∷ []) 1) (7 ∷ []) 9 (7 ∷ [])
+    ∷ call (sheetWith (entry 2 1 2 0 ∷ entry 1 1 1 0 ∷ []) 1) (7 ∷ []) 8 (7 ∷ [])
+    -- E7 and E8: their rows, orders and ends
+    ∷ call (sheetWith (entry 1 10 0 0 ∷ entry 1 10 0 0 ∷ entry 1 20 0 0 ∷ []) 2) (replicate 47 7) 0
+    (0 ∷ 0 ∷ 10 ∷ 0 ∷ 1 ∷ 0 ∷ 0 ∷ 0 ∷ 0 ∷ 0 ∷ 0 ∷ 0
+    ∷ 10 ∷ 0 ∷ 20 ∷ 0 ∷ 1 ∷ 0 ∷ 0 ∷ 0 ∷ 0 ∷ 0 ∷ 0 ∷ 0
+    ∷ 0 ∷ 0 ∷ 20 ∷ 0 ∷ 2 ∷ 0 ∷ 0 ∷ 0 ∷ 0 ∷ 0 ∷ 0 ∷ 0
+    ∷ 0 ∷ 2 ∷ 1
+    ∷ 36 ∷ 0 ∷ 0 ∷ 0 ∷ 20 ∷ 0 ∷ 3 ∷ 0 ∷ [])
+    ∷ call (sheetWith (entry 1 1 0 0 ∷ entry 1 10 0 0 ∷ entry 2 1 1 0 ∷ entry 1 10 4 0 ∷ []) 2) (replicate 60 7) 0
+    (0 ∷ 0 ∷ 1 ∷ 0 ∷ 1 ∷ 0 ∷ 0 ∷ 0 ∷ 0 ∷ 0 ∷ 0 ∷ 0
+    ∷ 2 ∷ 0 ∷ 12 ∷ 0 ∷ 1 ∷ 0 ∷ 0 ∷ 0 ∷ 0 ∷ 0 ∷ 0 ∷ 0
+    ∷ 1 ∷ 0 ∷ 2 ∷ 0 ∷ 3 ∷ 0 ∷ 0 ∷ 0 ∷ 0 ∷ 0 ∷ 0 ∷ 0
+    ∷ 2 ∷ 0 ∷ 12 ∷ 0 ∷ 2 ∷ 0 ∷ 0 ∷ 0 ∷ 0 ∷ 0 ∷ 0 ∷ 0
+    ∷ 0 ∷ 2 ∷ 1 ∷ 3
+    ∷ 48 ∷ 0 ∷ 0 ∷ 0 ∷ 12 ∷ 0 ∷ 4 ∷ 0 ∷ [])
     -- E9: "L = 10, assured 4 and 3, ceilings 10"
     ∷ desk 10 (4 ∷ 3 ∷ []) (10 ∷ 10 ∷ []) 0 e9
     -- E10: "Then controller 0 hands back 8: 18; 7: done."

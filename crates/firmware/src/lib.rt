@@ -1,12 +1,22 @@
-// What firmware links: planning, and the desk where firmware keeps it. The desk's calls copy the lent desk, make the call by value,
-// and put the desk that it hands back in its place.
+// What firmware links: planning, job sheets, and the desk where firmware keeps it. Each is a call of a proved function; include/depot.h
+// declares them for C. The desk's calls copy the lent desk, make the call by value, and put the desk that it hands back in its place.
 use desk::Booked;
 use desk::Desk;
+use sheet::LabelPlace;
+use sheet::Reading;
+use sheet::Written;
+use sheet_format::Job;
 ghost use mathlib.Core.Path.{_≡_};
 ghost use lib.ListN.{length};
 ghost use Rattle.planner.specs.Planning.{planRefusal, cardAfter, memoryAfter};
+ghost use Rattle.sheet_format.specs.Format.{jobsIn};
+ghost use Rattle.sheet.specs.Read.{reading};
+ghost use Rattle.sheet.specs.Label.{labelPlace};
+ghost use Rattle.sheet.specs.Write.{writeAnswer, writeLeaves};
 ghost use Rattle.desk.specs.Calls.{claimed, handedBack, looked};
 ghost use Rattle.firmware.specs.Lent.{openedOver, shownOver};
+
+// ---- planning
 
 // Planning: 0, or the first refusal of 1 to 10. Answered, the card of the tie rule's plan is at the front of the lent card and the
 // working memory, of any length, is all zero; refused, every lent byte is as before. The three buffers do not overlap.
@@ -18,6 +28,43 @@ pub extern "C" fn depot_plan(sheet: &[u8], card: &mut [u8], work: &mut [u8]) -> 
 {
     planner::plan(sheet, card, work)
 }
+
+// ---- job sheets
+
+// Reading: the jobs of a sheet, n and N, or the first refusal of 1 to 7.
+#[no_mangle]
+pub extern "C" fn depot_read(sheet: &[u8]) -> Reading
+    ensures { λ r. ⌜ r ≡ reading (now (sheet .entry)) ⌝ }
+{
+    sheet::read(sheet)
+}
+
+// The label of a job: where it lies in the lent sheet, or the first refusal of 1 to 7 and 14.
+#[no_mangle]
+pub extern "C" fn depot_label(sheet: &[u8], job: usize) -> LabelPlace
+    ensures { λ r. ⌜ r ≡ labelPlace (now (sheet .entry)) job ⌝ }
+{
+    sheet::label_place(sheet, job)
+}
+
+// Writing: the sheet of the lent jobs goes to the front of the lent buffer, and its length is the answer, or the first refusal of 2, 3,
+// 5, 6, 7 and 10. Refused, every lent byte is as before.
+#[no_mangle]
+pub extern "C" fn depot_write(
+    jobs: &[Job],
+    labels: &[u8],
+    modules: u16,
+    sheet: &mut [u8],
+) -> Written
+    ensures { λ r. ⌜ (r ≡ writeAnswer (jobsIn (now (jobs .entry))) (length (now (jobs .entry))) (now (labels .entry)) modules
+        (now (sheet .entry)))
+        × (now (sheet .exit) ≡ writeLeaves (jobsIn (now (jobs .entry))) (length (now (jobs .entry))) (now (labels .entry)) modules
+        (now (sheet .entry))) ⌝ }
+{
+    sheet_list::write_list(jobs, labels, modules, sheet)
+}
+
+// ---- the desk
 
 // Opening by value where a desk is kept: refused, the kept desk is handed back.
 fn opened_over(kept: Desk, limit: u32, assured: &[u32], ceilings: &[u32]) -> Booked

@@ -1,2 +1,3 @@
 -- Laws of working memory.
 pub mod Slots
+pub mod Storing

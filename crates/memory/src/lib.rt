@@ -2,8 +2,8 @@
 // job. A set has 16 entries. Which entry is written, or forgotten, changes no answer.
 ghost use mathlib.Core.Path.{_≡_};
 ghost use mathlib.Core.Bool.{true};
-ghost use Prim.Native.Nat.{ℕ, _+_, _*_, _<_, _≤_, max};
-ghost use lib.ListN.{length, getD, replicate};
+ghost use Prim.Native.Nat.{_+_, _*_, _<_, _≤_, max};
+ghost use lib.ListN.{length, replicate};
 ghost use Rattle.memory.specs.Entries.{groupOf, EntryAhead, EntryOf, Hit, Adds};
 
 // Whether an end is no later than another or than minute l.

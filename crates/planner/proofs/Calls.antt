@@ -4,7 +4,6 @@ use mathlib.Core.Logic.{_⊎_, inl, inr}
 use mathlib.Core.Bool.{true, false}
 use mathlib.Core.List.{List, _++_}
 use Prim.Native.Nat.{ℕ, _+_, _*_, _≤_, _<_}
-use native.Mathlib.Omega.{arith}
 use lib.ListN.{length, drop, replicate}
 use borrow.Author.Tests.{lt-ltb, le-ltb, ltb-false, ne-eqb}
 use Rattle.counting.proofs.Tests.{true-or-false, clash}
@@ -13,7 +12,9 @@ use Rattle.schedule.specs.TieRule as tie
 use Rattle.schedule.proofs.Orders.{best-is}
 use Rattle.schedule.proofs.Existence.{order-not-circular}
 use Rattle.tables.specs.Tables.{sheetOf, Fit}
-use Rattle.search.specs.Search.{Reached}
+use Rattle.search.specs.declared.Found.{Found}
+use Rattle.search.specs.Search.{Listed}
+use Rattle.search.proofs.Listing.{listed-circle, listed-order}
 use Rattle.card.specs.Card.{cardOf}
 use Rattle.sheet_format.specs.Format.{countOf, jobOf}
 use Rattle.checking.specs.Checking.{firstFailing}
@@ -35,17 +36,15 @@ module _ (S : Sheet) (room : ℕ) where
   wide w = rw w refl
 
   module _ (w : overWide S ≡ false) where
-    pub circular : Reached S 65535 → limitRefusal S room ≡ 9
+    pub circular : {r : Found} → Listed S r → r .end ≡ 65535 → limitRefusal S room ≡ 9
     unfolding limitRefusal firstFailing
-    circular (inl c) = rw (w, circular-when S .1 (c .1)) refl
-    circular (inr o) = absurd (omega (arith, o .3))
+    circular h e = rw (w, circular-when S .1 (listed-circle h e)) refl
 
-    pub ordered : (e : ℕ) → Reached S e → (e ≡ 65535 → ⊥) → noOrder S ≡ false
-    ordered e (inl c) h = absurd (h (c .0))
-    ordered e (inr o) h = go (true-or-false (noOrder S))
+    pub ordered : {r : Found} → Listed S r → ¬ (r .end ≡ 65535) → noOrder S ≡ false
+    ordered h n = go (true-or-false (noOrder S))
       where
         go : (noOrder S ≡ true) ⊎ (noOrder S ≡ false) → noOrder S ≡ false
-        go (inl t) = absurd (order-not-circular S (o .0) (o .1) (circular-when S .0 t))
+        go (inl t) = absurd (order-not-circular S _ (listed-order h n .order) (circular-when S .0 t))
         go (inr f) = f
 
     pub short : noOrder S ≡ false → room < cardSize S → limitRefusal S room ≡ 10

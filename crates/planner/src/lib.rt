@@ -82,7 +82,8 @@ fn limit_refusal(
     if over_wide(need, jobs, modules) {
         return 8;
     }
-    if search::greedy(need, minutes, earlier, minutes, jobs, modules) == 65535 {
+    let listed = search::list_order(need, minutes, earlier, minutes, jobs, modules);
+    if listed.end == 65535 {
         return 9;
     }
     if room < 13 * jobs + 8 {

@@ -2,7 +2,7 @@
 use mathlib.Core.Path.{_≡_, refl, sym, ap, _∙_, subst}
 use mathlib.Core.Logic.{_⊎_, inl, inr}
 use mathlib.Core.Bool.{Bool, true, _||_}
-use mathlib.Core.List.{List, [], _∷_, _++_}
+use mathlib.Core.List.{List, [], _∷_, _++_, append-nil, append-assoc}
 use Prim.Native.Nat.{ℕ, suc, _+_, _*_, _≤_, _<_}
 use native.Mathlib.Omega.{arith}
 use native.Mathlib.Nat.{mul-le-mul-left, mul-suc}
@@ -19,8 +19,8 @@ use Rattle.schedule.proofs.Sound.{part-sound, Completes}
 use Rattle.schedule.proofs.Dominance.{Ahead, nextStart, ahead-ends}
 use Rattle.schedule.proofs.Area.{work, area-bound}
 use Rattle.schedule.proofs.Chains.{chain, chain-bound}
-use Rattle.schedule.proofs.Prefixes.{order-split, order-join, end-split, part-count}
-use Rattle.schedule.proofs.Swept.{CannotBeat}
+use Rattle.schedule.proofs.Prefixes.{order-split, order-join, end-split, part-count, next-ready}
+use Rattle.schedule.proofs.Places.{CannotBeat}
 
 -- which jobs can follow depends on the jobs of the sheet alone
 pub follows-same : (S : Sheet) (d e : ℕ → Bool) (o : List ℕ) → ((i : ℕ) → i < S .jobs → d i ≡ e i) → Follows S d o → Follows S e o
@@ -30,6 +30,15 @@ follows-same S d e (j ∷ o) h f =
       ready-when S e j (record { job = r .job; new = sym (h j (r .job)) ∙ r .new; after = λ i l b. sym (h i l) ∙ r .after i l b }),
       follows-same S (placing d j) (placing e j) o (λ i l. ap (λ b. eqb i j || b) (h i l)) (f .1),
     )
+
+-- where no job that can come next leads to an order that ends before e, nothing does
+pub children-cut : (S : Sheet) (e : ℕ) (w : List ℕ) → length w < S .jobs
+    → ((j : ℕ) → ready S (partOf S w .placed) j ≡ true → CannotBeat S e (w ++ (j ∷ []))) → CannotBeat S e w
+unfolding CannotBeat
+children-cut S e w l h o d ([], q) = absurd (omega (arith, d .all, ap length (q ∙ append-nil w)))
+children-cut S e w l h o d (j ∷ p, q) =
+    let g : o ≡ (w ++ (j ∷ [])) ++ p = q ∙ sym (append-assoc w (j ∷ []) p) in
+    h j (next-ready S w j p (subst (λ (x : List ℕ). Order S x) g d)) o d (p, g)
 
 -- once nothing ends before a later minute, nothing ends before an earlier one
 pub cannot-beat-less : (S : Sheet) (e f : ℕ) (w : List ℕ) → f ≤ e → CannotBeat S e w → CannotBeat S f w
@@ -41,7 +50,7 @@ module _ (S : Sheet) (n : Narrow S) (w : List ℕ) (f : Follows S noJobs w) wher
   P = partOf S w
 
   -- by the ends of all completions
-  by-completions : (e : ℕ) → ((p : List ℕ) → Completes S P p → e ≤ planEnd S (placeAll S P p .plan)) → CannotBeat S e w
+  pub by-completions : (e : ℕ) → ((p : List ℕ) → Completes S P p → e ≤ planEnd S (placeAll S P p .plan)) → CannotBeat S e w
   unfolding CannotBeat
   by-completions e h o d (p, q) =
       let c = order-split S w p (subst (λ (x : List ℕ). Order S x) q d) .1 in

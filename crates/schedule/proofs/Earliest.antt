@@ -1,39 +1,30 @@
 -- Every valid plan, however it was made, is matched by a list plan that starts no job later: so the best list plan ends no later.
 use mathlib.Core.Path.{_≡_, refl, sym, ap, _∙_}
-use mathlib.Core.Logic.{_⊎_, inl, inr, ⊎-elim}
-use mathlib.Core.Bool.{Bool, true, false, not, _&&_}
-use mathlib.Core.List.{List, [], _∷_}
-use Prim.Native.Nat.{ℕ, zero, suc, _+_, _≤_, _<_, zero-le}
+use mathlib.Core.Logic.{_⊎_, ⊎-elim}
+use mathlib.Core.Bool.{Bool, true, false, _&&_}
+use mathlib.Core.List.{List}
+use Prim.Native.Nat.{ℕ, _+_, _≤_, _<_, zero-le}
 use native.Mathlib.Omega.{arith}
-use native.Mathlib.Nat.{le-refl}
-use lib.Dec.{ltb, leb, eqb}
-use lib.ListN.{length}
-use borrow.Author.Tests.{ltb-true, leb-true, eqb-true, eqb-false, lt-ltb, le-leb, ne-eqb, not-true}
+use lib.Dec.{leb, eqb}
+use borrow.Author.Tests.{ltb-true, leb-true, eqb-true, eqb-false}
 use Rattle.counting.specs.Counting.{only, sum, count}
-use Rattle.counting.proofs.Tests.{true-or-false, clash, and-left, and-right, and-both, or-right, not-of-false}
-use Rattle.counting.proofs.Sums.{sum-le, sum-same, sum-add, sum-swap, sum-const, sum-single}
-use Rattle.counting.proofs.Ranges.{le-largest, largest-le, argmin}
-use Rattle.counting.proofs.Counts.{count-le, count-insert, count-full, count-one, count-not, count-none, only-count}
+use Rattle.counting.proofs.Tests.{clash, and-left, and-right}
+use Rattle.counting.proofs.Sums.{sum-le, sum-same, sum-swap, sum-const}
+use Rattle.counting.proofs.Ranges.{le-largest, largest-le}
+use Rattle.counting.proofs.Counts.{count-le, count-one, count-none, only-count}
 use Rattle.schedule.specs.Plan.{Sheet, Plan, Valid, finish, planEnd, Narrow, Lasting}
-use Rattle.schedule.specs.ListPlan.{Order, PartPlan, noJobs, Follows, occupies, startOf, place, emptyPart, placeAll, listPlan}
-use Rattle.schedule.specs.ListPlan.{MayStart, occupied}
+use Rattle.schedule.specs.ListPlan.{Order, noJobs, emptyPart, listPlan}
 use Rattle.schedule.specs.TieRule.{endOf}
-use Rattle.schedule.proofs.Starts.{Ready, ready-when, start-le, start-may}
-use Rattle.schedule.proofs.Sound.{Sound, place-sound, empty-sound}
-use Rattle.schedule.proofs.Occupied.{sum-room}
+use Rattle.schedule.proofs.Sound.{empty-sound}
+use Rattle.schedule.proofs.Timed.{runs, load, Timed, KeepsUp, keep-up}
 
--- a sheet with a valid plan has no job that is wider than the cabinet
 pub valid-narrow : (S : Sheet) (P : Plan) → Valid S P → Narrow S
 valid-narrow S P v j l = omega (arith, v .enough j l, count-le (S .modules) (P .uses j))
 
 -- ---- the load of a plan
 
--- job i has its modules at minute t, or they rest
-abbrev pub runs : Sheet → Plan → ℕ → ℕ → Bool
-runs S P t i = leb (P .start i) t && ltb t (finish S P i + S .rest)
-
 -- at no minute do the running jobs need more modules than there are
-pub load-le : (S : Sheet) (P : Plan) → Valid S P → (t : ℕ) → sum (S .jobs) (λ i. only (runs S P t i) (S .need i)) ≤ S .modules
+pub load-le : (S : Sheet) (P : Plan) → Valid S P → (t : ℕ) → load S P t ≤ S .modules
 load-le S P v t =
     let n = S .jobs in
     let N = S .modules in
@@ -57,97 +48,12 @@ load-le S P v t =
         ⊎-elim (λ x. absurd (omega arith)) (λ x. absurd (omega arith))
         (v .apart i k m p q (eqb-false i k e) (and-right (runs S P t i) _ a) (and-right (runs S P t k) _ b))
 
--- ---- a part-plan that keeps up with a plan
+pub valid-timed : (S : Sheet) (P : Plan) → Valid S P → Timed S P
+valid-timed S P v = record { room = load-le S P v; after = v .after; arrived = v .arrived }
 
--- A has placed the jobs that start first in Q, none later than Q does, and Q starts no other job before A's last start.
-pub record KeepsUp (S : Sheet) (Q : Plan) (A : PartPlan) : Type 0 where
-  pub starts : (i : ℕ) → i < S .jobs → A .placed i ≡ true → A .plan .start i ≤ Q .start i
-  pub sorted : (i k : ℕ) → i < S .jobs → k < S .jobs → A .placed i ≡ true → A .placed k ≡ false → Q .start i ≤ Q .start k
-  pub last : (k : ℕ) → k < S .jobs → A .placed k ≡ false → A .last ≤ Q .start k
+-- ---- from the first minute on
 
 module _ (S : Sheet) (Q : Plan) (v : Valid S Q) (w : Lasting S) where
-  -- the next job of Q: one of those that are not placed and start first
-  module _ (A : PartPlan) (s : Sound S A) (h : KeepsUp S Q A) (j : ℕ) (l : j < S .jobs) (new : A .placed j ≡ false)
-      (first : (i : ℕ) → i < S .jobs → A .placed i ≡ false → Q .start j ≤ Q .start i) where
-    next-ready : Ready S (A .placed) j
-    next-ready = record { job = l; new = new; after = λ i k b. go i k b (true-or-false (A .placed i)) }
-      where
-        go : (i : ℕ) → i < S .jobs → S .before i j ≡ true → (A .placed i ≡ true) ⊎ (A .placed i ≡ false) → A .placed i ≡ true
-        go i k b (inl e) = e
-        go i k b (inr e) = absurd (omega (arith, v .after i j k l b, first i k e, w i k))
-
-    running : (i : ℕ) → Q .start i ≤ Q .start j → Q .start j < finish S Q i + S .rest → runs S Q (Q .start j) i ≡ true
-    running i a b = and-both _ _ (le-leb _ _ a) (lt-ltb _ _ b)
-
-    -- what A still occupies when Q starts the job, and the job itself, run in Q
-    counted : (i : ℕ) → i < S .jobs → (occupies S A (Q .start j) i ≡ true) ⊎ (occupies S A (Q .start j) i ≡ false)
-        → (b : Bool) → eqb i j ≡ b
-        → only (occupies S A (Q .start j) i) (S .need i) + only (eqb i j) (S .need i) ≤ only (runs S Q (Q .start j) i) (S .need i)
-    counted i k (inl e) b q =
-        let p = and-left (A .placed i) _ e in
-        let z = ltb-true (Q .start j) (finish S (A .plan) i + S .rest) (and-right (A .placed i) _ e) in
-        let x = h .starts i k p in
-        let d : eqb i j ≡ false = ne-eqb i j (λ y. clash (A .placed i) p (rw y new)) in
-        rw (e, d, running i (h .sorted i j k l p new) (omega arith)) (omega arith)
-    counted i k (inr e) true q =
-        let y = eqb-true i j q in
-        rw (e, q, running i (rw y (le-refl _)) (rw y (omega (arith, w j l)))) (omega arith)
-    counted i k (inr e) false q = rw (e, q) zero-le
-
-    next-room : occupied S A (Q .start j) + S .need j ≤ S .modules
-    unfolding occupied
-    next-room =
-        let t = Q .start j in
-        let n = S .jobs in
-        let both = sum-le n (λ i. only (occupies S A t i) (S .need i) + only (eqb i j) (S .need i)) (λ i. only (runs S Q t i) (S .need i))
-        (λ i k. counted i k (true-or-false (occupies S A t i)) (eqb i j) refl) in
-        let self = sum-single n (S .need) j l in
-        omega (arith, load-le S Q v t, sum-add n (λ i. only (occupies S A t i) (S .need i)) (λ i. only (eqb i j) (S .need i)))
-
-    next-may : MayStart S A j (Q .start j)
-    next-may = record {
-      later = h .last j l new;
-      arrived = v .arrived j l;
-      after = λ i k b. omega (arith, h .starts i k (next-ready .after i k b), v .after i j k l b);
-      room = sum-room S A s j (Q .start j) (h .last j l new) next-room;
-    }
-
-    next-keeps-up : (t : ℕ) → t ≤ Q .start j → KeepsUp S Q (place S A j t)
-    next-keeps-up t a = record {
-      starts = λ i k. one i k (eqb i j) refl;
-      sorted = λ i k c d p q. two i k c d p (or-right (eqb k j) _ q) (eqb i j) refl;
-      last = λ k d q. omega (arith, first k d (or-right (eqb k j) _ q));
-    }
-      where
-        one : (i : ℕ) → i < S .jobs → (b : Bool) → eqb i j ≡ b → place S A j t .placed i ≡ true → place S A j t .plan .start i ≤ Q .start i
-        one i k true e p = rw (e, eqb-true i j e) a
-        one i k false e p = let q : A .placed i ≡ true = rw e at p in rw e (h .starts i k q)
-
-        two : (i k : ℕ) → i < S .jobs → k < S .jobs → place S A j t .placed i ≡ true → A .placed k ≡ false
-            → (b : Bool) → eqb i j ≡ b → Q .start i ≤ Q .start k
-        two i k c d p y true e = rw (eqb-true i j e) (first k d y)
-        two i k c d p y false e = let q : A .placed i ≡ true = rw e at p in h .sorted i k c d q y
-
-  -- The jobs that are left, in the order of their starts in Q: none starts later than in Q.
-  pub keep-up : (k : ℕ) (A : PartPlan) → Sound S A → KeepsUp S Q A → count (S .jobs) (A .placed) + k ≡ S .jobs
-      → (o : List ℕ) × (length o ≡ k) × Follows S (A .placed) o × ((i : ℕ) → i < S .jobs → placeAll S A o .plan .start i ≤ Q .start i)
-  unfolding placeAll
-  keep-up zero A s h c = ([], refl, tt, λ i l. h .starts i l (count-full (S .jobs) (A .placed) (omega arith) i l))
-  keep-up (suc k) A s h c = ⊎-elim (λ r.
-      let j = r .0 in
-      let l = r .1 in
-      let new : A .placed j ≡ false = not-true (A .placed j) (r .2) in
-      let first : (i : ℕ) → i < S .jobs → A .placed i ≡ false → Q .start j ≤ Q .start i =
-      λ i l e. r .3 i l (not-of-false (A .placed i) e) in
-      let d = next-ready A s h j l new first in
-      let f = start-le S A j (Q .start j) (next-may A s h j l new first) in
-      let rec = keep-up k (place S A j (startOf S A j))
-      (place-sound S A s j _ d (start-may S A j (valid-narrow S Q v j l)))
-      (next-keeps-up A s h j l new first _ f) (omega (arith, count-insert (S .jobs) (A .placed) j l new)) in
-      (j ∷ rec .0, ap suc (rec .1), (ready-when S (A .placed) j d, rec .2), rec .3))
-      (λ none. absurd (omega (arith, count-not (S .jobs) (A .placed), count-none (S .jobs) _ none)))
-      (argmin (S .jobs) (λ i. not (A .placed i)) (Q .start))
-
   empty-keeps-up : KeepsUp S Q emptyPart
   empty-keeps-up = record {
     starts = λ i l e. clash false e refl;
@@ -158,7 +64,11 @@ module _ (S : Sheet) (Q : Plan) (v : Valid S Q) (w : Lasting S) where
   -- Some order's list plan starts no job later than Q,
   pub matched : (o : List ℕ) × Order S o × ((j : ℕ) → j < S .jobs → listPlan S o .start j ≤ Q .start j)
   matched =
-      let r = keep-up (S .jobs) emptyPart (empty-sound S) empty-keeps-up (omega (arith, count-none (S .jobs) noJobs (λ i l. refl))) in
+      let r = keep-up S Q (valid-timed S Q v) w (S .jobs) emptyPart (empty-sound S) empty-keeps-up (omega (
+        arith,
+        count-none
+            (S .jobs) noJobs (λ i l. refl),
+      )) in
       (r .0, record { all = r .1; follows = r .2 }, r .3)
 
   -- and so ends no later.

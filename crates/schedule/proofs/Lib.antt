@@ -3,6 +3,7 @@ pub mod Starts
 pub mod Sound
 pub mod Occupied
 pub mod Dominance
+pub mod Timed
 pub mod Earliest
 pub mod Existence
 pub mod Dictionary
@@ -12,8 +13,17 @@ pub mod Area
 pub mod Chains
 pub mod Prefixes
 pub mod Places
-pub mod Swept
 pub mod Cuts
+pub mod Branch
+pub mod Settled
+pub mod SameMinute
+pub mod Idle
+pub mod Exchange
+pub mod Alike
+pub mod Swaps
+pub mod Weights
+pub mod Modulewise
+pub mod Bounds
 pub mod Jumps
 pub mod Horizon
 pub mod Theorems

@@ -20,7 +20,7 @@ test-same true false e = clash false e refl
 test-same false true e = clash false e refl
 test-same false false e = refl
 
-list-same : (l m : List ℕ) → sameList l m ≡ true → l ≡ m
+pub list-same : (l m : List ℕ) → sameList l m ≡ true → l ≡ m
 list-same [] [] e = refl
 list-same [] (b ∷ m) e = clash false e refl
 list-same (a ∷ l) [] e = clash false e refl

@@ -1,5 +1,5 @@
 -- The module-minutes that are held from a minute on, summed over the jobs that have not ended.
-use mathlib.Core.Path.{_≡_, refl, sym, ap, _∙_}
+use mathlib.Core.Path.{_≡_, sym, ap, _∙_}
 use mathlib.Core.List.{List}
 use Prim.Native.Nat.{ℕ, suc, _+_, _-_, _*_, _≤_, _<_}
 use native.Mathlib.Omega.{arith}
@@ -40,5 +40,6 @@ unfolding heldAfter sum
 summing-step {until} {held} {gone} {count} {l} {total} {i} s m = record {
   pre = s .pre;
   inside = omega arith;
-  total-is = ap (λ (x : ℕ). x + getD held i 0 * (getD until i 0 - l)) (s .total-is) ∙ ap (λ (n : ℕ). heldAfter until held n l) (sym (add-one i));
+  total-is = ap (λ (x : ℕ). x + getD held i 0 * (getD until i 0 - l)) (s .total-is)
+      ∙ ap (λ (n : ℕ). heldAfter until held n l) (sym (add-one i));
 }

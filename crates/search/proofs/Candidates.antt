@@ -1,7 +1,7 @@
 -- The jobs that may come next, and their starts.
-use mathlib.Core.Path.{_≡_, refl, sym, ap, _∙_, subst}
+use mathlib.Core.Path.{_≡_, refl, sym, _∙_}
 use mathlib.Core.Logic.{_⊎_, inl, inr}
-use mathlib.Core.Bool.{Bool, true, false}
+use mathlib.Core.Bool.{true, false}
 use mathlib.Core.List.{List}
 use Prim.Native.Nat.{ℕ, _+_, _≤_, _<_, min, zero-le}
 use native.Mathlib.Omega.{arith}
@@ -10,13 +10,13 @@ use lib.ListN.{length, getD, set, length-set}
 use lib.Seq.{getD-set-same, getD-set-other}
 use Rattle.counting.proofs.Tests.{true-or-false, clash, same-or-not}
 use Rattle.schedule.specs.Plan.{Sheet}
-use Rattle.schedule.specs.ListPlan.{PartPlan, ready, startOf, partOf}
+use Rattle.schedule.specs.ListPlan.{PartPlan, ready}
 use Rattle.tables.specs.Tables.{sheetOf}
-use Rattle.schedule.proofs.Starts.{ready-says, start-may}
+use Rattle.schedule.proofs.Starts.{start-may}
 use Rattle.placement.specs.declared.Part.{Part}
 use Rattle.placement.specs.Part.{wordOf, StartFor, isReady}
 use Rattle.placement.proofs.Parts.{ready-is, start-is, last-short}
-use Rattle.search.specs.Search.{StartOr, Known, theoryPart, JobStart, JobStarts}
+use Rattle.search.specs.Search.{Known, theoryPart, JobStart, JobStarts}
 
 module _ (need minutes earlier : List ℕ) (jobs modules : ℕ) (part : Part) (known : Known need minutes earlier jobs modules part) where
   abbrev S : Sheet

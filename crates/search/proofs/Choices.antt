@@ -1,105 +1,51 @@
--- List heuristics: a choice among the jobs that may come next, and the list plan that it leads to.
-use mathlib.Core.Path.{_≡_, refl, sym, ap, _∙_, subst}
+-- The job of a set that starts first.
+use mathlib.Core.Path.{_≡_, sym, subst}
 use mathlib.Core.Logic.{_⊎_, inl, inr}
-use mathlib.Core.Bool.{Bool, true, false, not}
-use mathlib.Core.List.{List, [], _∷_, _++_}
-use Prim.Native.Nat.{ℕ, suc, _+_, _≤_, _<_}
+use mathlib.Core.Bool.{true, false}
+use mathlib.Core.List.{List}
+use Prim.Native.Nat.{ℕ, _+_, _≤_, _<_}
 use native.Mathlib.Omega.{arith}
-use native.Mathlib.Nat.{le-refl, not-suc-le-zero}
-use lib.Count.{ones}
-use lib.ListN.{length, getD}
-use borrow.Author.Tests.{not-true}
-use Rattle.counting.specs.Counting.{largest}
-use Rattle.counting.proofs.Tests.{true-or-false, clash, same-or-not}
-use Rattle.counting.proofs.Ranges.{largest-le, find}
-use Rattle.counting.proofs.Counts.{count-none, count-not}
-use Rattle.schedule.specs.Plan.{Sheet, Circular, finish}
-use Rattle.schedule.specs.ListPlan.{PartPlan, ready}
-use Rattle.schedule.specs.TieRule.{endOf}
-use Rattle.schedule.proofs.Existence.{stuck-circular}
-use Rattle.schedule.proofs.Prefixes.{part-count}
-use Rattle.tables.specs.Tables.{sheetOf, Fit}
-use Rattle.placement.specs.declared.Part.{Part}
-use Rattle.placement.specs.Part.{wordOf, firstPart}
-use Rattle.placement.proofs.Parts.{first-is, left-count, start-short, end-short, all-placed}
+use native.Mathlib.Nat.{not-suc-le-zero}
+use lib.ListN.{getD}
+use Rattle.bits.specs.Bits.{bit}
+use Rattle.counting.proofs.Tests.{clash, same-or-not}
 use Rattle.search.specs.declared.Choice.{Choice}
-use Rattle.search.specs.Search.{Known, theoryPart, JobStarts, Chosen, ChoiceOf, Reached}
-use Rattle.search.proofs.Turns.{whole, end-is}
+use Rattle.search.specs.Search.{Chosen, ChoiceOf}
 
--- ---- the choice
+-- job j's start counts where it is in the set
+abbrev pub StartIn : List ℕ → ℕ → ℕ → ℕ → Type 0
+StartIn at left j s = ((bit left j ≡ true) × (s ≡ getD at j 0)) ⊎ ((bit left j ≡ false) × (s ≡ 65535))
 
-pub choice-none : (at : List ℕ) (jobs : ℕ) (c : Choice) → c .start ≡ 65535 → ChoiceOf at jobs 0 c
-choice-none at jobs c e = record {
-  none = λ h k l. absurd (not-suc-le-zero l);
+pub choice-none : (at : List ℕ) (left : ℕ) (c : Choice) → c .start ≡ 65535 → ChoiceOf at left 0 c
+choice-none at left c e = record {
+  first = λ k l. absurd (not-suc-le-zero l);
   some = λ h. absurd (omega arith);
   low = omega arith;
 }
 
-pub choice-step : {at : List ℕ} {jobs n : ℕ} {c r : Choice} → ChoiceOf at jobs n c → n < jobs → Chosen c n (getD at n 0) r
-    → ChoiceOf at jobs (n + 1) r
-choice-step {at} {jobs} {n} {c} {r} h l (b, inl (e, m)) = subst (λ (x : Choice). ChoiceOf at jobs (n + 1) x) (sym e) (record {
-  none = λ q k a. go q k a (same-or-not k n);
-  some = h .some;
+pub choice-step : {at : List ℕ} {left n s : ℕ} {c r : Choice} → ChoiceOf at left n c → StartIn at left n s → Chosen c n s r
+    → ChoiceOf at left (n + 1) r
+choice-step {at} {left} {n} {s} {c} {r} h i (b, inl (e, m)) = subst (λ (x : Choice). ChoiceOf at left (n + 1) x) (sym e) (record {
+  first = λ k a t. go k a t (same-or-not k n) i;
+  some = λ q. let z = h .some q in (omega (arith, z .0), z .1);
   low = h .low;
 })
   where
-    go : c .start ≡ 65535 → (k : ℕ) → k < n + 1 → (k ≡ n) ⊎ (¬ (k ≡ n)) → getD at k 0 ≡ 65535
-    go q k a (inl x) = rw x (omega arith)
-    go q k a (inr x) = h .none q k (omega arith)
-choice-step {at} {jobs} {n} {c} {r} h l (b, inr (j, s, m)) = record {
-  none = λ q k a. go q k a (same-or-not k n);
-  some = λ q. rw (j, s) (l, refl);
+    go : (k : ℕ) → k < n + 1 → bit left k ≡ true → (k ≡ n) ⊎ (¬ (k ≡ n)) → StartIn at left n s → c .start ≤ getD at k 0
+    go k a t (inl x) (inl y) = rw x (omega (arith, y .1))
+    go k a t (inl x) (inr y) = clash (bit left n) (rw (← x) t) (y .0)
+    go k a t (inr x) y = h .first k (omega arith) t
+choice-step {at} {left} {n} {s} {c} {r} h i (b, inr (j, e, m)) = record {
+  first = λ k a t. go k a t (same-or-not k n) i;
+  some = λ q. rw (j, e) (some (omega arith) i);
   low = omega arith;
 }
   where
-    go : r .start ≡ 65535 → (k : ℕ) → k < n + 1 → (k ≡ n) ⊎ (¬ (k ≡ n)) → getD at k 0 ≡ 65535
-    go q k a (inl x) = rw x (omega arith)
-    go q k a (inr x) = h .none (omega (arith, h .low)) k (omega arith)
+    go : (k : ℕ) → k < n + 1 → bit left k ≡ true → (k ≡ n) ⊎ (¬ (k ≡ n)) → StartIn at left n s → r .start ≤ getD at k 0
+    go k a t (inl x) (inl y) = rw x (omega (arith, y .1))
+    go k a t (inl x) (inr y) = clash (bit left n) (rw (← x) t) (y .0)
+    go k a t (inr x) y = omega (arith, h .first k (omega arith) t)
 
--- ---- the list plan
-
--- before the first job
-pub first-known : (need minutes earlier : List ℕ) (jobs modules : ℕ) → Fit need minutes jobs modules
-    → Known need minutes earlier jobs modules (firstPart need minutes jobs modules)
-unfolding firstPart
-first-known need minutes earlier jobs modules fit = record { fit = fit; is = first-is need minutes earlier jobs modules fit }
-
-module _ (need minutes earlier : List ℕ) (jobs modules : ℕ) (part : Part) (known : Known need minutes earlier jobs modules part) where
-  abbrev S : Sheet
-  S = sheetOf need minutes earlier jobs modules
-
-  abbrev P : PartPlan
-  P = theoryPart need minutes earlier jobs modules part
-
-  -- no job may come next, and some is left
-  pub greedy-stuck : (at : List ℕ) (least : ℕ) (c : Choice) → JobStarts need minutes earlier jobs modules part at least → ChoiceOf at jobs jobs c
-      → c .start ≡ 65535 → 0 < ones (part .unplaced) → Reached S 65535
-  greedy-stuck at least c starts h e pos = inl (refl, go (find jobs (λ i. not (P .placed i))))
-    where
-      stuck : (j : ℕ) → j < jobs → ready S (P .placed) j ≡ false
-      stuck j l = one (true-or-false (ready S (P .placed) j))
-        where
-          one : (ready S (P .placed) j ≡ true) ⊎ (ready S (P .placed) j ≡ false) → ready S (P .placed) j ≡ false
-          one (inr r) = r
-          one (inl r) =
-              let short = start-short need minutes earlier jobs modules (known .fit) part (wordOf part) (known .is) j r in
-              absurd (omega (arith, h .none e j l, starts .each j l .here r))
-
-      go : ((i : ℕ) × (i < jobs) × (not (P .placed i) ≡ true)) ⊎ ((i : ℕ) → i < jobs → not (P .placed i) ≡ false) → Circular S
-      go (inl (i, l, q)) = stuck-circular S (P .placed) stuck i l (not-true (P .placed i) q)
-      go (inr full) =
-          let size = left-count need minutes earlier jobs modules (known .fit) part (wordOf part) (known .is) in
-          absurd (omega (arith, count-not jobs (P .placed), count-none jobs (λ i. not (P .placed i)) full, part-count S (wordOf part) (known .is .follows)))
-
-  -- every job is placed
-  pub greedy-done : ones (part .unplaced) ≡ 0 → Reached S (largest jobs (λ i. getD (part .ends) i 0))
-  greedy-done z =
-      let e = end-is need minutes earlier [] jobs modules part known z in
-      inr (wordOf part, whole need minutes earlier [] jobs modules part known z, sym e, omega (arith, short))
-    where
-      short : largest jobs (λ i. getD (part .ends) i 0) ≤ 28800
-      short = largest-le jobs (λ i. getD (part .ends) i 0) 28800 (λ i l.
-          let p = all-placed need minutes earlier jobs modules (known .fit) part (wordOf part) (known .is) z i l in
-          let q = known .is .figures .ends i l in
-          let r : getD (part .ends) i 0 ≡ finish S (P .plan) i = rw p at q in
-          omega (arith, end-short need minutes earlier jobs modules (known .fit) part (wordOf part) (known .is) i l p))
+    some : s < 65535 → StartIn at left n s → (n < n + 1) × ((bit left n ≡ true) × (getD at n 0 ≡ s))
+    some q (inl y) = (omega arith, (y .0, sym (y .1)))
+    some q (inr y) = absurd (omega (arith, y .1))

@@ -12,7 +12,7 @@ use Rattle.bits.specs.Bits.{bit}
 use Rattle.bits.proofs.Ones.{ones-none}
 use Rattle.schedule.specs.Plan.{Sheet, finish}
 use Rattle.schedule.specs.ListPlan.{partOf}
-use Rattle.schedule.proofs.Swept.{CannotBeat}
+use Rattle.schedule.proofs.Places.{CannotBeat}
 use Rattle.schedule.proofs.Cuts.{cannot-beat-less, ahead-cut, NoneBefore}
 use Rattle.tables.specs.Tables.{sheetOf}
 use Rattle.placement.specs.declared.Part.{Part}

@@ -1,105 +1,118 @@
--- The whole search: the limit that it starts from, and the answer that it ends with.
+-- The whole search: from the first list plan to an order that ends first, and from there to the tie rule's.
 use mathlib.Core.Path.{_≡_, refl, sym, ap, _∙_, subst}
-use mathlib.Core.Logic.{_⊎_, inl, inr, _≢_}
-use mathlib.Core.List.{List, []}
-use Prim.Native.Nat.{ℕ, _+_, _≤_, _<_, min, zero-le}
+use mathlib.Core.Logic.{_⊎_, inl, inr}
+use mathlib.Core.Bool.{true, false}
+use mathlib.Core.List.{List, [], _++_}
+use Prim.Native.Nat.{ℕ, zero, suc, _+_, _-_, _≤_, _<_}
 use native.Mathlib.Omega.{arith}
-use native.Mathlib.Nat.{add-zero}
-use lib.ListN.{length, getD, take, replicate, length-replicate}
-use Rattle.counting.proofs.Tests.{less-or-not}
-use Rattle.counting.proofs.Ranges.{largest-le}
-use Rattle.counting.proofs.Sums.{sum-same}
-use Rattle.schedule.specs.Plan.{Sheet, Circular, finish}
-use Rattle.schedule.specs.ListPlan.{Order, emptyPart, listPlan}
+use lib.ListN.{getD, replicate, length-replicate}
+use Rattle.counting.specs.Counting.{only}
+use Rattle.counting.proofs.Tests.{true-or-false, clash}
+use Rattle.bits.specs.Bits.{bit}
+use Rattle.bits.proofs.Digits.{bit-none}
+use Rattle.schedule.specs.Plan.{Sheet}
+use Rattle.schedule.specs.ListPlan.{Order}
 use Rattle.schedule.specs.TieRule as tie
 use Rattle.schedule.specs.TieRule.{endOf}
-use Rattle.schedule.proofs.Sound.{completes-all, order-completes}
-use Rattle.schedule.proofs.Horizon.{ends-within}
-use Rattle.schedule.proofs.Existence.{order-or-circular}
-use Rattle.schedule.proofs.Places.{Before, Through}
-use Rattle.schedule.proofs.Swept.{swept-start, swept-best}
-use Rattle.tables.specs.Tables.{sheetOf, Fit}
-use Rattle.tables.proofs.Laws.{all-minutes}
+use Rattle.schedule.proofs.Places.{CannotBeat}
+use Rattle.tables.specs.Tables.{sheetOf}
 use Rattle.placement.specs.Part.{wordOf, firstPart}
-use Rattle.search.specs.declared.Best.{Best}
-use Rattle.search.specs.Search.{ChainsOf, State, Visiting, Visited, Reached, Limit, Answer}
-use Rattle.search.proofs.Recalls.{remembered-none}
-use Rattle.search.proofs.Choices.{first-known}
+use Rattle.search.specs.declared.Found.{Found}
+use Rattle.search.specs.Search.{Remembered, Outcome, noneSettled, SettledSo, Searching}
+use Rattle.search.specs.Search.{OrderOf, keptAs, Lowering, Lowered, Lowest}
+use Rattle.search.proofs.Recalls.{remembered-less}
+use Rattle.search.proofs.Listing.{first-known}
 
--- ---- the limit
+-- ---- nothing is settled
 
-pub limit-none : (S : Sheet) → Limit S 65535
-limit-none S = inl refl
+zeros : (n i : ℕ) → _≡_ {A = ℕ} (getD (replicate n 0) i 0) 0
+zeros zero i = refl
+zeros (suc n) zero = refl
+zeros (suc n) (suc i) = zeros n i
 
-reached-limit : (S : Sheet) (e : ℕ) → Reached S e → e < 65535 → Limit S (e + 1)
-reached-limit S e (inl (q, c)) l = absurd (omega arith)
-reached-limit S e (inr (o, d, q, m)) l = inr (o, d, omega arith)
+pub none-settled : (S : Sheet) (target : ℕ) (v : List ℕ) → SettledSo S target v (noneSettled .by)
+none-settled S target v = record {
+  size = length-replicate {A = ℕ} 20 0;
+  each = λ u i q x e l b. clash (bit 0 x) (ap (λ (y : ℕ). bit y x) (sym (zeros 20 i)) ∙ b) (bit-none x);
+}
 
-reached-le : (S : Sheet) (e : ℕ) → Reached S e → e ≤ 65535
-reached-le S e (inl (q, c)) = omega arith
-reached-le S e (inr (o, d, q, m)) = omega arith
+-- ---- the earliest end
 
--- the earliest of three ends
-pub limit-of : (S : Sheet) (a b c e : ℕ) → Reached S a → Reached S b → Reached S c → e ≡ min a (min b c) → e ≢ 65535 → Limit S (e + 1)
-limit-of S a b c e ra rb rc q n = go (less-or-not e a) (less-or-not e b)
-  where
-    l : e < 65535
-    l = omega (arith, reached-le S a ra)
+pub first-word : (need minutes : List ℕ) (jobs modules : ℕ) → wordOf (firstPart need minutes jobs modules) ≡ []
+unfolding firstPart
+first-word need minutes jobs modules = refl
 
-    go : (e < a) ⊎ (a ≤ e) → (e < b) ⊎ (b ≤ e) → Limit S (e + 1)
-    go (inr x) y = let z : a ≡ e = omega arith in reached-limit S e (subst (Reached S) z ra) l
-    go (inl x) (inr y) = let z : b ≡ e = omega arith in reached-limit S e (subst (Reached S) z rb) l
-    go (inl x) (inl y) = let z : c ≡ e = omega arith in reached-limit S e (subst (Reached S) z rc) l
+pub one-more : (e : ℕ) → ¬ (e ≡ 0) → suc (e - 1) ≡ e
+one-more e h = omega arith
 
--- ---- start and end
+kept-is : {S : Sheet} {best : Found} → OrderOf S best → OrderOf S (keptAs best)
+kept-is h = record { size = h .size; order = h .order; end = h .end; low = h .low }
 
-module _ (need minutes earlier : List ℕ) (jobs modules : ℕ) (fit : Fit need minutes jobs modules) where
+module _ (need minutes earlier later tails : List ℕ) (jobs modules : ℕ) where
   abbrev S : Sheet
   S = sheetOf need minutes earlier jobs modules
 
-  -- a list plan ends by minute 28,800
-  order-short : (o : List ℕ) → Order S o → endOf S o ≤ 28800
-  order-short o d = largest-le jobs (finish S (listPlan S o)) 28800 (λ i l.
-      let p = completes-all S emptyPart o (order-completes S o d) i l in
-      let e = ends-within S (fit .narrow) 0 (λ i l. zero-le) o (d .follows) i l p in
-      let flat = sum-same jobs (λ i. getD minutes i 0 + 0) (λ i. getD minutes i 0) (λ i l. add-zero (getD minutes i 0)) in
-      omega (arith, all-minutes need minutes jobs modules fit))
-
-  abbrev start : ℕ → Best
-  start limit = record { end = limit; limit = limit; order = replicate 20 0 }
-
-  pub run-start : (tails memory : List ℕ) (limit n : ℕ) → ChainsOf need minutes earlier jobs modules tails jobs → memory ≡ replicate n 0
-      → Visiting need minutes earlier tails jobs modules (firstPart need minutes jobs modules)
-      (Before (wordOf (firstPart need minutes jobs modules))) (start limit) memory
-  unfolding firstPart
-  run-start tails memory limit n c z = record {
-    known = first-known need minutes earlier jobs modules fit;
-    state = record {
-      fit = fit;
-      chains = c .each;
-      order = length-replicate {A = ℕ} 20 0;
-      swept = swept-start S limit (take jobs (replicate 20 0));
-      remembered = remembered-none S memory n limit z;
-    };
+  -- an order that is to end before the best
+  pub enter : {best : Found} {memory : List ℕ} → Lowering need minutes earlier later tails jobs modules best memory → ¬ (best .end ≡ 0)
+      → Searching need minutes earlier later tails jobs modules (firstPart need minutes jobs modules) (noneSettled .by)
+      (best .end - 1) memory
+  enter {best} {memory} s z = record {
+    low = omega (arith, s .best-is .low);
+    known = first-known need minutes earlier jobs modules (s .fit);
+    chains = s .chains;
+    laters = s .laters;
+    settled = none-settled S (best .end - 1) _;
+    remembered = subst (λ (e : ℕ). Remembered S memory e) (let e : best .end ≡ suc (best .end - 1) = omega arith in e) (s .remembered);
   }
 
-  pub run-end : (tails memory : List ℕ) (limit : ℕ) (r : Best) → Limit S limit
-      → Visited need minutes earlier tails jobs modules (Through (wordOf (firstPart need minutes jobs modules))) (start limit) r memory
-      → Answer S r
-  unfolding firstPart
-  run-end tails memory limit r lim v = record {
-    best = λ c. found c .0;
-    end = λ c. sym (found c .1);
+  pub lower-hit : {best r : Found} {memory : List ℕ} (memory′ : List ℕ) {v : List ℕ}
+      → Lowering need minutes earlier later tails jobs modules best memory
+      → ¬ (best .end ≡ 0) → Outcome S (best .end - 1) v r → r .hit ≡ true → Remembered S memory′ (suc (best .end - 1))
+      → Lowered S best r × Remembered S memory′ (r .end)
+  lower-hit {best} {r} {memory} memory′ s z o e m =
+      let f = o .hit e in (
+        record {
+          is = record { size = o .size; order = f .order; end = f .end; low = omega (arith, f .within, s .best-is .low) };
+          hit = λ _. omega (arith, f .within);
+          miss = λ h. clash (r .hit) e h;
+        },
+        remembered-less S memory′ (suc (best .end - 1)) (r .end) (omega (arith, f .within)) m,
+      )
+
+  -- none ends earlier
+  pub lower-miss : {best : Found} {memory : List ℕ} → Lowering need minutes earlier later tails jobs modules best memory
+      → ((o : List ℕ) → Order S o → best .end ≤ endOf S o) → Lowered S best (keptAs best)
+  lower-miss {best} s least = record { is = kept-is (s .best-is); hit = λ x. clash false x refl; miss = λ x. (refl, least) }
+
+  pub none-earlier : (best : Found) {r : Found} {v : List ℕ} → ¬ (best .end ≡ 0) → v ≡ [] → Outcome S (best .end - 1) v r → r .hit ≡ false
+      → (o : List ℕ) → Order S o → best .end ≤ endOf S o
+  unfolding CannotBeat
+  none-earlier best {r} {v} z e m h o d = omega (arith, m .miss h o d (o, ap (λ (x : List ℕ). x ++ o) (sym e)))
+
+  -- no order ends before minute 0
+  pub from-zero : (best : Found) → best .end ≡ 0 → (o : List ℕ) → Order S o → best .end ≤ endOf S o
+  from-zero best z o d = omega arith
+
+  -- ---- a turn of the loop
+
+  -- while earlier ends are looked for, an order and what is remembered; then no order ends earlier
+  pub record Turn (best : Found) (memory : List ℕ) : Type 0 where
+    pub state : Lowering need minutes earlier later tails jobs modules best memory
+    pub done : best .hit ≡ false → (o : List ℕ) → Order S o → best .end ≤ endOf S o
+
+  pub turn-next : {best r : Found} {memory : List ℕ} (memory′ : List ℕ) → Lowering need minutes earlier later tails jobs modules best memory
+      → Lowered S best r → Remembered S memory′ (r .end) → Turn r memory′
+  turn-next {best} {r} memory′ s l m = record {
+    state = record { fit = s .fit; chains = s .chains; laters = s .laters; best-is = l .is; remembered = m };
+    done = λ e. l .miss e .1;
   }
+
+  pub turn-less : {best r : Found} → Lowered S best r → best .hit ≡ true → r .end + only (r .hit) 1 < best .end + only (best .hit) 1
+  turn-less {best} {r} l e = rw e (go (true-or-false (r .hit)))
     where
-      -- some order stays below the limit
-      below : ¬ Circular S → (o : List ℕ) × Order S o × (endOf S o < r .limit)
-      below c = go lim (order-or-circular S)
-        where
-          go : Limit S limit → ((o : List ℕ) × Order S o) ⊎ Circular S → (o : List ℕ) × Order S o × (endOf S o < r .limit)
-          go (inr (o, d, l)) x = (o, d, omega (arith, v .limit))
-          go (inl e) (inl (o, d)) = (o, d, omega (arith, v .limit, order-short o d))
-          go (inl e) (inr x) = absurd (c x)
+      go : (r .hit ≡ true) ⊎ (r .hit ≡ false) → r .end + only (r .hit) 1 < best .end + 1
+      go (inl h) = rw h (omega (arith, l .hit h))
+      go (inr h) = rw h (omega (arith, l .miss h .0))
 
-      found : ¬ Circular S → tie.Best S (take jobs (r .order)) × (endOf S (take jobs (r .order)) ≡ r .end)
-      found c = let p = below c in swept-best S (r .limit) _ (v .state .swept) (p .0) (p .1) (p .2)
+  pub turn-last : {best : Found} {memory : List ℕ} → Turn best memory → best .hit ≡ false → Lowest S best
+  turn-last t e = record { is = t .state .best-is; least = t .done e }

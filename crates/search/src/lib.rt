@@ -1,22 +1,36 @@
-// The search for the tie rule's order: all orders in dictionary order, and cuts that only pass over what cannot beat the best so far.
+// The search for the tie rule's order. One search decides whether some order that goes on from a part-plan ends by a target: it lowers the
+// end until no order ends earlier, and then it settles the places of the order one after another.
 ghost use mathlib.Core.Path.{_≡_};
-ghost use mathlib.Core.Bool.{true};
-ghost use Prim.Native.Nat.{ℕ, _+_, _-_, _*_, _<_, _≤_, min};
+ghost use mathlib.Core.Logic.{_⊎_};
+ghost use mathlib.Core.Bool.{true, false, cond};
+ghost use mathlib.Core.List.{[], _∷_, _++_};
+ghost use Prim.Native.Nat.{suc, _+_, _-_, _*_, _<_, _≤_, min};
 ghost use lib.ListN.{length, getD, take, replicate};
-ghost use Rattle.placement.specs.Profile.{heldAfter};
-ghost use Rattle.search.specs.Search.{Known, JobStart, JobStarts, HeldAfter, SomeTooLong, Hopeless, betterOf, Visiting, Visited, ChainsOf, Chosen, ChoiceOf, Reached, Limit, Answer};
-ghost use Rattle.schedule.proofs.Places.{Before, Upto, Through};
-ghost use Rattle.placement.specs.Part.{wordOf};
 ghost use Rattle.counting.specs.Counting.{only, largest};
-ghost use Rattle.bits.specs.Bits.{bit};
+ghost use Rattle.bits.specs.Bits.{bit, withBit};
+ghost use Rattle.placement.specs.Profile.{heldAfter};
+ghost use Rattle.placement.specs.Part.{wordOf};
 ghost use Rattle.tables.specs.Tables.{sheetOf, Fit};
+ghost use Rattle.search.specs.Search.{Known, JobStart, JobStarts, HeldAfter, SomeTooLong, Hopeless, ChainsOf, Laters, LaterOf};
+ghost use Rattle.search.specs.Search.{ComesFirst, TurnsRound, Stands, PassedOver, Outcome, finishedAs, noneFound, withSettled};
+ghost use Rattle.search.specs.Search.{Searching, EachStart, TriedSo, Remembered, Chosen, ChoiceOf, Listed, theoryPart};
+ghost use Rattle.search.specs.Search.{noneSettled, keptAs, Lowering, Lowered, Lowest, Going, Placing, Answer};
+ghost use Rattle.schedule.specs.ListPlan.{ready};
+ghost use Rattle.schedule.specs.TieRule as tie;
+ghost use Rattle.schedule.specs.TieRule.{endOf};
+ghost use Rattle.placement.specs.Part.{firstPart};
 use placement::Part;
 
-// The best order so far and its end; while nothing is found, the end is the limit that an order has to stay below.
-pub struct Best {
+// An order that ends by a target, with its end, or none.
+pub struct Found {
+    pub hit: bool,
     pub end: u16,
-    pub limit: u16,
     pub order: [u8; 20],
+}
+
+// For each placed job, the jobs that were settled when it was chosen: in its place none of them leads to an order that ends by the target.
+pub struct Settled {
+    pub by: [u32; 20],
 }
 
 // The start of each job that may come next (65535 for the others), and the least of them.
@@ -174,23 +188,6 @@ fn last_end(ends: &[u16; 20], jobs: usize) -> u16
     r
 }
 
-// A finished part-plan, where it ends before the best so far.
-fn finished(part: Part, jobs: usize, best: Best) -> Best
-    requires { ⌜ jobs ≤ 20 ⌝ }
-    ensures { λ r. ⌜ r ≡ betterOf jobs part best ⌝ }
-{
-    let end = last_end(&part.ends, jobs);
-    if end < best.end {
-        let order = part.order;
-        return Best {
-            end,
-            limit: best.limit,
-            order,
-        };
-    }
-    best
-}
-
 // Whether no order that goes on from here can end before `end`, by the area or by a chain.
 fn hopeless<'a>(
     tails: &'a [u16; 20],
@@ -201,7 +198,8 @@ fn hopeless<'a>(
     least: u16,
     end: u16,
 ) -> bool
-    requires { ⌜ (HeldAfter (part .until) (part .held) (part .gone) (part .placed) least) × (((part .left ≤ 2000000) × (modules ≤ 64)) × (jobs ≤ 20)) ⌝ }
+    requires { ⌜ (HeldAfter (part .until) (part .held) (part .gone) (part .placed) least)
+        × (((part .left ≤ 2000000) × (modules ≤ 64)) × (jobs ≤ 20)) ⌝ }
     ensures { λ r. ⌜ (r ≡ true → Hopeless part (now (at .entry)) (now (tails .entry)) jobs modules least end) ⌝ }
 {
     if crowded(
@@ -219,88 +217,340 @@ fn hopeless<'a>(
     some_too_long(at, tails, jobs, end)
 }
 
-// Document 01: "The search goes from a part-plan to each next job". Deals with all orders that go on from this part-plan.
+// The order of a part-plan that has placed every job, where it ends by the target.
+fn finished(part: Part, jobs: usize, target: u16) -> Found
+    requires { ⌜ jobs ≤ 20 ⌝ }
+    ensures { λ r. ⌜ r ≡ finishedAs jobs part target ⌝ }
+{
+    let end = last_end(&part.ends, jobs);
+    let order = part.order;
+    Found {
+        hit: !(target < end),
+        end,
+        order,
+    }
+}
+
+// No order.
+fn none_found() -> Found
+    ensures { λ r. ⌜ r ≡ noneFound ⌝ }
+{
+    Found {
+        hit: false,
+        end: 0,
+        order: [0u8; 20],
+    }
+}
+
+// Whether job 1, which was tried, may as well come before job 2: it can end before that one starts, or the two are alike.
+fn comes_first(
+    need1: u16,
+    need2: u16,
+    minutes1: u16,
+    minutes2: u16,
+    later1: u32,
+    later2: u32,
+    at1: u16,
+    at2: u16,
+) -> bool
+    ensures { λ r. ⌜ (r ≡ true → ComesFirst need1 need2 minutes1 minutes2 later1 later2 at1 at2) ⌝ }
+{
+    if (at1 as u32) + (minutes1 as u32) <= (at2 as u32) {
+        return true;
+    }
+    if need1 != need2 {
+        return false;
+    }
+    if minutes1 != minutes2 {
+        return false;
+    }
+    later2 & later1 == later2
+}
+
+// Whether job 2, which was settled when job 1 was chosen, may as well have come in its place: it would start with it, or as soon as it has
+// ended, with its width.
+fn turns_round(
+    need1: u16,
+    need2: u16,
+    minutes1: u16,
+    later1: u32,
+    later2: u32,
+    end1: u16,
+    at2: u16,
+) -> bool
+    ensures { λ r. ⌜ (r ≡ true → TurnsRound need1 need2 minutes1 later1 later2 end1 at2) ⌝ }
+{
+    if (at2 as u32) + (minutes1 as u32) == (end1 as u32) {
+        return true;
+    }
+    if need1 != need2 {
+        return false;
+    }
+    if at2 != end1 {
+        return false;
+    }
+    later1 & later2 == later1
+}
+
+// Whether job i stands for job j, which need not be tried then.
+fn stands_for<'a>(
+    need: &[u16; 20],
+    minutes: &[u16; 20],
+    later: &[u32; 20],
+    at: &[u16; 20],
+    ends: &'a [u16; 20],
+    by: &'a [u32; 20],
+    unplaced: u32,
+    tried: u32,
+    i: usize,
+    j: usize,
+) -> bool
+    requires { ⌜ (i < 20) × (j < 20) ⌝ }
+    ensures { λ r. ⌜ (r ≡ true → Stands (now (need .entry)) (now (minutes .entry)) (now (later .entry)) (now (at .entry))
+        (now (ends .entry)) (now (by .entry)) unplaced tried j i) ⌝ }
+{
+    if bits::test32(tried, i) {
+        return comes_first(
+            need[i],
+            need[j],
+            minutes[i],
+            minutes[j],
+            later[i],
+            later[j],
+            at[i],
+            at[j],
+        );
+    }
+    if bits::test32(unplaced, i) {
+        return false;
+    }
+    if bits::test32(by[i], j) {
+        return turns_round(
+            need[i],
+            need[j],
+            minutes[i],
+            later[i],
+            later[j],
+            ends[i],
+            at[j],
+        );
+    }
+    false
+}
+
+// Whether some job stands for job j.
+fn passed_over<'a>(
+    need: &[u16; 20],
+    minutes: &[u16; 20],
+    later: &[u32; 20],
+    at: &[u16; 20],
+    ends: &'a [u16; 20],
+    by: &'a [u32; 20],
+    unplaced: u32,
+    tried: u32,
+    jobs: usize,
+    j: usize,
+) -> bool
+    requires { ⌜ (jobs ≤ 20) × (j < 20) ⌝ }
+    ensures { λ r. ⌜ (r ≡ true → PassedOver (now (need .entry)) (now (minutes .entry)) (now (later .entry)) (now (at .entry))
+        (now (ends .entry)) (now (by .entry)) unplaced tried jobs j) ⌝ }
+{
+    let mut i: usize = 0;
+    while i < jobs {
+        if stands_for(need, minutes, later, at, ends, by, unplaced, tried, i, j) {
+            return true;
+        }
+        i += 1;
+    }
+    false
+}
+
+// The settled jobs with those that were tried when job i is chosen.
+fn with_settled(settled: Settled, i: usize, tried: u32) -> Settled
+    requires { ⌜ i < 20 ⌝ }
+    ensures { λ r. ⌜ r ≡ withSettled settled i tried ⌝ }
+{
+    let mut next = settled;
+    next.by[i] = tried;
+    next
+}
+
+// A job that may come next, its start and its weight; the start 65535 stands for none.
+pub struct Choice {
+    pub job: usize,
+    pub start: u16,
+    pub weight: u16,
+}
+
+// The choice so far, or job j where it starts earlier or, at the same minute, has more weight.
+fn choose(c: Choice, j: usize, start: u16, weight: u16) -> Choice
+    ensures { λ r. ⌜ Chosen c j start r ⌝ }
+{
+    if c.start < start {
+        return c;
+    }
+    if start == c.start {
+        if weight <= c.weight {
+            return c;
+        }
+    }
+    Choice {
+        job: j,
+        start,
+        weight,
+    }
+}
+
+// The start of job j, or 65535 where it is not in the set.
+fn start_in(start: u16, set: u32, j: usize) -> u16
+    requires { ⌜ j < 20 ⌝ }
+    ensures { λ r. ⌜ ((bit set j ≡ true) × (r ≡ start)) ⊎ ((bit set j ≡ false) × (r ≡ 65535)) ⌝ }
+{
+    if bits::test32(set, j) {
+        return start;
+    }
+    65535
+}
+
+// The job of the set to come next, by the least start and, of those, the greatest weight.
+fn next_choice<'a>(at: &'a [u16; 20], weights: &'a [u16; 20], left: u32, jobs: usize) -> Choice
+    requires { ⌜ jobs ≤ 20 ⌝ }
+    ensures { λ r. ⌜ ChoiceOf (now (at .entry)) left jobs r ⌝ }
+{
+    let mut c = Choice {
+        job: 0,
+        start: 65535,
+        weight: 65535,
+    };
+    let mut j: usize = 0;
+    while j < jobs {
+        c = choose(c, j, start_in(at[j], left, j), weights[j]);
+        j += 1;
+    }
+    c
+}
+
+// Document 01: "The search goes from a part-plan to each next job". Finds an order that goes on from this part-plan and ends by the
+// target, or that there is none.
 fn visit(
     need: &[u16; 20],
     minutes: &[u16; 20],
     earlier: &[u32; 20],
+    later: &[u32; 20],
     tails: &[u16; 20],
     jobs: usize,
     modules: u16,
     part: Part,
-    best: Best,
+    settled: Settled,
+    target: u16,
     memory: &mut [u8],
-) -> Best
-    requires { ⌜ Visiting (now need) (now minutes) (now earlier) (now tails) jobs modules part (Before (wordOf part)) best (now memory) ⌝ }
-    ensures { λ r. ⌜ Visited (now (need .entry)) (now (minutes .entry)) (now (earlier .entry)) (now (tails .entry)) jobs modules (Through (wordOf part)) best r (now (memory .exit)) ⌝ }
+) -> Found
+    requires { ⌜ Searching (now need) (now minutes) (now earlier) (now later) (now tails) jobs modules part (settled .by) target
+        (now memory) ⌝ }
+    ensures outcome { λ r. ⌜ Outcome (sheetOf (now (need .entry)) (now (minutes .entry)) (now (earlier .entry)) jobs modules) target
+        (wordOf part) r ⌝ }
+    ensures remembered { λ _. ⌜ Remembered (sheetOf (now (need .entry)) (now (minutes .entry)) (now (earlier .entry)) jobs modules)
+        (now (memory .exit)) (suc target) ⌝ }
 {
     let unplaced = part.unplaced;
     if u32::count_ones(unplaced) == 0 {
-        return finished(part, jobs, best);
+        return finished(part, jobs, target);
     }
     let starts = ready_starts(need, minutes, earlier, jobs, modules, part);
     let at = starts.at;
     let least = starts.least;
-    if hopeless(tails, jobs, modules, part, &at, least, best.end) {
-        return best;
+    if hopeless(tails, jobs, modules, part, &at, least, target + 1) {
+        return none_found();
     }
     if memory::recall(memory, &part.ends, jobs, unplaced, least) {
-        return best;
+        return none_found();
     }
-    let mut found = best;
-    let mut job: usize = 0;
-    while job < jobs {
-        found = try_children(
+    let mut left = unplaced;
+    let mut tried: u32 = 0;
+    let mut c = next_choice(&at, tails, left, jobs);
+    while c.start != 65535 {
+        let job = c.job;
+        let found = try_children(
             need,
             minutes,
             earlier,
+            later,
             tails,
             jobs,
             modules,
             part,
+            settled,
+            target,
+            &at,
+            tried,
             job,
-            at[job],
-            found,
             memory,
         );
-        job += 1;
+        if found.hit {
+            return found;
+        }
+        left = bits::clear32(left, job);
+        tried = bits::set32(tried, job);
+        c = next_choice(&at, tails, left, jobs);
     }
     memory::remember(memory, &part.ends, jobs, unplaced, part.last);
-    found
+    none_found()
 }
 
-// "and from that job to the longer part-plan": deals with all orders that go on with job `job`, which starts at `start` (65535: it may
-// not come next).
+// "and from that job to the longer part-plan": the same for the orders that go on with this job, unless another stands for it.
 fn try_children(
     need: &[u16; 20],
     minutes: &[u16; 20],
     earlier: &[u32; 20],
+    later: &[u32; 20],
     tails: &[u16; 20],
     jobs: usize,
     modules: u16,
     part: Part,
+    settled: Settled,
+    target: u16,
+    at: &[u16; 20],
+    tried: u32,
     job: usize,
-    start: u16,
-    best: Best,
     memory: &mut [u8],
-) -> Best
-    requires { ⌜ Visiting (now need) (now minutes) (now earlier) (now tails) jobs modules part (Upto (wordOf part) job) best (now memory) ⌝ }
-    requires { ⌜ (JobStart (now need) (now minutes) (now earlier) jobs modules part job start) × (job < jobs) ⌝ }
-    ensures { λ r. ⌜ Visited (now (need .entry)) (now (minutes .entry)) (now (earlier .entry)) (now (tails .entry)) jobs modules (Upto (wordOf part) (job + 1)) best r (now (memory .exit)) ⌝ }
+) -> Found
+    requires { ⌜ Searching (now need) (now minutes) (now earlier) (now later) (now tails) jobs modules part (settled .by) target
+        (now memory) ⌝ }
+    requires { ⌜ EachStart (now need) (now minutes) (now earlier) jobs modules part (now at) ⌝ }
+    requires { ⌜ (TriedSo (now need) (now minutes) (now earlier) jobs modules part target (now at) tried (getD (now at) job 0))
+        × ((job < jobs) × (getD (now at) job 0 < 65535)) ⌝ }
+    ensures outcome { λ r. ⌜ Outcome (sheetOf (now (need .entry)) (now (minutes .entry)) (now (earlier .entry)) jobs modules) target
+        (wordOf part ++ (job ∷ [])) r ⌝ }
+    ensures remembered { λ _. ⌜ Remembered (sheetOf (now (need .entry)) (now (minutes .entry)) (now (earlier .entry)) jobs modules)
+        (now (memory .exit)) (suc target) ⌝ }
 {
-    if start == 65535 {
-        return best;
+    if passed_over(
+        need,
+        minutes,
+        later,
+        at,
+        &part.ends,
+        &settled.by,
+        part.unplaced,
+        tried,
+        jobs,
+        job,
+    ) {
+        return none_found();
     }
-    let child = placement::place(part, job, start, need[job], minutes[job], modules);
+    let child = placement::place(part, job, at[job], need[job], minutes[job], modules);
+    let next = with_settled(settled, job, tried);
     visit(
         need,
         minutes,
         earlier,
+        later,
         tails,
         jobs,
         modules,
         child,
-        best,
+        next,
+        target,
         memory,
     )
 }
@@ -345,7 +595,8 @@ fn lengthen(
     tails: Tails,
     k: usize,
 ) -> Tails
-    requires { ⌜ (Fit (now need) (now minutes) jobs modules) × ((ChainsOf (now need) (now minutes) (now earlier) jobs modules (tails .at) k) × (k < 20)) ⌝ }
+    requires { ⌜ (Fit (now need) (now minutes) jobs modules)
+        × ((ChainsOf (now need) (now minutes) (now earlier) jobs modules (tails .at) k) × (k < 20)) ⌝ }
     ensures { λ r. ⌜ ChainsOf (now (need .entry)) (now (minutes .entry)) (now (earlier .entry)) jobs modules (r .at) (k + 1) ⌝ }
 {
     let mut next = [0u16; 20];
@@ -377,96 +628,379 @@ fn chains(
     tails
 }
 
-// A job that may come next, its start and its weight; the start 65535 stands for none.
-pub struct Choice {
-    pub job: usize,
-    pub start: u16,
-    pub weight: u16,
-}
+// ---- the jobs that wait for each job
 
-// The choice so far, or job j where it starts earlier or, at the same minute, has more weight.
-fn choose(c: Choice, j: usize, start: u16, weight: u16) -> Choice
-    ensures { λ r. ⌜ Chosen c j start r ⌝ }
+// The set with k, where job k waits for job i.
+fn with_later(set: u32, earlier: u32, i: usize, k: usize) -> u32
+    requires { ⌜ (i < 20) × (k < 20) ⌝ }
+    ensures { λ r. ⌜ r ≡ cond (bit earlier i) (withBit set k) set ⌝ }
 {
-    if c.start < start {
-        return c;
+    if bits::test32(earlier, i) {
+        return bits::set32(set, k);
     }
-    if start == c.start {
-        if weight <= c.weight {
-            return c;
-        }
-    }
-    Choice {
-        job: j,
-        start,
-        weight,
-    }
+    set
 }
 
-// The job to come next by the least start and, of those, the greatest weight.
-fn next_choice<'a>(at: &'a [u16; 20], weights: &'a [u16; 20], jobs: usize) -> Choice
+// The later jobs of job i.
+fn later_of(earlier: &[u32; 20], jobs: usize, i: usize) -> u32
+    requires { ⌜ (jobs ≤ 20) × (i < 20) ⌝ }
+    ensures { λ r. ⌜ LaterOf (now (earlier .entry)) i jobs r ⌝ }
+{
+    let mut set: u32 = 0;
+    let mut k: usize = 0;
+    while k < jobs {
+        set = with_later(set, earlier[k], i, k);
+        k += 1;
+    }
+    set
+}
+
+// The later jobs of each job.
+pub struct LaterJobs {
+    pub of: [u32; 20],
+}
+
+fn later_jobs(earlier: &[u32; 20], jobs: usize) -> LaterJobs
     requires { ⌜ jobs ≤ 20 ⌝ }
-    ensures { λ r. ⌜ ChoiceOf (now (at .entry)) jobs jobs r ⌝ }
+    ensures { λ r. ⌜ Laters (now (earlier .entry)) jobs (r .of) ⌝ }
 {
-    let mut c = Choice {
-        job: 0,
-        start: 65535,
-        weight: 65535,
-    };
-    let mut j: usize = 0;
-    while j < jobs {
-        c = choose(c, j, at[j], weights[j]);
-        j += 1;
+    let mut of = [0u32; 20];
+    let mut i: usize = 0;
+    while i < jobs {
+        of[i] = later_of(earlier, jobs, i);
+        i += 1;
     }
-    c
+    LaterJobs { of }
 }
 
-// The end of the list plan that takes the heaviest of the jobs that start first, or 65535 where some job must end before itself.
-pub fn greedy(
+// ---- list heuristics
+
+// The list plan that takes the heaviest of the jobs that start first, or the end 65535 where some job must end before itself.
+pub fn list_order(
     need: &[u16; 20],
     minutes: &[u16; 20],
     earlier: &[u32; 20],
     weights: &[u16; 20],
     jobs: usize,
     modules: u16,
-) -> u16
+) -> Found
     requires { ⌜ Fit (now need) (now minutes) jobs modules ⌝ }
-    ensures { λ r. ⌜ Reached (sheetOf (now (need .entry)) (now (minutes .entry)) (now (earlier .entry)) jobs modules) r ⌝ }
+    ensures { λ r. ⌜ Listed (sheetOf (now (need .entry)) (now (minutes .entry)) (now (earlier .entry)) jobs modules) r ⌝ }
 {
     let mut part = placement::first_part(need, minutes, jobs, modules);
     while u32::count_ones(part.unplaced) != 0 {
         let starts = ready_starts(need, minutes, earlier, jobs, modules, part);
         let at = starts.at;
-        let c = next_choice(&at, weights, jobs);
+        let c = next_choice(&at, weights, part.unplaced, jobs);
         if c.start == 65535 {
-            return 65535;
+            return Found {
+                hit: false,
+                end: 65535,
+                order: [0u8; 20],
+            };
         }
         let j = c.job;
         part = placement::place(part, j, c.start, need[j], minutes[j], modules);
     }
-    last_end(&part.ends, jobs)
+    finished(part, jobs, 65535)
 }
 
-// One more than the best end of three list heuristics: an order has to stay below it.
-fn limit_of(
+// The order that ends earlier.
+fn better(a: Found, b: Found) -> Found
+    ensures { λ r. ⌜ (r ≡ a) ⊎ (r ≡ b) ⌝ }
+{
+    if b.end < a.end {
+        return b;
+    }
+    a
+}
+
+// The best of three list plans.
+fn first_listed(
     need: &[u16; 20],
     minutes: &[u16; 20],
     earlier: &[u32; 20],
     tails: &[u16; 20],
     jobs: usize,
     modules: u16,
-) -> u16
+) -> Found
     requires { ⌜ Fit (now need) (now minutes) jobs modules ⌝ }
-    ensures { λ r. ⌜ Limit (sheetOf (now (need .entry)) (now (minutes .entry)) (now (earlier .entry)) jobs modules) r ⌝ }
+    ensures { λ r. ⌜ Listed (sheetOf (now (need .entry)) (now (minutes .entry)) (now (earlier .entry)) jobs modules) r ⌝ }
 {
-    let by_tail = greedy(need, minutes, earlier, tails, jobs, modules);
-    let by_minutes = greedy(need, minutes, earlier, minutes, jobs, modules);
-    let by_need = greedy(need, minutes, earlier, need, jobs, modules);
-    let e = sooner(by_tail, sooner(by_minutes, by_need));
-    if e == 65535 {
-        return 65535;
+    let by_tail = list_order(need, minutes, earlier, tails, jobs, modules);
+    let by_minutes = list_order(need, minutes, earlier, minutes, jobs, modules);
+    let by_need = list_order(need, minutes, earlier, need, jobs, modules);
+    better(by_tail, better(by_minutes, by_need))
+}
+
+// ---- the earliest end
+
+// Nothing is settled.
+fn none_settled() -> Settled
+    ensures { λ r. ⌜ r ≡ noneSettled ⌝ }
+{
+    Settled { by: [0u32; 20] }
+}
+
+// The same order, where none ends earlier.
+fn kept(best: Found) -> Found
+    ensures { λ r. ⌜ r ≡ keptAs best ⌝ }
+{
+    let order = best.order;
+    Found {
+        hit: false,
+        end: best.end,
+        order,
     }
-    e + 1
+}
+
+// An order that ends earlier, or the same one where there is none.
+fn lower(
+    need: &[u16; 20],
+    minutes: &[u16; 20],
+    earlier: &[u32; 20],
+    later: &[u32; 20],
+    tails: &[u16; 20],
+    jobs: usize,
+    modules: u16,
+    best: Found,
+    memory: &mut [u8],
+) -> Found
+    requires { ⌜ Lowering (now need) (now minutes) (now earlier) (now later) (now tails) jobs modules best (now memory) ⌝ }
+    ensures lowered { λ r. ⌜ Lowered (sheetOf (now (need .entry)) (now (minutes .entry)) (now (earlier .entry)) jobs modules) best r ⌝ }
+    ensures remembered { λ r. ⌜ Remembered (sheetOf (now (need .entry)) (now (minutes .entry)) (now (earlier .entry)) jobs modules)
+        (now (memory .exit)) (r .end) ⌝ }
+{
+    if best.end == 0 {
+        return kept(best);
+    }
+    let part = placement::first_part(need, minutes, jobs, modules);
+    let settled = none_settled();
+    let found = visit(
+        need,
+        minutes,
+        earlier,
+        later,
+        tails,
+        jobs,
+        modules,
+        part,
+        settled,
+        best.end - 1,
+        memory,
+    );
+    if found.hit {
+        return found;
+    }
+    kept(best)
+}
+
+// An order that ends first of all.
+fn lowest(
+    need: &[u16; 20],
+    minutes: &[u16; 20],
+    earlier: &[u32; 20],
+    later: &[u32; 20],
+    tails: &[u16; 20],
+    jobs: usize,
+    modules: u16,
+    listed: Found,
+    memory: &mut [u8],
+) -> Found
+    requires { ⌜ Lowering (now need) (now minutes) (now earlier) (now later) (now tails) jobs modules listed (now memory) ⌝ }
+    ensures { λ r. ⌜ Lowest (sheetOf (now (need .entry)) (now (minutes .entry)) (now (earlier .entry)) jobs modules) r ⌝ }
+{
+    let mut best = lower(
+        need,
+        minutes,
+        earlier,
+        later,
+        tails,
+        jobs,
+        modules,
+        listed,
+        memory,
+    );
+    while best.hit {
+        best = lower(
+            need,
+            minutes,
+            earlier,
+            later,
+            tails,
+            jobs,
+            modules,
+            best,
+            memory,
+        );
+    }
+    best
+}
+
+// ---- the tie rule's order
+
+// An order that goes on from this part-plan with job j and ends by the target, or none.
+fn try_place(
+    need: &[u16; 20],
+    minutes: &[u16; 20],
+    earlier: &[u32; 20],
+    later: &[u32; 20],
+    tails: &[u16; 20],
+    jobs: usize,
+    modules: u16,
+    part: Part,
+    target: u16,
+    j: usize,
+    memory: &mut [u8],
+) -> Found
+    requires { ⌜ (Going (now need) (now minutes) (now earlier) (now later) (now tails) jobs modules part target (now memory))
+        × (j < jobs) ⌝ }
+    ensures outcome { λ r. ⌜ Outcome (sheetOf (now (need .entry)) (now (minutes .entry)) (now (earlier .entry)) jobs modules) target
+        (wordOf part ++ (j ∷ [])) r ⌝ }
+    ensures remembered { λ _. ⌜ Remembered (sheetOf (now (need .entry)) (now (minutes .entry)) (now (earlier .entry)) jobs modules)
+        (now (memory .exit)) (suc target) ⌝ }
+{
+    let start = start_or_none(need, minutes, earlier, jobs, modules, part, j);
+    if start == 65535 {
+        return none_found();
+    }
+    let child = placement::place(part, j, start, need[j], minutes[j], modules);
+    let settled = none_settled();
+    visit(
+        need,
+        minutes,
+        earlier,
+        later,
+        tails,
+        jobs,
+        modules,
+        child,
+        settled,
+        target,
+        memory,
+    )
+}
+
+// A job's number as an index.
+fn wide(x: u8) -> usize
+    ensures { λ r. ⌜ r ≡ x ⌝ }
+{
+    x as usize
+}
+
+// An order that ends first, and at place k has the least job that an order which ends first can have there.
+fn settle_place(
+    need: &[u16; 20],
+    minutes: &[u16; 20],
+    earlier: &[u32; 20],
+    later: &[u32; 20],
+    tails: &[u16; 20],
+    jobs: usize,
+    modules: u16,
+    part: Part,
+    best: Found,
+    memory: &mut [u8],
+) -> Found
+    requires { ⌜ (Going (now need) (now minutes) (now earlier) (now later) (now tails) jobs modules part (best .end) (now memory))
+        × ((Placing (sheetOf (now need) (now minutes) (now earlier) jobs modules) (wordOf part) best) × (part .placed < jobs)) ⌝ }
+    ensures placed { λ r. ⌜ Placing (sheetOf (now (need .entry)) (now (minutes .entry)) (now (earlier .entry)) jobs modules)
+        (wordOf part ++ (getD (r .order) (part .placed) 0 ∷ [])) r ⌝ }
+    ensures remembered { λ r. ⌜ Remembered (sheetOf (now (need .entry)) (now (minutes .entry)) (now (earlier .entry)) jobs modules)
+        (now (memory .exit)) (suc (r .end)) ⌝ }
+{
+    let k = part.placed;
+    let stop = wide(best.order[k]);
+    let mut j: usize = 0;
+    while j < stop {
+        let found = try_place(
+            need,
+            minutes,
+            earlier,
+            later,
+            tails,
+            jobs,
+            modules,
+            part,
+            best.end,
+            j,
+            memory,
+        );
+        if found.hit {
+            return found;
+        }
+        j += 1;
+    }
+    best
+}
+
+// The part-plan with the next job of the order.
+fn go_on(
+    need: &[u16; 20],
+    minutes: &[u16; 20],
+    earlier: &[u32; 20],
+    jobs: usize,
+    modules: u16,
+    part: Part,
+    j: usize,
+) -> Part
+    requires { ⌜ (Known (now need) (now minutes) (now earlier) jobs modules part)
+        × (ready (sheetOf (now need) (now minutes) (now earlier) jobs modules)
+        (theoryPart (now need) (now minutes) (now earlier) jobs modules part .placed) j ≡ true) ⌝ }
+    ensures { λ r. ⌜ (Known (now (need .entry)) (now (minutes .entry)) (now (earlier .entry)) jobs modules r)
+        × ((wordOf r ≡ wordOf part ++ (j ∷ [])) × (r .placed ≡ part .placed + 1)) ⌝ }
+{
+    let start = start_or_none(need, minutes, earlier, jobs, modules, part, j);
+    placement::place(part, j, start, need[j], minutes[j], modules)
+}
+
+// The tie rule's order, from one that ends first.
+fn first_order(
+    need: &[u16; 20],
+    minutes: &[u16; 20],
+    earlier: &[u32; 20],
+    later: &[u32; 20],
+    tails: &[u16; 20],
+    jobs: usize,
+    modules: u16,
+    least: Found,
+    memory: &mut [u8],
+) -> Found
+    requires { ⌜ (Lowest (sheetOf (now need) (now minutes) (now earlier) jobs modules) least)
+        × (Going (now need) (now minutes) (now earlier) (now later) (now tails) jobs modules
+        (firstPart (now need) (now minutes) jobs modules) (least .end) (now memory)) ⌝ }
+    ensures { λ r. ⌜ (tie.Best (sheetOf (now (need .entry)) (now (minutes .entry)) (now (earlier .entry)) jobs modules)
+        (take jobs (r .order)))
+        × (r .end ≡ endOf (sheetOf (now (need .entry)) (now (minutes .entry)) (now (earlier .entry)) jobs modules)
+        (take jobs (r .order))) ⌝ }
+{
+    let mut best = least;
+    let mut part = placement::first_part(need, minutes, jobs, modules);
+    let mut k: usize = 0;
+    while k < jobs {
+        best = settle_place(
+            need,
+            minutes,
+            earlier,
+            later,
+            tails,
+            jobs,
+            modules,
+            part,
+            best,
+            memory,
+        );
+        part = go_on(
+            need,
+            minutes,
+            earlier,
+            jobs,
+            modules,
+            part,
+            wide(best.order[k]),
+        );
+        k += 1;
+    }
+    best
 }
 
 // The tie rule's order and its list plan's end, wherever there is an order. What the memory held changes nothing, and it is left all zero.
@@ -477,7 +1011,7 @@ pub fn run(
     jobs: usize,
     modules: u16,
     memory: &mut [u8],
-) -> Best
+) -> Found
     requires { ⌜ Fit (now need) (now minutes) jobs modules ⌝ }
     ensures answer { λ r. ⌜ Answer (sheetOf (now (need .entry)) (now (minutes .entry)) (now (earlier .entry)) jobs modules) r ⌝ }
     ensures cleared { λ _. ⌜ now (memory .exit) ≡ replicate (length (now (memory .entry))) 0 ⌝ }
@@ -485,22 +1019,33 @@ pub fn run(
     memory::clear(memory);
     let chains = chains(need, minutes, earlier, jobs, modules);
     let tails = chains.at;
-    let limit = limit_of(need, minutes, earlier, &tails, jobs, modules);
-    let part = placement::first_part(need, minutes, jobs, modules);
-    let best = Best {
-        end: limit,
-        limit,
-        order: [0u8; 20],
-    };
-    let found = visit(
+    let laters = later_jobs(earlier, jobs);
+    let later = laters.of;
+    let listed = first_listed(need, minutes, earlier, &tails, jobs, modules);
+    if listed.end == 65535 {
+        return listed;
+    }
+    let least = lowest(
         need,
         minutes,
         earlier,
+        &later,
         &tails,
         jobs,
         modules,
-        part,
-        best,
+        listed,
+        memory,
+    );
+    memory::clear(memory);
+    let found = first_order(
+        need,
+        minutes,
+        earlier,
+        &later,
+        &tails,
+        jobs,
+        modules,
+        least,
         memory,
     );
     memory::clear(memory);

@@ -1,12 +1,13 @@
 -- What the label calls answer in each case, and where a label lies.
 use mathlib.Core.Path.{_≡_, refl, sym, ap, _∙_}
-use mathlib.Core.Bool.{cond}
+use mathlib.Core.Bool.{Bool, true, false, cond}
 use mathlib.Core.List.{List, [], _∷_}
 use Prim.Native.Nat.{ℕ, suc, _+_, _-_, _*_, _≤_, _<_}
 use native.Mathlib.Omega.{arith}
-use lib.Dec.{leb}
-use lib.ListN.{length, getD, take, drop}
-use borrow.Author.Tests.{leb-false, le-leb, lt-leb, ne-eqb}
+use lib.Dec.{leb, eqb}
+use lib.ListN.{length, getD, take, drop, length-drop}
+use lib.Seq.{length-take-le}
+use borrow.Author.Tests.{leb-false, le-leb, lt-leb, ne-eqb, eqb-true}
 use Rattle.counting.specs.Counting.{sum}
 use Rattle.counting.proofs.Sums.{sum-up}
 use Rattle.checking.specs.Checking.{firstFailing}
@@ -14,8 +15,9 @@ use Rattle.checking.proofs.Order.{all-passed, none-failing, first-in-front, fir
 use Rattle.sheet_format.specs.Figures.{recordSize}
 use Rattle.sheet_format.specs.Format.{recordAt, labelLength, labelLengths, jobFrom, jobOf, offsetOf, countOf}
 use Rattle.sheet_format.specs.Checks.{noSuchJob}
+use Rattle.sheet.specs.declared.LabelPlace.{LabelPlace}
 use Rattle.sheet.specs.Read.{readChecks, readRefusal}
-use Rattle.sheet.specs.Label.{labelChecks, labelRefusal, labelStart, labelOf, labelAt}
+use Rattle.sheet.specs.Label.{labelChecks, labelRefusal, labelStart, labelOf, labelAt, labelPlace}
 use Rattle.sheet.proofs.Answers.{Reads, reads}
 
 module _ (s : List ℕ) (job : ℕ) where
@@ -58,29 +60,56 @@ module _ (s : List ℕ) (job : ℕ) where
   length-byte offset e = ap (λ (o : ℕ). getD s (o + recordSize * job) 0) e
 
   module _ (k : ℕ) (e : k ≡ labelRefusal s job) (h : k ≡ 0 → ⊥) where
-    pub empty-label : [] ≡ labelOf s job
-    unfolding labelOf
-    empty-label = rw (← e, ne-eqb k 0 h)
+    pub no-place : _≡_ {A = LabelPlace} (record { refusal = k; offset = 0; length = 0 }) (labelPlace s job)
+    unfolding labelPlace labelAt labelOf
+    no-place = rw (← e, ne-eqb k 0 h) refl
 
-    pub empty-at : 0 ≡ labelAt s job
-    unfolding labelAt
-    empty-at = rw (← e, ne-eqb k 0 h)
+  -- an answered call's label, as long as its record says
+  whole-label : labelRefusal s job ≡ 0 → length (labelOf s job) ≡ labelLength (jobOf s job)
+  unfolding labelOf
+  whole-label z =
+      let t = there 0 (sym z) refl in
+      rw z (length-take-le (labelLength (jobOf s job)) (drop (labelStart s job) s)
+      (omega (arith, t .within, t .sheet .trailer .whole, length-drop (labelStart s job) s)))
 
   module _ (k : ℕ) (e : k ≡ labelRefusal s job) (z : k ≡ 0) (offset from : ℕ) (o : offset ≡ offsetOf s)
       (f : from ≡ labelLengths job (jobFrom s offset)) where
     begins : from ≡ labelStart s job
     begins = f ∙ ap (λ (x : ℕ). labelLengths job (jobFrom s x)) o
 
-    pub label-ends : from + getD s (offset + recordSize * job) 0 ≤ length s
-    label-ends = let t = there k e z in omega (arith, t .within, t .sheet .trailer .whole, length-byte offset o, begins)
+    pub place-there : _≡_ {A = LabelPlace}
+        (record { refusal = 0; offset = from; length = getD s (offset + recordSize * job) 0 })
+        (labelPlace s job)
+    unfolding labelPlace labelAt
+    place-there = rw (whole-label (sym e ∙ z), length-byte offset o, begins, sym e ∙ z) refl
 
-    pub whole-label : take (from + getD s (offset + recordSize * job) 0 - from) (drop from s) ≡ labelOf s job
-    unfolding labelOf
-    whole-label =
-        let m : from + getD s (offset + recordSize * job) 0 - from ≡ labelLength (jobOf s job) =
-        omega (arith, length-byte offset o) in
-        rw (sym e ∙ z, m, begins)
+  -- the part at the label's place is the label, and it ends within the sheet
+  pub record Shown (at long : ℕ) : Type 0 where
+    pub within : at + long ≤ length s
+    pub part : take long (drop at s) ≡ labelOf s job
 
-    pub whole-at : from ≡ labelAt s job
-    unfolding labelAt
-    whole-at = rw (sym e ∙ z) begins
+  shown-there : labelRefusal s job ≡ 0 → Shown (labelStart s job) (labelLength (jobOf s job))
+  unfolding labelOf
+  shown-there z =
+      let t = there 0 (sym z) refl in
+      record { within = omega (arith, t .within, t .sheet .trailer .whole); part = rw z refl }
+
+  shown : Shown (labelAt s job) (length (labelOf s job))
+  unfolding labelAt labelOf
+  shown = go (eqb (labelRefusal s job) 0) refl where
+    go : (b : Bool) → eqb (labelRefusal s job) 0 ≡ b → Shown (labelAt s job) (length (labelOf s job))
+    go true e = rw (whole-label (eqb-true (labelRefusal s job) 0 e), e) (shown-there (eqb-true (labelRefusal s job) 0 e))
+    go false e = rw e (record { within = omega arith; part = rw e refl })
+
+  module _ (p : LabelPlace) (e : p ≡ labelPlace s job) where
+    pub place-at : p .offset ≡ labelAt s job
+    unfolding labelPlace
+    place-at = ap (λ (x : LabelPlace). x .offset) e
+
+    pub place-shown : Shown (p .offset) (p .length)
+    unfolding labelPlace
+    place-shown = rw e shown
+
+  -- the bytes of the sheet at the label's place are the label
+  pub label-at-place : take (labelPlace s job .length) (drop (labelPlace s job .offset) s) ≡ labelOf s job
+  label-at-place = place-shown (labelPlace s job) refl .part

@@ -13,9 +13,10 @@ use Rattle.sheet_format.specs.declared.Job.{Job}
 use Rattle.sheet_format.specs.Format.{sheetBytes}
 use Rattle.sheet.specs.declared.Written.{Written}
 use Rattle.sheet.specs.Read.{readChecks, readRefusal, refused, reading}
-use Rattle.sheet.specs.Label.{labelChecks, labelRefusal}
+use Rattle.sheet.specs.Label.{labelChecks, labelRefusal, labelPlace}
 use Rattle.sheet.specs.Write.{writeChecks, writeRefusal, writeAnswer, writeLeaves}
 use Rattle.sheet.proofs.Answers.{read-number}
+use Rattle.sheet.proofs.Labels.{no-place}
 use Rattle.sheet.proofs.Writes.{refused-leaves}
 
 same-number : {A : Type 0} (a b k : ℕ) → a ≡ b → (b ≡ k) ↔ A → (a ≡ k) ↔ A
@@ -42,6 +43,11 @@ label-refused s job k h = refused-exactly (labelChecks s job) k h
 
 pub label-answered : (s : List ℕ) (job : ℕ) → (labelRefusal s job ≡ 0) ↔ NoneFails (labelChecks s job)
 label-answered s job = answered-exactly (labelChecks s job) refl
+
+-- a refused label call: every other figure of its place is 0
+pub label-refused-place : (s : List ℕ) (job : ℕ) → (labelRefusal s job ≡ 0 → ⊥)
+    → labelPlace s job ≡ record { refusal = labelRefusal s job; offset = 0; length = 0 }
+label-refused-place s job h = sym (no-place s job (labelRefusal s job) refl h)
 
 module _ (jobs : ℕ → Job) (n : ℕ) (labels : List ℕ) (N : ℕ) (out : List ℕ) where
   pub write-number : writeAnswer jobs n labels N out .refusal ≡ writeRefusal jobs n labels N (length out)

@@ -3,10 +3,11 @@ use mathlib.Core.Bool.{cond}
 use mathlib.Core.List.{List, [], _∷_, _++_}
 use Prim.Native.Nat.{ℕ}
 use lib.Dec.{eqb}
-use lib.ListN.{take, drop}
+use lib.ListN.{length, take, drop}
 use Rattle.checking.specs.Checking.{Check, firstFailing}
 use Rattle.sheet_format.specs.Format.{labelLength, labelLengths, jobOf, countOf}
 use Rattle.sheet_format.specs.Checks.{noSuchJob}
+use Rattle.sheet.specs.declared.LabelPlace.{LabelPlace}
 use Rattle.sheet.specs.Read.{readChecks}
 
 -- labels check 1 to 7, then 14
@@ -28,3 +29,7 @@ labelOf s job =
 -- how far into the lent sheet the part begins; an empty part is at its front
 unfoldable pub labelAt : List ℕ → ℕ → ℕ
 labelAt s job = cond (eqb (labelRefusal s job) 0) (labelStart s job) 0
+
+-- where the part lies in the lent sheet; refused: the number, and every other figure 0
+unfoldable pub labelPlace : List ℕ → ℕ → LabelPlace
+labelPlace s job = record { refusal = labelRefusal s job; offset = labelAt s job; length = length (labelOf s job) }

@@ -6,7 +6,7 @@ ghost use Rattle.sheet_format.specs.Figures.{mostJobs, recordSize, trailerSize,
 ghost use Rattle.sheet_format.specs.Format.{jobsIn, sheetBytes};
 ghost use Rattle.sheet.specs.Read.{refused, reading};
 ghost use Rattle.sheet.specs.Write.{over, writeRefusal, writeAnswer, writeLeaves};
-ghost use Rattle.sheet.specs.Label.{labelRefusal, labelOf, labelAt};
+ghost use Rattle.sheet.specs.Label.{labelRefusal, labelOf, labelAt, labelPlace};
 pub use sheet_format::Job;
 use sheet_format::figures::MOST_JOBS;
 use sheet_format::figures::MOST_MODULES;
@@ -14,6 +14,7 @@ use sheet_format::figures::RECORD_SIZE;
 use sheet_format::figures::TRAILER_SIZE;
 
 // What reading answers: refusal 0 with the jobs, n and N, or the number of the refusal with all else 0.
+#[repr(C)]
 pub struct Reading {
     pub refusal: u32,
     pub jobs: [Job; MOST_JOBS],
@@ -21,7 +22,16 @@ pub struct Reading {
     pub modules: u16,
 }
 
+// Where a label lies: refusal 0 with its offset in the sheet and its length, or the number of the refusal with all else 0.
+#[repr(C)]
+pub struct LabelPlace {
+    pub refusal: u32,
+    pub offset: usize,
+    pub length: usize,
+}
+
 // What writing answers: refusal 0 with the sheet's length, or the number of the refusal with 0.
+#[repr(C)]
 pub struct Written {
     pub refusal: u32,
     pub length: usize,
@@ -82,17 +92,34 @@ pub fn label_refusal(sheet: &[u8], job: usize) -> u32
     0
 }
 
+// Where the label of a job lies in the sheet: between two summed label lengths.
+pub fn label_place(sheet: &[u8], job: usize) -> LabelPlace
+    ensures { λ r. ⌜ r ≡ labelPlace (now (sheet .entry)) job ⌝ }
+{
+    let refusal = label_refusal(sheet, job);
+    if refusal != 0 {
+        return LabelPlace {
+            refusal,
+            offset: 0,
+            length: 0,
+        };
+    }
+    let offset = sheet_format::trailer::offset(sheet) as usize;
+    LabelPlace {
+        refusal: 0,
+        offset: sheet_format::records::label_start(sheet, offset, job),
+        length: sheet[offset + RECORD_SIZE * job] as usize,
+    }
+}
+
 // The label of a job: that very part of the sheet, or an empty part where the call is refused.
 pub fn label(sheet: &[u8], job: usize) -> &[u8]
     ensures { λ r. ⌜ (now r ≡ labelOf (now (sheet .entry)) job)
         × (r .ptr ≡ (sheet .entry .ptr .0, labelAt (now (sheet .entry)) job + sheet .entry .ptr .1)) ⌝ }
 {
-    if label_refusal(sheet, job) != 0 {
-        return &sheet[..0];
-    }
-    let offset = sheet_format::trailer::offset(sheet) as usize;
-    let from = sheet_format::records::label_start(sheet, offset, job);
-    let to = from + sheet[offset + RECORD_SIZE * job] as usize;
+    let place = label_place(sheet, job);
+    let from = place.offset;
+    let to = from + place.length;
     &sheet[from..to]
 }
 

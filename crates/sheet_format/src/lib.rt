@@ -6,6 +6,7 @@ pub mod records;
 pub mod trailer;
 
 // A job, in the widths of its record.
+#[repr(C)]
 pub struct Job {
     pub label_len: u8,
     pub modules: u8,

@@ -19,6 +19,10 @@ impl Memory<'_> {
         Memory { bytes, jobs }
     }
 
+    pub fn clear(&mut self) {
+        self.bytes.fill(0);
+    }
+
     /// Where the entries of a set lie, if there is room for any.
     fn group(&self, unplaced: u32) -> Option<usize> {
         let groups = self.bytes.len() / GROUP;

@@ -2,20 +2,13 @@
 //! the proved code costs, and counts the part-plans that it visits.
 mod memory;
 mod part;
+mod tables;
 
-use crate::lists::List;
 use crate::MOST_JOBS;
 use memory::Memory;
 use part::Part;
-
-/// The jobs of a sheet as tables.
-pub struct Tables {
-    need: [u16; MOST_JOBS],
-    minutes: [u16; MOST_JOBS],
-    earlier: [u32; MOST_JOBS],
-    jobs: usize,
-    modules: u16,
-}
+pub use tables::Tables;
+use tables::{has, Ordered, Starts, NONE};
 
 /// What the search finds.
 #[derive(Clone, Debug, PartialEq, Eq)]
@@ -26,129 +19,119 @@ pub struct Found {
     pub visited: u64,
 }
 
-/// The start of a job that may not come next.
-const NONE: u16 = u16::MAX;
-
-/// The start of each job that may come next, and the least of them.
-struct Starts {
-    at: [u16; MOST_JOBS],
-    least: u16,
-}
-
 struct Search<'a> {
     tables: &'a Tables,
     tails: [u16; MOST_JOBS],
+    later: [u32; MOST_JOBS],
     memory: Memory<'a>,
-    end: u16,
-    order: [u8; MOST_JOBS],
+    /// For each placed job the jobs that were tried before it was chosen: none of them leads to an order that ends by the target.
+    settled: [u32; MOST_JOBS],
     visited: u64,
 }
 
-impl Tables {
-    pub fn of(list: &List) -> Tables {
-        let mut tables = Tables {
-            need: [0; MOST_JOBS],
-            minutes: [0; MOST_JOBS],
-            earlier: [0; MOST_JOBS],
-            jobs: list.jobs.len(),
-            modules: list.modules,
-        };
-        for (j, job) in list.jobs.iter().enumerate() {
-            tables.need[j] = job.modules.into();
-            tables.minutes[j] = job.minutes;
-            tables.earlier[j] = job.earlier;
-        }
-        tables
-    }
-
-    fn starts(&self, part: &Part) -> Starts {
-        let mut starts = Starts { at: [NONE; MOST_JOBS], least: NONE };
-        for j in (0..self.jobs).filter(|j| part.may_follow(self.earlier[*j], *j)) {
-            let start = part.start_of(self.jobs, self.earlier[j], self.need[j]);
-            starts.at[j] = start;
-            starts.least = starts.least.min(start);
-        }
-        starts
-    }
-
-    fn place(&self, part: &Part, j: usize, start: u16) -> Part {
-        part.with(j, start, self.need[j], self.minutes[j])
-    }
-
-    /// The longest chain of minutes that begins with each job.
-    fn tails(&self) -> [u16; MOST_JOBS] {
-        let mut tails = [0; MOST_JOBS];
-        for _ in 0..self.jobs {
-            let behind = |j: usize| (0..self.jobs).filter(move |i| self.earlier[*i] >> j & 1 == 1).map(|i| tails[i]).max();
-            tails = std::array::from_fn(|j| self.minutes[j] + behind(j).unwrap_or(0));
-        }
-        tails
-    }
-
-    /// The end of the list plan that takes the heaviest of the jobs that start first; none where no job may come next.
-    fn greedy(&self, weights: &[u16; MOST_JOBS]) -> Option<u16> {
-        let mut part = Part::first(self);
-        while part.unplaced != 0 {
-            let starts = self.starts(&part);
-            let first = (0..self.jobs).filter(|j| starts.at[*j] == starts.least);
-            let heaviest = first.rev().max_by_key(|j| weights[*j]).filter(|_| starts.least != NONE)?;
-            part = self.place(&part, heaviest, starts.least);
-        }
-        Some(part.end())
-    }
-
-    /// One more than the best end of three list heuristics; none where some job would have to end before itself.
-    fn limit(&self, tails: &[u16; MOST_JOBS]) -> Option<u16> {
-        let ends = [self.greedy(tails)?, self.greedy(&self.minutes)?, self.greedy(&self.need)?];
-        ends.into_iter().min().map(|end| end + 1)
-    }
-}
-
 impl Search<'_> {
-    fn visit(&mut self, part: &Part) {
+    /// An order that goes on from this part-plan and ends by the target, where nothing is settled.
+    fn decide(&mut self, part: &Part, target: u16) -> Option<Ordered> {
+        self.settled = [0; MOST_JOBS];
+        self.visit(part, target)
+    }
+
+    fn visit(&mut self, part: &Part, target: u16) -> Option<Ordered> {
         self.visited += 1;
         if part.unplaced == 0 {
-            return self.finish(part);
+            return Some(part.ordered()).filter(|found| found.end <= target);
         }
         let starts = self.tables.starts(part);
-        if self.hopeless(part, &starts) || self.memory.recall(part, starts.least) {
-            return;
+        if self.hopeless(part, &starts, target) || self.memory.recall(part, starts.least) {
+            return None;
         }
-        for (job, start) in starts.at.into_iter().enumerate().take(self.tables.jobs) {
-            if start != NONE {
-                let child = self.tables.place(part, job, start);
-                self.visit(&child);
+        let mut tried = 0;
+        while let Some(job) = starts.next(part.unplaced & !tried, &self.tails) {
+            if !self.passed_over(part, &starts, tried, job) {
+                self.settled[job] = tried;
+                let found = self.visit(&self.tables.place(part, job, starts.at[job]), target);
+                if found.is_some() {
+                    return found;
+                }
             }
+            tried |= 1 << job;
         }
         self.memory.remember(part);
+        None
     }
 
-    fn finish(&mut self, part: &Part) {
-        let end = part.end();
-        if end < self.end {
-            self.end = end;
-            self.order = part.order;
-        }
-    }
-
-    /// Whether no order that goes on from here can end before the best so far, by the area or by a chain.
-    fn hopeless(&self, part: &Part, starts: &Starts) -> bool {
+    /// Whether no order that goes on from here can end by the target, by the area or by a chain.
+    fn hopeless(&self, part: &Part, starts: &Starts, target: u16) -> bool {
         let modules = u32::from(self.tables.modules);
         let taken = modules * u32::from(starts.least) + part.held_after(starts.least) + part.left;
-        let too_long =
-            |(start, tail): (&u16, &u16)| *start != NONE && u32::from(self.end) <= u32::from(*start) + u32::from(*tail);
-        modules * u32::from(self.end) <= taken || starts.at.iter().zip(&self.tails).take(self.tables.jobs).any(too_long)
+        let too_long = |(start, tail): (&u16, &u16)| *start != NONE && target < start + tail;
+        modules * u32::from(target + 1) <= taken || starts.at.iter().zip(&self.tails).any(too_long)
+    }
+
+    /// Whether some job stands for job j, which need not be tried then.
+    fn passed_over(&self, part: &Part, starts: &Starts, tried: u32, j: usize) -> bool {
+        (0..self.tables.jobs).any(|i| {
+            if has(part.unplaced, i) {
+                has(tried, i) && self.comes_first(i, j, starts)
+            } else {
+                has(self.settled[i], j) && self.turns_round(i, j, part.ends[i], starts.at[j])
+            }
+        })
+    }
+
+    /// Whether job i, which was tried, may as well come before job j: it can end before that one starts, or the two are alike.
+    fn comes_first(&self, i: usize, j: usize, starts: &Starts) -> bool {
+        let Tables { need, minutes, .. } = self.tables;
+        let alike = || need[i] == need[j] && minutes[i] == minutes[j] && self.later_within(j, i);
+        starts.at[i] + minutes[i] <= starts.at[j] || alike()
+    }
+
+    /// Whether job j, which was settled when job i was chosen, may as well have come in its place: it would start with it, or as
+    /// soon as it has ended, with its width.
+    fn turns_round(&self, i: usize, j: usize, end: u16, start: u16) -> bool {
+        let Tables { need, minutes, .. } = self.tables;
+        start + minutes[i] == end || need[i] == need[j] && start == end && self.later_within(i, j)
+    }
+
+    /// Whether every job that waits for job i waits for job j as well.
+    fn later_within(&self, i: usize, j: usize) -> bool {
+        self.later[i] & !self.later[j] == 0
+    }
+
+    /// An order that ends first of all.
+    fn lowest(&mut self, listed: Ordered) -> Ordered {
+        let first = Part::first(self.tables);
+        let mut best = listed;
+        while let Some(found) = best.end.checked_sub(1).and_then(|target| self.decide(&first, target)) {
+            best = found;
+        }
+        best
+    }
+
+    /// The tie rule's order, from one that ends first: each place gets the least job that still leads to that end.
+    fn first_order(&mut self, least: Ordered) -> Ordered {
+        let mut best = least;
+        let mut part = Part::first(self.tables);
+        for place in 0..self.tables.jobs {
+            let less = 0..best.order[place].into();
+            let found = less.filter_map(|j| self.tables.go_on(&part, j)).find_map(|child| self.decide(&child, best.end));
+            best = found.unwrap_or(best);
+            part = self.tables.go_on(&part, best.order[place].into()).expect("a job of an order may come next");
+        }
+        best
     }
 }
 
 /// The tie rule's order and its end, or none where some job would have to end before itself.
 pub fn run(tables: &Tables, memory: &mut [u8]) -> Option<Found> {
-    memory.fill(0);
+    let mut memory = Memory::new(memory, tables.jobs);
+    memory.clear();
     let tails = tables.tails();
-    let end = tables.limit(&tails)?;
-    let mut search = Search { tables, tails, memory: Memory::new(memory, tables.jobs), end, order: [0; MOST_JOBS], visited: 0 };
-    search.visit(&Part::first(tables));
-    let found = Found { end: search.end, order: search.order[..tables.jobs].to_vec(), visited: search.visited };
-    memory.fill(0);
-    Some(found)
+    let listed = tables.listed(&tails)?;
+    let mut search = Search { tables, tails, later: tables.later(), memory, settled: [0; MOST_JOBS], visited: 0 };
+    let least = search.lowest(listed);
+    search.memory.clear();
+    let Ordered { end, order } = search.first_order(least);
+    search.memory.clear();
+    Some(Found { end, order: order[..tables.jobs].to_vec(), visited: search.visited })
 }

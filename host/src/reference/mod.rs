@@ -2,3 +2,4 @@
 pub mod desk;
 pub mod planning;
 pub mod reading;
+pub mod writing;

@@ -1,12 +1,15 @@
-//! Reading a job sheet: checks 1 to 7, one after another.
+//! Reading a job sheet: checks 1 to 7, one after another; and the label of a job, with check 14 behind them.
+use std::ops::Range;
 
-/// What planning needs to know of a job.
+/// A job of a sheet.
 #[derive(Clone, Debug, PartialEq, Eq)]
 pub struct Job {
+    pub label_length: usize,
     pub modules: usize,
     pub minutes: u32,
     /// The numbers of the jobs that must have ended first.
     pub earlier: Vec<usize>,
+    pub departure: u32,
 }
 
 /// A sheet that reads.
@@ -56,8 +59,18 @@ pub fn read(bytes: &[u8]) -> Result<Sheet, u32> {
     Ok(Sheet { jobs, modules: modules as usize })
 }
 
+/// Where the label of a job lies in the sheet, or the number of the first check that fails.
+pub fn label(bytes: &[u8], job: usize) -> Result<Range<usize>, u32> {
+    let jobs = read(bytes)?.jobs;
+    let Some(found) = jobs.get(job) else {
+        return Err(14);
+    };
+    let start = jobs[..job].iter().map(|before| before.label_length).sum();
+    Ok(start..start + found.label_length)
+}
+
 /// Whether a field of the record is outside its range, or it waits for a job that there is not.
-fn outside(record: &[u8], n: u64) -> bool {
+pub(super) fn outside(record: &[u8], n: u64) -> bool {
     let label_length = number(&record[0..1]);
     let modules = number(&record[1..2]);
     let minutes = number(&record[2..4]);
@@ -73,8 +86,10 @@ fn outside(record: &[u8], n: u64) -> bool {
 fn job(record: &[u8]) -> Job {
     let earlier = number(&record[4..8]);
     Job {
+        label_length: number(&record[0..1]) as usize,
         modules: number(&record[1..2]) as usize,
         minutes: number(&record[2..4]) as u32,
         earlier: (0..32).filter(|bit| earlier >> bit & 1 == 1).collect(),
+        departure: number(&record[8..10]) as u32,
     }
 }

@@ -1,17 +1,23 @@
 //! Random job sheets, good ones and damaged ones.
 use depot_host::random::Random;
-use depot_host::sheet::{mark_earlier, Job, Sheet};
+use depot_host::raw_sheet::{mark_earlier, Sheet};
+use depot_host::Job;
 
 /// A sheet that reads, of up to 7 jobs: no job is too wide and none waits for itself.
 pub fn good(random: &mut Random) -> Sheet {
     let n = random.place(8);
+    of_size(random, n)
+}
+
+/// Such a sheet of n jobs.
+pub fn of_size(random: &mut Random, n: usize) -> Sheet {
     let most = random.pick(&[1, 2, 2, 3, 4, 5, 8, 64]);
     let modules = random.between(1, most);
     let long = n < 6 && random.percent(10);
     let longest = if long { 1440 } else { random.pick(&[1, 2, 5, 12, 30]) };
     let mut jobs: Vec<Job> = (0..n)
         .map(|_| Job {
-            label_length: random.between(1, 12) as u8,
+            label_len: random.between(1, 12) as u8,
             modules: random.between(1, modules) as u8,
             minutes: random.between(1, longest) as u16,
             earlier: 0,
@@ -20,7 +26,7 @@ pub fn good(random: &mut Random) -> Sheet {
         .collect();
     let percent = random.pick(&[0, 0, 10, 30, 60, 100]);
     mark_earlier(random, &mut jobs, percent);
-    let length = jobs.iter().map(|job| usize::from(job.label_length)).sum();
+    let length = jobs.iter().map(|job| usize::from(job.label_len)).sum();
     let labels: Vec<u8> = (0..length).map(|_| random.between(33, 126) as u8).collect();
     Sheet { offset: length as u32, count: n as u16, modules: modules as u16, labels, jobs }
 }
@@ -40,7 +46,8 @@ pub fn damaged(random: &mut Random, mut sheet: Sheet, checks: &[u32]) -> Vec<u8>
     bytes
 }
 
-fn put_fault(random: &mut Random, sheet: &mut Sheet, check: u32) {
+/// Puts a fault for a check of 2 to 9 into the sheet's parts.
+pub fn put_fault(random: &mut Random, sheet: &mut Sheet, check: u32) {
     let job = random.place(sheet.jobs.len().max(1));
     match check {
         2 => sheet.count = outside(random, 21),
@@ -91,8 +98,8 @@ fn misplace(random: &mut Random, sheet: &mut Sheet) {
 
 fn wrong_field(random: &mut Random, job: &mut Job, n: u16) {
     match random.place(6) {
-        0 => job.label_length = 0,
-        1 => job.label_length = outside(random, 13).min(255) as u8,
+        0 => job.label_len = 0,
+        1 => job.label_len = outside(random, 13).min(255) as u8,
         2 => job.modules = 0,
         3 => job.minutes = if random.percent(30) { 0 } else { outside(random, 1441) },
         4 => job.earlier |= 1 << random.between(u32::from(n).min(31), 31),
@@ -106,7 +113,7 @@ fn wrong_lengths(random: &mut Random, sheet: &mut Sheet, job: usize) {
         sheet.labels.push(b'y');
         sheet.offset += 1;
     } else {
-        let length = &mut sheet.jobs[job].label_length;
+        let length = &mut sheet.jobs[job].label_len;
         *length = 1 + *length % 12;
     }
 }

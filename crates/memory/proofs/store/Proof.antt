@@ -1,20 +1,14 @@
 -- `memory::store` meets its contract.
-use Prim.Native.Nat.{ℕ, _+_, _-_, _*_, _/_, _%_, _≤_, _<_}
-use mathlib.Core.Path.{_≡_, sym, subst, _∙_}
-use mathlib.Core.Logic.{inl, ⊎-elim}
+use Prim.Native.Nat.{_-_}
+use mathlib.Core.Path.{sym, _∙_}
 use native.Mathlib.Omega.{arith}
-use lib.ListN.{length, getD}
-use Rattle.counting.proofs.Tests.{less-or-not}
-use Rattle.words.specs.Words.{u16At, u32At}
-use Rattle.memory.specs.Entries.{lastAt, endAt}
+use Rattle.memory.proofs.Storing.{Storing, storing-head, storing-fits, storing-step, storing-all}
 use borrow.Author.Needs.{needs}
 use Rattle.memory.proofs.store.Statement.{statement}
 use Rattle.memory.proofs.store.Tie as tie
 
 abbrev Inv-loop : tie.InvT-loop
-Inv-loop entry₀ ends jobs unplaced last i₀ entry i =
-    (i ≤ jobs) × (length entry ≡ 46) × (u16At entry 0 ≡ unplaced % 65536) × (u16At entry 2 ≡ unplaced / 65536) × (lastAt entry ≡ last)
-    × ((k : ℕ) → k < i → endAt entry k ≡ getD ends k 0)
+Inv-loop entry₀ ends jobs unplaced last i₀ entry i = Storing ends jobs unplaced last entry i
 
 abbrev μ-loop : tie.MeasureT-loop
 μ-loop entry₀ ends jobs unplaced last i₀ entry i = jobs - i
@@ -47,16 +41,7 @@ loop-holds c =
     let write162 = c .before .before .before .before .before .before .write162 in
     let write163 = c .before .before .write163 in
     let pre = c .before .before .before .before .before .before .before .before .before .before .before .before .before .pre in
-    let a = write16 .ensures in
-    let b = write162 .ensures in
-    let d = write163 .ensures in (
-      omega arith,
-      d .len ∙ b .len ∙ a .len ∙ pre .0,
-      d .other 0 (inl (omega arith)) ∙ b .other 0 (inl (omega arith)) ∙ a .here,
-      d .other 2 (inl (omega arith)) ∙ b .here,
-      d .here,
-      λ k h. absurd (omega arith),
-    )
+    storing-head (pre .0) (pre .1) (write16 .ensures) (write162 .ensures) (write163 .ensures)
 
 mul-write16 : tie.Need-mul-write16 Inv-loop μ-loop
 mul-write16 c = search needs
@@ -73,8 +58,8 @@ element-copy-out-write16 c = search needs
 write16-requires-4 : tie.Need-write16-requires-4 Inv-loop μ-loop
 write16-requires-4 c κs =
     let loop = c .before .before .before .loop in
-    let pre = c .before .before .before .before .before .before .before .before .before .before .before .before .before .before .before .before .before .pre in
-    omega (arith, loop .inv .1, pre .1)
+    let loop-test = c .before .before .loop-test in
+    storing-fits (loop .inv) (loop-test .taken)
 
 add-i : tie.Need-add-i Inv-loop μ-loop
 add-i c = search needs
@@ -84,35 +69,21 @@ loop-less c = search needs
 
 loop-again : tie.Need-loop-again Inv-loop μ-loop
 loop-again c =
-    let args = c .before .before .before .before .before .before .before .before .before .before .before .before .before .before .before .before .before .before .before .before .args in
     let loop = c .before .before .before .before .before .before .loop in
+    let loop-test = c .before .before .before .before .before .loop-test in
     let write164 = c .before .before .write164 in
-    let a = args in
-    let v = loop in
-    let d = write164 .ensures in (
-      omega arith,
-      d .len ∙ v .inv .1,
-      d .other 0 (inl (omega arith)) ∙ v .inv .2,
-      d .other 2 (inl (omega arith)) ∙ v .inv .3,
-      d .other 4 (inl (omega arith)) ∙ v .inv .4,
-      λ k h. ⊎-elim (λ (x : k < v .i). d .other (6 + 2 * k) (inl (omega arith)) ∙ v .inv .5 k x)
-          (λ (x : v .i ≤ k). let e : k ≡ v .i = omega arith in
-          subst (λ (z : ℕ). endAt (write164 .last .0) z ≡ getD (a .ends .now) z 0) (sym e) (d .here))
-          (less-or-not k (v .i)),
-    )
+    storing-step (loop .inv) (loop-test .taken) (write164 .ensures)
 
 same-length : tie.Need-same-length Inv-loop μ-loop
 same-length c =
-    let loop = c .before .loop in
-    let pre = c .before .before .before .before .before .before .before .before .before .before .before .before .before .before .before .pre in
-    loop .inv .1 ∙ sym (pre .0)
+    let loop-at = c .before in
+    let start = loop-at .before .before .before .before .before .before .before .before .before .before .before .before .before .before in
+    loop-at .loop .inv .size ∙ sym (start .pre .0)
 
 returns : tie.Need-returns Inv-loop μ-loop
-unfolding u32At
 returns c =
     let loop = c .before .loop in
-    let v = loop .inv in
-    record { size = v .1; set = omega (arith, v .2, v .3); last = v .4; end = λ i h. v .5 i (omega arith) }
+    storing-all (loop .inv) (c .loop-test .left)
 
 pub store-spec : {M : Type 1} → statement M
 store-spec =

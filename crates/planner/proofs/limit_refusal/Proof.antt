@@ -29,31 +29,31 @@ returns c =
     let a = c .before in
     sym (wide (sheet-of (a .before)) (a .before .args .room) (tested a true (c .if1 .taken)))
 
-greedy-requires : tie.Need-greedy-requires
-greedy-requires c κs =
+list-order-requires : tie.Need-list-order-requires
+list-order-requires c κs =
     let a = c .before in
     a .before .pre .1 (tested a false (c .if1 .left))
 
 returns-2 : tie.Need-returns-2
 returns-2 c =
-    let g = c .before in
+    let g = c .before .before in
     let a = g .before .before in
     sym
-    (circular (sheet-of (a .before)) (a .before .args .room) (tested a false (g .before .if1 .left))
-    (rw (c .if2 .taken) at (g .greedy .ensures)))
+    (circular (sheet-of (a .before)) (a .before .args .room) (tested a false (g .before .if1 .left)) (g .list-order .ensures)
+    (c .if2 .taken))
 
 -- ---- no job is too wide, and some order is found
 
 abbrev narrow-at : tie.Else2 → tie.After-over-wide
-narrow-at c = c .before .before .before
+narrow-at c = c .before .before .before .before
 
 narrow : (c : tie.Else2) → overWide (sheet-of (narrow-at c .before)) ≡ false
-narrow c = tested (narrow-at c) false (c .before .before .if1 .left)
+narrow c = tested (narrow-at c) false (c .before .before .before .if1 .left)
 
 has-order : (c : tie.Else2) → noOrder (sheet-of (narrow-at c .before)) ≡ false
 has-order c =
     let a = narrow-at c in
-    ordered (sheet-of (a .before)) (a .before .args .room) (narrow c) _ (c .before .greedy .ensures) (c .if2 .left)
+    ordered (sheet-of (a .before)) (a .before .args .room) (narrow c) (c .before .before .list-order .ensures) (c .if2 .left)
 
 mul-if3 : tie.Need-mul-if3
 mul-if3 c = search needs
@@ -74,4 +74,4 @@ returns-4 c =
 pub limit-refusal-spec : {M : Type 1} → statement M
 limit-refusal-spec =
     tie.close
-    (tie.spec over-wide-requires returns greedy-requires returns-2 mul-if3 add-if3 returns-3 returns-4)
+    (tie.spec over-wide-requires returns list-order-requires returns-2 mul-if3 add-if3 returns-3 returns-4)

@@ -1,60 +1,82 @@
 -- `search::visit` and `search::try_children`, which call each other, meet their contracts.
-use Prim.Native.Nat.{_+_, _-_, _*_, _≤_, _<_}
-use mathlib.Core.Path.{_≡_, refl, sym, _∙_}
+use mathlib.Core.Path.{_≡_, refl, _∙_}
+use Prim.Native.Nat.{ℕ, suc, _+_, _*_, _<_}
 use native.Mathlib.Omega.{arith}
 use native.Mathlib.Nat.{pos-of-ne-zero}
+use native.Mathlib.Numerals.{add-one}
 use lib.Count.{ones}
-use lib.ListN.{length}
-use Rattle.schedule.proofs.Places.{Upto}
+use lib.ListN.{length, getD}
+use Rattle.tables.specs.Tables.{sheetOf}
 use Rattle.placement.specs.Part.{wordOf}
 use Rattle.placement.proofs.Parts.{left-small}
-use Rattle.search.specs.Search.{Visited}
-use Rattle.search.proofs.Turns.{visit-leaf, visit-cut, held-ready, hopeless-cut, recall-cut, child-none, child-placeable}
-use Rattle.search.proofs.Turns.{child-fewer, child-known, child-enter, child-leave, visit-first, visit-all, visit-remember}
-use borrow.Author.Needs.{needs}
-use Prim.Native.Nat.{ℕ, _<_}
+use Rattle.search.specs.Search.{Remembered}
+use Rattle.search.proofs.Turns.{visit-leaf, held-ready, hopeless-cut, recall-cut, child-placeable}
+use Rattle.search.proofs.Turns.{child-fewer, child-known, child-word, visit-all, visit-remember}
+use Rattle.search.proofs.Steps.{one-less}
+use Rattle.search.proofs.Passing.{passed-cut, settled-more}
+use Rattle.search.proofs.Sweeps.{none-outcome, found-below, Sweep, sweep-first, chosen-in, sweep-next, sweep-all}
 use borrow.Fn.Kinds.{In}
 use borrow.Fn.PlainCycle.{Measures, is, falls, and}
 use Rattle.search.proofs.try_children.Reads as try-children
-use Rattle.search.proofs.try_children.Kinds as try-children-kinds
-use Rattle.search.proofs.+try_children+visit.Lts-try_children as try-children-lts
 use Rattle.search.proofs.visit.Reads as visit
-use Rattle.search.proofs.visit.Kinds as visit-kinds
-use Rattle.search.proofs.+try_children+visit.Lts-visit as visit-lts
+use Rattle.bits.proofs.clear32.Reads as clear32-reads
+use Rattle.bits.proofs.set32.Reads as set32-reads
 use Rattle.memory.proofs.recall.Reads as recall-reads
 use Rattle.memory.proofs.remember.Reads as remember-reads
 use Rattle.placement.proofs.place.Reads as place-reads
 use Rattle.search.proofs.finished.Reads as finished-reads
 use Rattle.search.proofs.hopeless.Reads as hopeless-reads
+use Rattle.search.proofs.next_choice.Reads as next-choice-reads
+use Rattle.search.proofs.none_found.Reads as none-found-reads
+use Rattle.search.proofs.passed_over.Reads as passed-over-reads
 use Rattle.search.proofs.ready_starts.Reads as ready-starts-reads
+use Rattle.search.proofs.with_settled.Reads as with-settled-reads
+use Rattle.search.proofs.try_children.Kinds as try-children-kinds
+use Rattle.search.proofs.+try_children+visit.Lts-try_children as try-children-lts
+use Rattle.search.proofs.visit.Kinds as visit-kinds
+use Rattle.search.proofs.+try_children+visit.Lts-visit as visit-lts
 use Rattle.search.proofs.+try_children+visit.{statement}
 use Rattle.search.proofs.+try_children+visit.Tie.{close}
 
-abbrev μ-try-children : Measures 5 try-children-kinds.ps ℕ
-μ-try-children κs a = ones (a .1 .1 .1 .1 .1 .1 .0 .unplaced) * 2
+abbrev μ-try-children : Measures 7 try-children-kinds.ps ℕ
+μ-try-children κs a = ones (a .1 .1 .1 .1 .1 .1 .1 .0 .unplaced) * 2
 
-abbrev μ-visit : Measures 5 visit-kinds.ps ℕ
-μ-visit κs a = ones (a .1 .1 .1 .1 .1 .1 .0 .unplaced) * 2 + 1
+abbrev μ-visit : Measures 6 visit-kinds.ps ℕ
+μ-visit κs a = ones (a .1 .1 .1 .1 .1 .1 .1 .0 .unplaced) * 2 + 1
 
-abbrev try-children-at : ℕ → In 5 try-children-kinds.ps
+abbrev try-children-at : ℕ → In 7 try-children-kinds.ps
 try-children-at t =
-    and 5 try-children-kinds.ps (is 5 try-children-kinds.ps μ-try-children t) try-children.Pre
+    and 7 try-children-kinds.ps (is 7 try-children-kinds.ps μ-try-children t) try-children.Pre
 
-abbrev try-children-below : ℕ → In 5 try-children-kinds.ps
+abbrev try-children-below : ℕ → In 7 try-children-kinds.ps
 try-children-below t =
     and
-    5
+    7
     try-children-kinds.ps
-    (falls 5 try-children-kinds.ps _<_ μ-try-children t)
+    (falls 7 try-children-kinds.ps _<_ μ-try-children t)
     try-children.Pre
 
-abbrev visit-at : ℕ → In 5 visit-kinds.ps
-visit-at t = and 5 visit-kinds.ps (is 5 visit-kinds.ps μ-visit t) visit.Pre
+abbrev visit-at : ℕ → In 6 visit-kinds.ps
+visit-at t = and 6 visit-kinds.ps (is 6 visit-kinds.ps μ-visit t) visit.Pre
 
-abbrev visit-below : ℕ → In 5 visit-kinds.ps
-visit-below t = and 5 visit-kinds.ps (falls 5 visit-kinds.ps _<_ μ-visit t) visit.Pre
+abbrev visit-below : ℕ → In 6 visit-kinds.ps
+visit-below t = and 6 visit-kinds.ps (falls 6 visit-kinds.ps _<_ μ-visit t) visit.Pre
 
 -- what each member knows of the functions that it calls, at the measure t
+abbrev try-children-claims : ℕ → try-children-lts.Claims
+try-children-claims t = (
+  passed-over-reads.Asked,
+  passed-over-reads.Learnt,
+  none-found-reads.Asked,
+  none-found-reads.Learnt,
+  place-reads.Asked,
+  place-reads.Learnt,
+  with-settled-reads.Asked,
+  with-settled-reads.Learnt,
+  visit-below t,
+  visit.Post,
+)
+
 abbrev visit-claims : ℕ → visit-lts.Claims
 visit-claims t = (
   finished-reads.Asked,
@@ -63,291 +85,398 @@ visit-claims t = (
   ready-starts-reads.Learnt,
   hopeless-reads.Asked,
   hopeless-reads.Learnt,
+  none-found-reads.Asked,
+  none-found-reads.Learnt,
   recall-reads.Asked,
   recall-reads.Learnt,
+  next-choice-reads.Asked,
+  next-choice-reads.Learnt,
   try-children-below t,
   try-children.Post,
+  clear32-reads.Asked,
+  clear32-reads.Learnt,
+  set32-reads.Asked,
+  set32-reads.Learnt,
   remember-reads.Asked,
   remember-reads.Learnt,
 )
 
-abbrev try-children-claims : ℕ → try-children-lts.Claims
-try-children-claims t = (
-  place-reads.Asked,
-  place-reads.Learnt,
-  visit-below t,
-  visit.Post,
-)
+try-children-passed-over-requires : (t : ℕ)
+    → try-children-lts.Need-passed-over-requires (try-children-claims t) (try-children-at t) try-children.Post
+try-children-passed-over-requires t c κs =
+    let p = c .before .before .before .before .before .pre .1 in
+    (p .0 .known .fit .few, omega (arith, p .1 .1 .1 .0, p .0 .known .fit .few))
+
+try-children-none-found-requires : (t : ℕ)
+    → try-children-lts.Need-none-found-requires (try-children-claims t) (try-children-at t) try-children.Post
+try-children-none-found-requires t c κs = tt
 
 try-children-returns : (t : ℕ) → try-children-lts.Need-returns (try-children-claims t) (try-children-at t) try-children.Post
 try-children-returns t c =
-    let args = c .before .before .args in
-    let pre = c .before .before .pre in
-    let a = args in
-    let v = pre .1 .0 in
-    let s = pre .1 .1 in
-    record {
-      state = child-none (a .need .now) (a .minutes .now) (a .earlier .now) (a .tails .now) (a .jobs) (a .modules) (a .part)
-          (v .known) (a .job) (s .1) (a .start) (s .0) (a .best) (a .memory .now) (c .if1 .taken) (v .state);
-      limit = refl;
-    }
+    let start = c .before .before .before .before .before .before .before .before in
+    let a = start .args in
+    let p = start .pre .1 in
+    let known = p .0 .known in
+    let cut = passed-cut (a .need .now) (a .minutes .now) (a .earlier .now) (a .later .now) (a .tails .now) (a .jobs) (a .modules)
+    (a .t8) (a .t9 .by) (a .target) (a .memory .now) (a .at .now) (a .tried) (a .job)
+    (p .0) (p .1 .0) (p .1 .1 .0) (p .1 .1 .1 .0) (p .1 .1 .1 .1)
+    (c .before .before .passed-over .ensures (c .before .if1 .taken)) in
+    (rw (c .none-found .ensures) (none-outcome _ (a .target) _ cut), p .0 .remembered)
 
 try-children-mul-place : (t : ℕ) → try-children-lts.Need-mul-place (try-children-claims t) (try-children-at t) try-children.Post
-try-children-mul-place t c = search needs
+try-children-mul-place t c =
+    let p = c .before .before .before .before .before .before .before .pre .1 in
+    record { fits = omega (arith, p .1 .1 .1 .0, p .0 .known .fit .few) }
 
-try-children-element-copy-out-place : (t : ℕ) → try-children-lts.Need-element-copy-out-place (try-children-claims t) (try-children-at t) try-children.Post
-try-children-element-copy-out-place t c = search needs
+try-children-element-copy-out-place : (t : ℕ)
+    → try-children-lts.Need-element-copy-out-place (try-children-claims t) (try-children-at t) try-children.Post
+try-children-element-copy-out-place t c =
+    let p = c .before .before .before .before .before .before .before .pre .1 in
+    omega (arith, p .1 .1 .1 .0, p .0 .known .fit .few)
 
 try-children-mul-place-2 : (t : ℕ) → try-children-lts.Need-mul-place-2 (try-children-claims t) (try-children-at t) try-children.Post
-try-children-mul-place-2 t c = search needs
+try-children-mul-place-2 t c =
+    let p = c .before .before .before .before .before .before .before .before .pre .1 in
+    record { fits = omega (arith, p .1 .1 .1 .0, p .0 .known .fit .few) }
 
-try-children-element-copy-out-place-2 : (t : ℕ) → try-children-lts.Need-element-copy-out-place-2 (try-children-claims t) (try-children-at t) try-children.Post
-try-children-element-copy-out-place-2 t c = search needs
+try-children-element-copy-out-place-2 : (t : ℕ)
+    → try-children-lts.Need-element-copy-out-place-2 (try-children-claims t) (try-children-at t) try-children.Post
+try-children-element-copy-out-place-2 t c =
+    let p = c .before .before .before .before .before .before .before .before .pre .1 in
+    omega (arith, p .1 .1 .1 .0, p .0 .known .fit .few)
+
+try-children-mul-place-3 : (t : ℕ) → try-children-lts.Need-mul-place-3 (try-children-claims t) (try-children-at t) try-children.Post
+try-children-mul-place-3 t c =
+    let p = c .before .before .before .before .before .before .before .before .before .pre .1 in
+    record { fits = omega (arith, p .1 .1 .1 .0, p .0 .known .fit .few) }
+
+try-children-element-copy-out-place-3 : (t : ℕ)
+    → try-children-lts.Need-element-copy-out-place-3 (try-children-claims t) (try-children-at t) try-children.Post
+try-children-element-copy-out-place-3 t c =
+    let p = c .before .before .before .before .before .before .before .before .before .pre .1 in
+    omega (arith, p .1 .1 .1 .0, p .0 .known .fit .few)
 
 try-children-place-requires : (t : ℕ) → try-children-lts.Need-place-requires (try-children-claims t) (try-children-at t) try-children.Post
 try-children-place-requires t c κs =
-    let args = c .before .before .before .before .args in
-    let pre = c .before .before .before .before .pre in
-    let if1 = c .before .before .if1 in
-    let fits = c .before .before .before .before .fits in
-    let a = args in
-    let v = pre .1 .0 in
-    let s = pre .1 .1 in
-    let low : a .start < 65535 = omega (arith, if1 .left, fits .start .fits) in
-    child-placeable (a .need .now) (a .minutes .now) (a .earlier .now) (a .tails .now) (a .jobs) (a .modules) (a .part)
-    (v .known) (a .job) (s .1) (a .start) (s .0) low
+    let start = c .before .before .before .before .before .before .before .before .before .before in
+    let a = start .args in
+    let p = start .pre .1 in
+    let known = p .0 .known in
+    child-placeable (a .need .now) (a .minutes .now) (a .earlier .now) (a .tails .now) (a .jobs) (a .modules) (a .t8) known (a .job)
+    (p .1 .1 .1 .0) (getD (a .at .now) (a .job) 0)
+    (p .1 .0 (a .job) (p .1 .1 .1 .0)) (p .1 .1 .1 .1)
+
+try-children-with-settled-requires : (t : ℕ)
+    → try-children-lts.Need-with-settled-requires (try-children-claims t) (try-children-at t) try-children.Post
+try-children-with-settled-requires t c κs =
+    let p = c .before .before .before .before .before .before .before .before .before .before .before .pre .1 in
+    omega (arith, p .1 .1 .1 .0, p .0 .known .fit .few)
 
 try-children-visit-requires : (t : ℕ) → try-children-lts.Need-visit-requires (try-children-claims t) (try-children-at t) try-children.Post
 try-children-visit-requires t c κs =
-    let args = c .before .before .before .before .before .before .args in
-    let pre = c .before .before .before .before .before .before .pre in
-    let place = c .before .place in
-    let if1 = c .before .before .before .before .if1 in
-    let fits = c .before .before .before .before .before .before .fits in
-    let a = args in
-    let v = pre .1 .0 in
-    let s = pre .1 .1 in
-    let p = place in
-    let low : a .start < 65535 = omega (arith, if1 .left, fits .start .fits) in
-    let less = child-fewer (a .need .now) (a .minutes .now) (a .earlier .now) (a .tails .now) (a .jobs) (a .modules) (a .part)
-    (v .known) (a .job) (s .1) (a .start) (s .0) low (p .result) (p .ensures) in (
-      omega (arith, pre .0),
+    let start = c .before .before .before .before .before .before .before .before .before .before .before .before .before in
+    let a = start .args in
+    let p = start .pre .1 in
+    let known = p .0 .known in
+    let place = c .before .before .place in
+    let less = child-fewer (a .need .now) (a .minutes .now) (a .earlier .now) (a .tails .now) (a .jobs) (a .modules) (a .t8) known
+    (a .job) (p .1 .1 .1 .0) (getD (a .at .now) (a .job) 0)
+    (p .1 .0 (a .job) (p .1 .1 .1 .0)) (p .1 .1 .1 .1) (place .result) (place .ensures) in
+    let word = child-word (a .need .now) (a .minutes .now) (a .earlier .now) (a .tails .now) (a .jobs) (a .modules) (a .t8) known
+    (a .job) (p .1 .1 .1 .0) (getD (a .at .now) (a .job) 0)
+    (p .1 .0 (a .job) (p .1 .1 .1 .0)) (p .1 .1 .1 .1) (place .result) (place .ensures) in (
+      omega (arith, start .pre .0, less),
       record {
-        known = child-known (a .need .now) (a .minutes .now) (a .earlier .now) (a .tails .now) (a .jobs) (a .modules) (a .part)
-            (v .known) (a .job) (s .1) (a .start) (s .0) low (p .result) (p .ensures);
-        state = child-enter (a .need .now) (a .minutes .now) (a .earlier .now) (a .tails .now) (a .jobs) (a .modules) (a .part)
-            (v .known) (a .job) (s .1) (a .start) (s .0) low (p .result) (p .ensures) (a .best) (a .memory .now) (v .state);
+        low = p .0 .low;
+        known = child-known (a .need .now) (a .minutes .now) (a .earlier .now) (a .tails .now) (a .jobs) (a .modules) (a .t8) known
+            (a .job) (p .1 .1 .1 .0) (getD (a .at .now) (a .job) 0)
+            (p .1 .0 (a .job) (p .1 .1 .1 .0)) (p .1 .1 .1 .1) (place .result) (place .ensures);
+        chains = p .0 .chains;
+        laters = p .0 .laters;
+        settled = rw (c .before .with-settled .ensures, word) (settled-more (a .need .now) (a .minutes .now) (a .earlier .now)
+            (a .later .now) (a .tails .now) (a .jobs) (a .modules) (a .t8) (a .t9 .by) (a .target) (a .memory .now) (a .at .now)
+            (a .tried) (a .job)
+            (p .0) (p .1 .0) (p .1 .1 .0) (p .1 .1 .1 .0) (p .1 .1 .1 .1));
+        remembered = p .0 .remembered;
       },
     )
 
 try-children-same-length : (t : ℕ) → try-children-lts.Need-same-length (try-children-claims t) (try-children-at t) try-children.Post
 try-children-same-length t c =
     let visit = c .before .before .visit in
-    visit .kept .1 .1 .1 .1 .1 .1 .1 .1 .0
+    visit .kept .1 .1 .1 .1 .1 .1 .1 .1 .1 .1 .0
 
 try-children-returns-2 : (t : ℕ) → try-children-lts.Need-returns-2 (try-children-claims t) (try-children-at t) try-children.Post
 try-children-returns-2 t c =
-    let args = c .before .before .before .before .before .before .before .before .before .args in
-    let pre = c .before .before .before .before .before .before .before .before .before .pre in
-    let place = c .before .before .before .before .place in
+    let start = c .before .before .before .before .before .before .before .before .before .before .before .before .before .before .before .before in
+    let a = start .args in
+    let p = start .pre .1 in
+    let known = p .0 .known in
+    let place = c .before .before .before .before .before .place in
+    let word = child-word (a .need .now) (a .minutes .now) (a .earlier .now) (a .tails .now) (a .jobs) (a .modules) (a .t8) known
+    (a .job) (p .1 .1 .1 .0) (getD (a .at .now) (a .job) 0)
+    (p .1 .0 (a .job) (p .1 .1 .1 .0)) (p .1 .1 .1 .1) (place .result) (place .ensures) in
     let visit = c .before .before .visit in
-    let if1 = c .before .before .before .before .before .before .before .if1 in
-    let fits = c .before .before .before .before .before .before .before .before .before .fits in
-    let a = args in
-    let v = pre .1 .0 in
-    let s = pre .1 .1 in
-    let p = place in
-    let r = visit in
-    let low : a .start < 65535 = omega (arith, if1 .left, fits .start .fits) in
-    record {
-      state = child-leave (a .need .now) (a .minutes .now) (a .earlier .now) (a .tails .now) (a .jobs) (a .modules) (a .part)
-          (v .known) (a .job) (s .1) (a .start) (s .0) low (p .result) (p .ensures) (r .result)
-          (r .last .1 .1 .1 .1 .1 .1 .1 .1 .0) (r .ensures .state);
-      limit = r .ensures .limit;
-    }
+    (rw word at (visit .ensures .0), visit .ensures .1)
 
 abbrev visit-Inv-loop : visit-lts.InvT-loop
-visit-Inv-loop need minutes earlier tails jobs modules memory₀ part unplaced at least found₀ job₀ memory found job = (job ≤ jobs) × Visited need minutes earlier tails jobs modules (Upto (wordOf part) job) found₀ found memory × (length memory ≡ length memory₀)
+visit-Inv-loop need minutes earlier later tails jobs modules settled target memory₀ part unplaced at least left₀ tried₀ c₀ memory left tried c =
+    Sweep need minutes earlier jobs modules part target at left tried c
+    × (Remembered (sheetOf need minutes earlier jobs modules) memory (suc target) × (length memory ≡ length memory₀))
 
 abbrev visit-μ-loop : visit-lts.MeasureT-loop
-visit-μ-loop need minutes earlier tails jobs modules memory₀ part unplaced at least found₀ job₀ memory found job = jobs - job
+visit-μ-loop need minutes earlier later tails jobs modules settled target memory₀ part unplaced at least left₀ tried₀ c₀ memory left tried c =
+    ones left
 
 visit-finished-requires : (t : ℕ) → visit-lts.Need-finished-requires (visit-claims t) (visit-at t) visit.Post visit-Inv-loop visit-μ-loop
 visit-finished-requires t c κs =
-    let pre = c .before .before .pre in
-    pre .1 .known .fit .few
+    let p = c .before .before .pre .1 in
+    p .known .fit .few
 
 visit-returns : (t : ℕ) → visit-lts.Need-returns (visit-claims t) (visit-at t) visit.Post visit-Inv-loop visit-μ-loop
 visit-returns t c =
-    let args = c .before .before .before .args in
-    let pre = c .before .before .before .pre in
-    let a = args in
-    let v = pre .1 in
-    let l = visit-leaf (a .need .now) (a .minutes .now) (a .earlier .now) (a .tails .now) (a .jobs) (a .modules) (a .t7)
-    (v .known) (c .before .if1 .taken) (a .best) (a .memory .now) (v .state) in
-    rw (c .finished .ensures) (record { state = l .0; limit = l .1 })
+    let start = c .before .before .before in
+    let a = start .args in
+    let p = start .pre .1 in (
+      rw (c .finished .ensures) (visit-leaf (a .need .now) (a .minutes .now) (a .earlier .now) (a .tails .now) (a .jobs) (a .modules)
+          (a .t8) (p .known) (c .before .if1 .taken) (a .target)),
+      p .remembered,
+    )
 
-visit-ready-starts-requires : (t : ℕ) → visit-lts.Need-ready-starts-requires (visit-claims t) (visit-at t) visit.Post visit-Inv-loop visit-μ-loop
+visit-ready-starts-requires : (t : ℕ)
+    → visit-lts.Need-ready-starts-requires (visit-claims t) (visit-at t) visit.Post visit-Inv-loop visit-μ-loop
 visit-ready-starts-requires t c κs =
-    let pre = c .before .before .pre in
-    pre .1 .known
+    let p = c .before .before .pre .1 in
+    p .known
+
+visit-add-hopeless : (t : ℕ) → visit-lts.Need-add-hopeless (visit-claims t) (visit-at t) visit.Post visit-Inv-loop visit-μ-loop
+visit-add-hopeless t c =
+    let p = c .before .before .before .before .before .pre .1 in
+    record { fits = omega (arith, p .low) }
 
 visit-hopeless-requires : (t : ℕ) → visit-lts.Need-hopeless-requires (visit-claims t) (visit-at t) visit.Post visit-Inv-loop visit-μ-loop
 visit-hopeless-requires t c κs =
-    let args = c .before .before .before .before .before .args in
-    let pre = c .before .before .before .before .before .pre in
-    let ready-starts = c .before .before .ready-starts in
-    let a = args in
-    let v = pre .1 in
-    let r = ready-starts in
-    let small = left-small (a .need .now) (a .minutes .now) (a .earlier .now) (a .jobs) (a .modules) (v .known .fit) (a .t7)
-    (wordOf (a .t7)) (v .known .is) in (
-      held-ready (a .need .now) (a .minutes .now) (a .earlier .now) (a .tails .now) (a .jobs) (a .modules) (a .t7)
-          (v .known) (r .result .at) (r .result .least) (r .ensures),
-      ((small, v .known .fit .most), v .known .fit .few),
+    let start = c .before .before .before .before .before in
+    let a = start .args in
+    let p = start .pre .1 in
+    let r = c .before .before .ready-starts in
+    let small = left-small (a .need .now) (a .minutes .now) (a .earlier .now) (a .jobs) (a .modules) (p .known .fit) (a .t8) (wordOf
+    (a .t8)) (p .known .is) in (
+      held-ready (a .need .now) (a .minutes .now) (a .earlier .now) (a .tails .now) (a .jobs) (a .modules) (a .t8) (p .known)
+          (r .result .at) (r .result .least) (r .ensures),
+      ((small, p .known .fit .most), p .known .fit .few),
     )
+
+visit-none-found-requires : (t : ℕ)
+    → visit-lts.Need-none-found-requires (visit-claims t) (visit-at t) visit.Post visit-Inv-loop visit-μ-loop
+visit-none-found-requires t c κs = tt
 
 visit-returns-2 : (t : ℕ) → visit-lts.Need-returns-2 (visit-claims t) (visit-at t) visit.Post visit-Inv-loop visit-μ-loop
 visit-returns-2 t c =
-    let args = c .before .before .before .before .before .before .before .args in
-    let pre = c .before .before .before .before .before .before .before .pre in
-    let ready-starts = c .before .before .before .before .ready-starts in
-    let if1 = c .before .before .before .before .before .if1 in
-    let hopeless = c .before .hopeless in
-    let a = args in
-    let v = pre .1 in
-    let r = ready-starts in
-    let cut = hopeless-cut (a .need .now) (a .minutes .now) (a .earlier .now) (a .tails .now) (a .jobs) (a .modules) (a .t7)
-    (v .known) (r .result .at) (r .result .least) (r .ensures) (a .best .end) (v .state .chains) (pos-of-ne-zero (if1 .left))
-    (hopeless .ensures (c .if2 .taken)) in
-    record {
-      state = visit-cut (a .need .now) (a .minutes .now) (a .earlier .now) (a .tails .now) (a .jobs) (a .modules) (a .t7)
-          (v .known) (a .best) (a .memory .now) cut (v .state);
-      limit = refl;
-    }
+    let start = c .before .before .before .before .before .before .before .before in
+    let a = start .args in
+    let p = start .pre .1 in
+    let r = c .before .before .before .before .before .ready-starts in
+    let cut = hopeless-cut (a .need .now) (a .minutes .now) (a .earlier .now) (a .tails .now) (a .jobs) (a .modules) (a .t8) (p .known)
+    (r .result .at) (r .result .least) (r .ensures) (a .target + 1) (p .chains)
+    (pos-of-ne-zero (c .before .before .before .before .before .before .if1 .left)) (c .before .before .hopeless .ensures
+    (c .before .if2 .taken)) in
+    (rw (c .none-found .ensures) (none-outcome _ (a .target) _ (rw add-one at cut)), p .remembered)
 
 visit-recall-requires : (t : ℕ) → visit-lts.Need-recall-requires (visit-claims t) (visit-at t) visit.Post visit-Inv-loop visit-μ-loop
 visit-recall-requires t c κs =
-    let pre = c .before .before .before .before .before .before .before .before .before .before .pre in
-    pre .1 .known .fit .few
+    let p = c .before .before .before .before .before .before .before .before .before .before .pre .1 in
+    p .known .fit .few
+
+visit-none-found-requires-2 : (t : ℕ)
+    → visit-lts.Need-none-found-requires-2 (visit-claims t) (visit-at t) visit.Post visit-Inv-loop visit-μ-loop
+visit-none-found-requires-2 t c κs = tt
 
 visit-same-length : (t : ℕ) → visit-lts.Need-same-length (visit-claims t) (visit-at t) visit.Post visit-Inv-loop visit-μ-loop
 visit-same-length t c = refl
 
 visit-returns-3 : (t : ℕ) → visit-lts.Need-returns-3 (visit-claims t) (visit-at t) visit.Post visit-Inv-loop visit-μ-loop
 visit-returns-3 t c =
-    let args = c .before .before .before .before .before .before .before .before .before .before .before .before .args in
-    let pre = c .before .before .before .before .before .before .before .before .before .before .before .before .pre in
-    let ready-starts = c .before .before .before .before .before .before .before .before .before .ready-starts in
-    let if1 = c .before .before .before .before .before .before .before .before .before .before .if1 in
-    let recall = c .before .recall in
-    let a = args in
-    let v = pre .1 in
-    let r = ready-starts in
-    let cut = recall-cut (a .need .now) (a .minutes .now) (a .earlier .now) (a .tails .now) (a .jobs) (a .modules) (a .t7)
-    (v .known) (r .result .at) (r .result .least) (r .ensures) (a .best .end) (a .memory .now) (pos-of-ne-zero (if1 .left))
-    (v .state .remembered) (recall .ensures (c .if3 .taken)) in
-    record {
-      state = visit-cut (a .need .now) (a .minutes .now) (a .earlier .now) (a .tails .now) (a .jobs) (a .modules) (a .t7)
-          (v .known) (a .best) (a .memory .now) cut (v .state);
-      limit = refl;
-    }
+    let start = c .before .before .before .before .before .before .before .before .before .before .before .before .before in
+    let a = start .args in
+    let p = start .pre .1 in
+    let r = c .before .before .before .before .before .before .before .before .before .before .ready-starts in
+    let cut = recall-cut (a .need .now) (a .minutes .now) (a .earlier .now) (a .tails .now) (a .jobs) (a .modules) (a .t8) (p .known)
+    (r .result .at) (r .result .least) (r .ensures) (suc (a .target)) (a .memory .now)
+    (pos-of-ne-zero (c .before .before .before .before .before .before .before .before .before .before .before .if1 .left))
+    (p .remembered) (c .before .before .recall .ensures (c .before .if3 .taken)) in
+    (rw (c .none-found2 .ensures) (none-outcome _ (a .target) _ cut), p .remembered)
+
+visit-next-choice-requires : (t : ℕ)
+    → visit-lts.Need-next-choice-requires (visit-claims t) (visit-at t) visit.Post visit-Inv-loop visit-μ-loop
+visit-next-choice-requires t c κs =
+    let p = c .before .before .before .before .before .before .before .before .before .before .before .before .before .pre .1 in
+    p .known .fit .few
 
 visit-loop-holds : (t : ℕ) → visit-lts.Need-loop-holds (visit-claims t) (visit-at t) visit.Post visit-Inv-loop visit-μ-loop
 visit-loop-holds t c =
-    let args = c .before .before .before .before .before .before .before .before .before .before .before .before .args in
-    let pre = c .before .before .before .before .before .before .before .before .before .before .before .before .pre in
-    let a = args in
-    let v = pre .1 in (
-      omega arith,
-      record {
-        state = visit-first (a .need .now) (a .minutes .now) (a .earlier .now) (a .tails .now) (a .jobs) (a .modules) (a .t7)
-            (v .known) (a .best) (a .memory .now) (v .state);
-        limit = refl;
-      },
-      refl,
+    let start = c .before .before .before .before .before .before .before .before .before .before .before .before .before .before in
+    let a = start .args in
+    let p = start .pre .1 in
+    let r = c .before .before .before .before .before .before .before .before .before .before .before .ready-starts in (
+      sweep-first (a .need .now) (a .minutes .now) (a .earlier .now) (a .jobs) (a .modules) (a .t8) (p .known) (a .target) (r .result .at)
+          (r .ensures .each) (c .next-choice .result) (c .next-choice .ensures),
+      (p .remembered, refl),
     )
 
-visit-mul-try-children : (t : ℕ) → visit-lts.Need-mul-try-children (visit-claims t) (visit-at t) visit.Post visit-Inv-loop visit-μ-loop
-visit-mul-try-children t c =
-    let pre = c .before .before .before .before .before .before .before .before .before .before .before .before .before .before .pre in
-    record { fits = omega (arith, pre .1 .known .fit .few) }
-
-visit-array-read-try-children : (t : ℕ) → visit-lts.Need-array-read-try-children (visit-claims t) (visit-at t) visit.Post visit-Inv-loop visit-μ-loop
-visit-array-read-try-children t c =
-    let pre = c .before .before .before .before .before .before .before .before .before .before .before .before .before .before .pre in
-    omega (arith, pre .1 .known .fit .few)
-
-visit-try-children-requires : (t : ℕ) → visit-lts.Need-try-children-requires (visit-claims t) (visit-at t) visit.Post visit-Inv-loop visit-μ-loop
+visit-try-children-requires : (t : ℕ)
+    → visit-lts.Need-try-children-requires (visit-claims t) (visit-at t) visit.Post visit-Inv-loop visit-μ-loop
 visit-try-children-requires t c κs =
-    let pre = c .before .before .before .before .before .before .before .before .before .before .before .before .before .before .before .pre in
-    let loop = c .before .before .loop in
-    let loop-test = c .before .loop-test in
-    let ready-starts = c .before .before .before .before .before .before .before .before .before .before .before .before .ready-starts in
-    let v = pre .1 in
-    let i = loop in
-    let l = loop-test .taken in
-    (omega (arith, pre .0), (record { known = v .known; state = i .inv .1 .state }, (ready-starts .ensures .each (i .job) l, l)))
+    let start = c .before .before .before .before .before .before .before .before .before .before .before .before .before .before .before .before .before .before .before in
+    let a = start .args in
+    let p = start .pre .1 in
+    let r = c .before .before .before .before .before .before .before .before .before .before .before .before .before .before .before .before .ready-starts in
+    let loop = c .before .before .before .before .loop in
+    let sweep = loop .inv .0 in
+    let l : loop .c .start < 65535 = omega (arith, c .before .before .if4 .taken, sweep .choice .low) in
+    let chosen = sweep .choice .some l in (
+      omega (arith, start .pre .0),
+      (
+        record {
+          low = p .low;
+          known = p .known;
+          chains = p .chains;
+          laters = p .laters;
+          settled = p .settled;
+          remembered = loop .inv .1 .0;
+        },
+        (r .ensures .each, (rw (chosen .1 .1) (sweep .before), (chosen .0, omega (arith, chosen .1 .1)))),
+      ),
+    )
 
-visit-add-job : (t : ℕ) → visit-lts.Need-add-job (visit-claims t) (visit-at t) visit.Post visit-Inv-loop visit-μ-loop
-visit-add-job t c = search needs
+visit-same-length-2 : (t : ℕ) → visit-lts.Need-same-length-2 (visit-claims t) (visit-at t) visit.Post visit-Inv-loop visit-μ-loop
+visit-same-length-2 t c =
+    let loop = c .before .before .before .before .before .before .before .before .loop in
+    c .before .before .before .try-children .kept .1 .1 .1 .1 .1 .1 .1 .1 .1 .1 .1 .1 .1 .0 ∙ loop .inv .1 .1
+
+visit-returns-4 : (t : ℕ) → visit-lts.Need-returns-4 (visit-claims t) (visit-at t) visit.Post visit-Inv-loop visit-μ-loop
+visit-returns-4 t c =
+    let start = c .before .before .before .before .before .before .before .before .before .before .before .before .before .before .before .before .before .before .before .before .before .before .before in
+    let a = start .args in
+    let p = start .pre .1 in
+    let loop = c .before .before .before .before .before .before .before .before .loop in
+    let try = c .before .before .before .try-children in
+    (found-below _ (a .target) (wordOf (a .t8)) (loop .c .job) _ (try .ensures .0) (c .if5 .taken), try .ensures .1)
+
+visit-clear32-requires : (t : ℕ) → visit-lts.Need-clear32-requires (visit-claims t) (visit-at t) visit.Post visit-Inv-loop visit-μ-loop
+visit-clear32-requires t c κs =
+    let loop = c .before .before .before .before .before .before .before .before .loop in
+    let sweep = loop .inv .0 in
+    let p = c .before .before .before .before .before .before .before .before .before .before .before .before .before .before .before .before .before .before .before .before .before .before .before .pre .1 in
+    let l : loop .c .start < 65535 = omega (arith, c .before .before .before .before .before .before .if4 .taken, sweep .choice .low) in
+    omega (arith, sweep .choice .some l .0, p .known .fit .few)
+
+visit-set32-requires : (t : ℕ) → visit-lts.Need-set32-requires (visit-claims t) (visit-at t) visit.Post visit-Inv-loop visit-μ-loop
+visit-set32-requires t c κs =
+    let loop = c .before .before .before .before .before .before .before .before .before .loop in
+    let sweep = loop .inv .0 in
+    let p = c .before .before .before .before .before .before .before .before .before .before .before .before .before .before .before .before .before .before .before .before .before .before .before .before .pre .1 in
+    let l : loop .c .start < 65535 = omega
+    (arith, c .before .before .before .before .before .before .before .if4 .taken, sweep .choice .low) in
+    omega (arith, sweep .choice .some l .0, p .known .fit .few)
+
+visit-next-choice-requires-2 : (t : ℕ)
+    → visit-lts.Need-next-choice-requires-2 (visit-claims t) (visit-at t) visit.Post visit-Inv-loop visit-μ-loop
+visit-next-choice-requires-2 t c κs =
+    let p = c .before .before .before .before .before .before .before .before .before .before .before .before .before .before .before .before .before .before .before .before .before .before .before .before .before .before .pre .1 in
+    p .known .fit .few
 
 visit-loop-less : (t : ℕ) → visit-lts.Need-loop-less (visit-claims t) (visit-at t) visit.Post visit-Inv-loop visit-μ-loop
-visit-loop-less t c = search needs
+visit-loop-less t c =
+    let start = c .before .before .before .before .before .before .before .before .before .before .before .before .before .before .before .before .before .before .before .before .before .before .before .before .before .before .before in
+    let a = start .args in
+    let p = start .pre .1 in
+    let r = c .before .before .before .before .before .before .before .before .before .before .before .before .before .before .before .before .before .before .before .before .before .before .before .before .ready-starts in
+    let loop = c .before .before .before .before .before .before .before .before .before .before .before .before .loop in
+    let sweep = loop .inv .0 in
+    let l : loop .c .start < 65535 = omega
+    (arith, c .before .before .before .before .before .before .before .before .before .before .if4 .taken, sweep .choice .low) in
+    rw (c .before .before .before .clear32 .ensures) (one-less (chosen-in (a .need .now) (a .minutes .now) (a .earlier .now) (a .jobs)
+    (a .modules) (a .t8) (p .known) (a .target) (r .result .at) (r .ensures .each) (loop .left) (loop .c) (sweep .choice) l))
 
 visit-loop-again : (t : ℕ) → visit-lts.Need-loop-again (visit-claims t) (visit-at t) visit.Post visit-Inv-loop visit-μ-loop
 visit-loop-again t c =
-    let loop = c .before .before .before .before .before .loop in
-    let try-children = c .before .before .try-children in
-    let i = loop .inv in
-    let r = try-children in (
-      omega arith,
-      record { state = r .ensures .state; limit = r .ensures .limit ∙ i .1 .limit },
-      r .kept .1 .1 .1 .1 .1 .1 .1 .1 .1 .1 .0 ∙ i .2,
+    let start = c .before .before .before .before .before .before .before .before .before .before .before .before .before .before .before .before .before .before .before .before .before .before .before .before .before .before .before in
+    let a = start .args in
+    let p = start .pre .1 in
+    let r = c .before .before .before .before .before .before .before .before .before .before .before .before .before .before .before .before .before .before .before .before .before .before .before .before .ready-starts in
+    let loop = c .before .before .before .before .before .before .before .before .before .before .before .before .loop in
+    let sweep = loop .inv .0 in
+    let try = c .before .before .before .before .before .before .before .try-children in
+    let l : loop .c .start < 65535 = omega
+    (arith, c .before .before .before .before .before .before .before .before .before .before .if4 .taken, sweep .choice .low) in (
+      rw (c .before .before .before .clear32 .ensures, c .before .before .set32 .ensures)
+          (sweep-next (a .need .now) (a .minutes .now) (a .earlier .now) (a .jobs) (a .modules) (a .t8) (p .known) (a .target)
+          (r .result .at) (r .ensures .each) (loop .left) (loop .tried) (loop .c) (c .next-choice2 .result) sweep l
+          (try .ensures .0 .miss (c .before .before .before .before .if5 .left)) (rw (c .before .before .before .clear32 .ensures) at
+          (c .next-choice2 .ensures))),
+      (try .ensures .1, try .kept .1 .1 .1 .1 .1 .1 .1 .1 .1 .1 .1 .1 .1 .0 ∙ loop .inv .1 .1),
     )
 
 visit-remember-requires : (t : ℕ) → visit-lts.Need-remember-requires (visit-claims t) (visit-at t) visit.Post visit-Inv-loop visit-μ-loop
 visit-remember-requires t c κs =
-    let pre = c .before .before .before .before .before .before .before .before .before .before .before .before .before .before .before .before .before .pre in
-    pre .1 .known .fit .few
+    let p = c .before .before .before .before .before .before .before .before .before .before .before .before .before .before .before .before .before .before .before .before .pre .1 in
+    p .known .fit .few
 
-visit-same-length-2 : (t : ℕ) → visit-lts.Need-same-length-2 (visit-claims t) (visit-at t) visit.Post visit-Inv-loop visit-μ-loop
-visit-same-length-2 t c =
-    let remember = c .before .before .remember in
-    let loop = c .before .before .before .before .before .before .before .loop in
-    remember .kept .0 ∙ loop .inv .2
+visit-none-found-requires-3 : (t : ℕ)
+    → visit-lts.Need-none-found-requires-3 (visit-claims t) (visit-at t) visit.Post visit-Inv-loop visit-μ-loop
+visit-none-found-requires-3 t c κs = tt
 
-visit-returns-4 : (t : ℕ) → visit-lts.Need-returns-4 (visit-claims t) (visit-at t) visit.Post visit-Inv-loop visit-μ-loop
-visit-returns-4 t c =
-    let args = c .before .before .before .before .before .before .before .before .before .before .before .before .before .before .before .before .before .before .before .before .args in
-    let pre = c .before .before .before .before .before .before .before .before .before .before .before .before .before .before .before .before .before .before .before .before .pre in
-    let loop = c .before .before .before .before .before .before .before .loop in
-    let loop-test = c .before .before .before .before .before .before .loop-test in
-    let remember = c .before .before .remember in
-    let if1 = c .before .before .before .before .before .before .before .before .before .before .before .before .before .before .before .before .before .before .if1 in
-    let a = args in
-    let v = pre .1 in
-    let i = loop in
-    let all : i .job ≡ a .jobs = omega (arith, i .inv .0, loop-test .left) in
-    record {
-      state = visit-remember (a .need .now) (a .minutes .now) (a .earlier .now) (a .tails .now) (a .jobs) (a .modules) (a .t7)
-          (v .known) (i .found) (i .memory) (remember .last .0)
-          (visit-all (a .need .now) (a .minutes .now) (a .earlier .now) (a .tails .now) (a .jobs) (a .modules) (a .t7)
-          (v .known) (i .found) (i .memory) (i .job) (pos-of-ne-zero (if1 .left)) all (i .inv .1 .state))
-          (remember .ensures);
-      limit = i .inv .1 .limit;
-    }
+visit-same-length-3 : (t : ℕ) → visit-lts.Need-same-length-3 (visit-claims t) (visit-at t) visit.Post visit-Inv-loop visit-μ-loop
+visit-same-length-3 t c =
+    let loop = c .before .before .before .before .before .before .before .before .before .loop in
+    c .before .before .before .remember .kept .0 ∙ loop .inv .1 .1
+
+visit-returns-5 : (t : ℕ) → visit-lts.Need-returns-5 (visit-claims t) (visit-at t) visit.Post visit-Inv-loop visit-μ-loop
+visit-returns-5 t c =
+    let start = c .before .before .before .before .before .before .before .before .before .before .before .before .before .before .before .before .before .before .before .before .before .before .before .before in
+    let a = start .args in
+    let p = start .pre .1 in
+    let r = c .before .before .before .before .before .before .before .before .before .before .before .before .before .before .before .before .before .before .before .before .before .ready-starts in
+    let loop = c .before .before .before .before .before .before .before .before .before .loop in
+    let remember = c .before .before .before .remember in
+    let all = sweep-all (a .need .now) (a .minutes .now) (a .earlier .now) (a .jobs) (a .modules) (a .t8) (p .known) (a .target)
+    (r .result .at) (r .ensures .each) (loop .left) (loop .tried) (loop .c) (loop .inv .0)
+    (c .before .before .before .before .before .before .before .if4 .left) in
+    let cut = visit-all (a .need .now) (a .minutes .now) (a .earlier .now) (a .tails .now) (a .jobs) (a .modules) (a .t8) (p .known)
+    (a .target) (pos-of-ne-zero
+    (c .before .before .before .before .before .before .before .before .before .before .before .before .before .before .before .before .before .before .before .before .before .before .if1 .left)) all in (
+      rw (c .none-found3 .ensures) (none-outcome _ (a .target) _ cut),
+      visit-remember (a .need .now) (a .minutes .now) (a .earlier .now) (a .tails .now) (a .jobs) (a .modules) (a .t8) (p .known)
+          (a .target) (loop .memory) (remember .last .0) (loop .inv .1 .0) cut (remember .ensures),
+    )
 
 pub +try-children+visit-spec : {M : Type 1} → statement M
-+try-children+visit-spec = close μ-try-children μ-visit (λ t. try-children-lts.spec (try-children-claims t)
++try-children+visit-spec = close μ-try-children μ-visit (λ t. try-children-lts.spec (
+  passed-over-reads.Asked,
+  passed-over-reads.Learnt,
+  none-found-reads.Asked,
+  none-found-reads.Learnt,
+  place-reads.Asked,
+  place-reads.Learnt,
+  with-settled-reads.Asked,
+  with-settled-reads.Learnt,
+  visit-below t,
+  visit.Post,
+)
     (try-children-at t)
     try-children.Post
+    (try-children-passed-over-requires t)
+    (try-children-none-found-requires t)
     (try-children-returns t)
     (try-children-mul-place t)
     (try-children-element-copy-out-place t)
     (try-children-mul-place-2 t)
     (try-children-element-copy-out-place-2 t)
+    (try-children-mul-place-3 t)
+    (try-children-element-copy-out-place-3 t)
     (try-children-place-requires t)
+    (try-children-with-settled-requires t)
     (try-children-visit-requires t)
     (try-children-same-length t)
     (try-children-returns-2 t))
@@ -358,10 +487,18 @@ pub +try-children+visit-spec : {M : Type 1} → statement M
       ready-starts-reads.Learnt,
       hopeless-reads.Asked,
       hopeless-reads.Learnt,
+      none-found-reads.Asked,
+      none-found-reads.Learnt,
       recall-reads.Asked,
       recall-reads.Learnt,
+      next-choice-reads.Asked,
+      next-choice-reads.Learnt,
       try-children-below t,
       try-children.Post,
+      clear32-reads.Asked,
+      clear32-reads.Learnt,
+      set32-reads.Asked,
+      set32-reads.Learnt,
       remember-reads.Asked,
       remember-reads.Learnt,
     )
@@ -372,18 +509,25 @@ pub +try-children+visit-spec : {M : Type 1} → statement M
     (visit-finished-requires t)
     (visit-returns t)
     (visit-ready-starts-requires t)
+    (visit-add-hopeless t)
     (visit-hopeless-requires t)
+    (visit-none-found-requires t)
     (visit-returns-2 t)
     (visit-recall-requires t)
+    (visit-none-found-requires-2 t)
     (visit-same-length t)
     (visit-returns-3 t)
+    (visit-next-choice-requires t)
     (visit-loop-holds t)
-    (visit-mul-try-children t)
-    (visit-array-read-try-children t)
     (visit-try-children-requires t)
-    (visit-add-job t)
+    (visit-same-length-2 t)
+    (visit-returns-4 t)
+    (visit-clear32-requires t)
+    (visit-set32-requires t)
+    (visit-next-choice-requires-2 t)
     (visit-loop-less t)
     (visit-loop-again t)
     (visit-remember-requires t)
-    (visit-same-length-2 t)
-    (visit-returns-4 t)
+    (visit-none-found-requires-3 t)
+    (visit-same-length-3 t)
+    (visit-returns-5 t)

@@ -34,11 +34,11 @@ loop-again c = (search needs, c .lengthen .ensures)
 
 returns : tie.Need-returns Inv-loop μ-loop
 returns c =
-    let args = c .before .before .args in
+    let a = c .before .before .args in
     let loop = c .before .loop in
-    let a = args in
     let e : loop .k ≡ a .jobs = omega (arith, loop .inv .0, c .loop-test .left) in
-    subst (λ (n : ℕ). ChainsOf (a .need .now) (a .minutes .now) (a .earlier .now) (a .jobs) (a .modules) (loop .tails .at) n) e (loop .inv .1)
+    subst (λ (n : ℕ). ChainsOf (a .need .now) (a .minutes .now) (a .earlier .now) (a .jobs) (a .modules) (loop .tails .at) n)
+    e (loop .inv .1)
 
 pub chains-spec : {M : Type 1} → statement M
 chains-spec =

@@ -3,7 +3,7 @@ use Prim.Native.Nat.{ℕ, _-_}
 use native.Mathlib.Omega.{arith}
 use lib.ListN.{length-replicate}
 use Rattle.search.proofs.Chaining.{Lengthening, lengthening-none, behind-short, lengthening-step, lengthening-all}
-use borrow.Author.Needs.{needs}
+use Rattle.search.proofs.Steps.{in-20, at-2, next-fits, fewer-left}
 use Rattle.search.proofs.lengthen.Statement.{statement}
 use Rattle.search.proofs.lengthen.Tie as tie
 
@@ -19,17 +19,18 @@ loop-holds c = lengthening-none _ (c .pre .0) (c .pre .1 .0) (c .pre .1 .1) (len
 mul-next : tie.Need-mul-next Inv-loop μ-loop
 mul-next c =
     let pre = c .before .before .pre in
-    record { fits = omega (arith, pre .0 .few) }
+    at-2 (c .loop-test .taken) (pre .0 .few)
 
 element-copy-out-next : tie.Need-element-copy-out-next Inv-loop μ-loop
 element-copy-out-next c =
     let pre = c .before .before .pre in
-    omega (arith, pre .0 .few)
+    in-20 (c .loop-test .taken) (pre .0 .few)
 
 longest-behind-requires : tie.Need-longest-behind-requires Inv-loop μ-loop
 longest-behind-requires c κs =
     let pre = c .before .before .before .before .before .pre in
-    (pre .0 .few, omega (arith, pre .0 .few))
+    let loop-test = c .before .before .before .loop-test in
+    (pre .0 .few, in-20 (loop-test .taken) (pre .0 .few))
 
 add-next : tie.Need-add-next Inv-loop μ-loop
 add-next c =
@@ -43,18 +44,25 @@ add-next c =
 mul-next-2 : tie.Need-mul-next-2 Inv-loop μ-loop
 mul-next-2 c =
     let pre = c .before .before .before .before .before .before .pre in
-    record { fits = omega (arith, pre .0 .few) }
+    let loop-test = c .before .before .before .before .loop-test in
+    at-2 (loop-test .taken) (pre .0 .few)
 
 array-write-next : tie.Need-array-write-next Inv-loop μ-loop
 array-write-next c =
     let pre = c .before .before .before .before .before .before .pre in
-    omega (arith, pre .0 .few)
+    let loop-test = c .before .before .before .before .loop-test in
+    in-20 (loop-test .taken) (pre .0 .few)
 
 add-j : tie.Need-add-j Inv-loop μ-loop
-add-j c = search needs
+add-j c =
+    let pre = c .before .before .before .before .before .before .pre in
+    let loop-test = c .before .before .before .before .loop-test in
+    next-fits (loop-test .taken) (pre .0 .few)
 
 loop-less : tie.Need-loop-less Inv-loop μ-loop
-loop-less c = search needs
+loop-less c =
+    let loop-test = c .before .before .before .before .loop-test in
+    fewer-left (loop-test .taken)
 
 loop-again : tie.Need-loop-again Inv-loop μ-loop
 loop-again c =

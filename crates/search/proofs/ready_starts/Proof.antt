@@ -1,6 +1,5 @@
 -- `search::ready_starts` meets its contract.
 use Prim.Native.Nat.{ℕ, _-_}
-use mathlib.Core.Path.{_≡_}
 use native.Mathlib.Omega.{arith}
 use lib.ListN.{length-replicate}
 use Rattle.search.proofs.Candidates.{Starting, starting-none, starting-step, starting-all}

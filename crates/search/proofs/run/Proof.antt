@@ -2,7 +2,8 @@
 use mathlib.Core.Path.{_≡_, ap, _∙_}
 use Prim.Native.Nat.{ℕ}
 use lib.ListN.{length, replicate}
-use Rattle.search.proofs.Whole.{run-start, run-end}
+use Rattle.search.proofs.Recalls.{remembered-none}
+use Rattle.search.proofs.Listing.{first-known, listed-circular, listed-order}
 use borrow.Author.Needs.{needs}
 use Rattle.search.proofs.run.Statement.{statement}
 use Rattle.search.proofs.run.Tie as tie
@@ -13,46 +14,73 @@ clear-requires c κs = search needs
 chains-requires : tie.Need-chains-requires
 chains-requires c κs = search needs
 
-limit-of-requires : tie.Need-limit-of-requires
-limit-of-requires c κs = search needs
+later-jobs-requires : tie.Need-later-jobs-requires
+later-jobs-requires c κs = search needs
 
-first-part-requires : tie.Need-first-part-requires
-first-part-requires c κs = search needs
-
-visit-requires : tie.Need-visit-requires
-visit-requires c κs =
-    let args = c .before .before .before .before .before .before .before .before .before .before .before .before .args in
-    let first-part = c .before .before .first-part in
-    let pre = c .before .before .before .before .before .before .before .before .before .before .before .before .pre in
-    let chains = c .before .before .before .before .before .before .chains in
-    let clear = c .before .before .before .before .before .before .before .before .before .clear in
-    let limit-of = c .before .before .before .limit-of in
-    let a = args in
-    rw (first-part .ensures) (run-start (a .need .now) (a .minutes .now) (a .earlier .now) (a .jobs) (a .modules) (pre) (chains .result .at) (clear .last .0) (limit-of .result)
-    (length (a .memory .now)) (chains .ensures) (clear .ensures))
-
-clear-requires-2 : tie.Need-clear-requires-2
-clear-requires-2 c κs = search needs
+first-listed-requires : tie.Need-first-listed-requires
+first-listed-requires c κs = search needs
 
 same-length : tie.Need-same-length
 same-length c = search needs
 
 returns : tie.Need-returns
-returns c =
-    let args = c .before .before .before .before .before .before .before .before .before .before .before .before .before .before .before .before .before .before .before .args in
-    let visit = c .before .before .before .before .before .before .visit in
-    let clear = c .before .before .before .before .before .before .before .before .before .before .before .before .before .before .before .before .clear in
-    let pre = c .before .before .before .before .before .before .before .before .before .before .before .before .before .before .before .before .before .before .before .pre in
-    let chains = c .before .before .before .before .before .before .before .before .before .before .before .before .before .chains in
-    let limit-of = c .before .before .before .before .before .before .before .before .before .before .limit-of in
-    let first-part = c .before .before .before .before .before .before .before .before .before .first-part in
-    let clear2 = c .before .before .clear2 in
-    let a = args in
-    let v = visit in
-    let size : length (v .last .1 .1 .1 .1 .1 .1 .1 .1 .0) ≡ length (a .memory .now) = v .kept .1 .1 .1 .1 .1 .1 .1 .1 .0 ∙ clear .kept .0 in (
-      run-end (a .need .now) (a .minutes .now) (a .earlier .now) (a .jobs) (a .modules) (pre) (chains .result .at) (v .last .1 .1 .1 .1 .1 .1 .1 .1 .0)
-          (limit-of .result) (v .result) (limit-of .ensures) (rw (first-part .ensures) at (v .ensures)),
-      clear2 .ensures ∙ ap (λ (k : ℕ). replicate k 0) size,
+returns c = (
+  listed-circular (c .before .before .first-listed .ensures)
+      (c .if1 .taken),
+  c .before .before .before .before .before .before .before .before .before .before .clear .ensures,
+)
+
+lowest-requires : tie.Need-lowest-requires
+lowest-requires c κs =
+    let start = c .before .before .before .before .before .before .before .before .before .before .before .before .before .before .before .before in
+    let a = start .args in
+    record {
+      fit = start .pre;
+      chains = c .before .before .before .before .before .before .before .before .before .before .chains .ensures .each;
+      laters = c .before .before .before .before .before .before .before .before .later-jobs .ensures;
+      best-is = listed-order (c .before .before .before .before .before .first-listed .ensures) (c .before .before .before .if1 .left);
+      remembered = remembered-none _ _ (length (a .memory .now)) _
+          (c .before .before .before .before .before .before .before .before .before .before .before .before .before .clear .ensures);
+    }
+
+clear-requires-2 : tie.Need-clear-requires-2
+clear-requires-2 c κs = search needs
+
+first-order-requires : tie.Need-first-order-requires
+first-order-requires c κs =
+    let start = c .before .before .before .before .before .before .before .before .before .before .before .before .before .before .before .before .before .before .before .before .before .before .before .before .before .before in
+    let a = start .args in
+    let lowest = c .before .before .before .before .before .before .before .before .before .lowest .ensures in (
+      lowest,
+      record {
+        low = lowest .is .low;
+        known = first-known (a .need .now) (a .minutes .now) (a .earlier .now) (a .jobs) (a .modules) (start .pre);
+        chains = c .before .before .before .before .before .before .before .before .before .before .before .before .before .before .before .before .before .before .before .before .chains .ensures .each;
+        laters = c .before .before .before .before .before .before .before .before .before .before .before .before .before .before .before .before .before .before .later-jobs .ensures;
+        remembered = remembered-none _ _ (length
+            (c .before .before .before .before .before .before .before .before .before .lowest .last .1 .1 .1 .1 .1 .1 .1 .1 .0)) _
+            (c .before .before .before .before .before .clear2 .ensures);
+      },
+    )
+
+clear-requires-3 : tie.Need-clear-requires-3
+clear-requires-3 c κs = search needs
+
+-- the memory's length, up to the last clearing
+memory-length : (c : tie.After-slice-known6)
+    → length (c .before .before .before .before .before .before .first-order .last .1 .1 .1 .1 .1 .1 .1 .1 .0) ≡ length
+    (c .before .before .before .before .before .before .before .before .before .before .before .before .before .before .before .before .before .before .before .before .before .before .before .before .before .before .before .before .before .before .before .before .before .args .memory .now)
+memory-length c =
+    c .before .before .before .before .before .before .first-order .kept .1 .1 .1 .1 .1 .1 .1 .1 .0 ∙ c .before .before .before .before .before .before .before .before .before .before .before .before .clear2 .kept .0 ∙ c .before .before .before .before .before .before .before .before .before .before .before .before .before .before .before .before .lowest .kept .1 .1 .1 .1 .1 .1 .1 .1 .0 ∙ c .before .before .before .before .before .before .before .before .before .before .before .before .before .before .before .before .before .before .before .before .before .before .before .before .before .before .before .before .before .before .clear .kept .0
+
+same-length-2 : tie.Need-same-length-2
+same-length-2 c = c .before .before .clear3 .kept .0 ∙ memory-length c
+
+returns-2 : tie.Need-returns-2
+returns-2 c =
+    let found = c .before .before .before .before .before .before .first-order .ensures in (
+      record { best = λ _. found .0; end = λ _. found .1 },
+      c .before .before .clear3 .ensures ∙ ap (λ (k : ℕ). replicate k 0) (memory-length c),
     )
 
 pub run-spec : {M : Type 1} → statement M
@@ -61,9 +89,13 @@ run-spec =
     (tie.spec
     clear-requires
     chains-requires
-    limit-of-requires
-    first-part-requires
-    visit-requires
-    clear-requires-2
+    later-jobs-requires
+    first-listed-requires
     same-length
-    returns)
+    returns
+    lowest-requires
+    clear-requires-2
+    first-order-requires
+    clear-requires-3
+    same-length-2
+    returns-2)

@@ -1,6 +1,5 @@
 -- `search::some_too_long` meets its contract.
 use Prim.Native.Nat.{_-_, _≤_}
-use native.Mathlib.Omega.{arith}
 use Rattle.memory.proofs.Slots.{no}
 use borrow.Author.Needs.{needs}
 use Rattle.search.proofs.some_too_long.Statement.{statement}

@@ -1,6 +1,5 @@
 -- `search::start_or_none` meets its contract.
 use mathlib.Core.Path.{sym, _∙_}
-use Rattle.placement.specs.Part.{wordOf}
 use Rattle.search.proofs.Candidates.{start-ready, start-none}
 use borrow.Author.Needs.{needs}
 use Rattle.search.proofs.start_or_none.Statement.{statement}

@@ -1,6 +1,7 @@
 //! Processor time: what other programs do on the same machine does not count.
 use std::ffi::c_int;
 use std::fs;
+use std::hint::black_box;
 use std::time::Duration;
 
 #[repr(C)]
@@ -30,4 +31,14 @@ pub fn of_process(id: u32) -> Option<Duration> {
     let fields: Vec<&str> = text.rsplit_once(')')?.1.split_whitespace().collect();
     let ticks: u64 = fields.get(11..13)?.iter().map(|field| field.parse::<u64>().unwrap_or(0)).sum();
     Some(Duration::from_millis(10 * ticks))
+}
+
+/// How long a call takes, in nanoseconds, from many calls one after another.
+pub fn nanoseconds(mut call: impl FnMut(u32) -> bool) -> f64 {
+    const CALLS: u32 = 1_000_000;
+    let start = now();
+    for i in 0..CALLS {
+        black_box(call(black_box(i)));
+    }
+    (now() - start) * 1e9 / f64::from(CALLS)
 }

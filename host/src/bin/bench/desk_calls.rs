@@ -1,9 +1,6 @@
 //! The desk's calls, in nanoseconds.
-use crate::clock;
+use crate::clock::nanoseconds;
 use depot_host::Desk;
-use std::hint::black_box;
-
-const CALLS: u32 = 2_000_000;
 
 pub fn measure() {
     let desk = Desk::open(4096, &[500; 8], &[4096; 8]).expect("a desk of eight controllers");
@@ -16,12 +13,4 @@ pub fn measure() {
     println!("  claim refused    {:>7.1}", nanoseconds(|i| refused.claim(i % 8, 4000).is_ok()));
     let opening = nanoseconds(|i| Desk::open(4096, &[i % 500; 8], &[4096; 8]).is_ok());
     println!("  opening          {opening:>7.1}");
-}
-
-fn nanoseconds(mut call: impl FnMut(u32) -> bool) -> f64 {
-    let start = clock::now();
-    for i in 0..CALLS {
-        black_box(call(black_box(i)));
-    }
-    (clock::now() - start) * 1e9 / f64::from(CALLS)
 }

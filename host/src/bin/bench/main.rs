@@ -1,9 +1,10 @@
-//! Measures the library: planning by size and working memory beside the same search in plain Rust, the stack, and desk calls.
+//! Measures the library: planning by size and working memory beside the same search in plain Rust, the stack, and the other calls.
 mod child;
 mod clock;
 mod desk_calls;
 mod options;
 mod planning;
+mod sheet_calls;
 mod stack_need;
 
 use options::{Options, Part, USAGE};
@@ -26,6 +27,7 @@ fn main() {
         match part {
             Part::Plans => planning::measure(&options),
             Part::Stack => stack_need::measure(),
+            Part::Sheets => sheet_calls::measure(),
             Part::Desk => desk_calls::measure(),
         }
     }

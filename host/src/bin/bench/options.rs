@@ -8,7 +8,8 @@ usage: bench [PART..] [OPTION..]
 
 parts, all of them where none is named:
   plans            planning, a line for each size and working memory
-  stack            the stack that planning needs at 20 jobs
+  stack            the stack that each call needs, planning at 20 jobs
+  sheets           reading, labels and writing of the longest sheet
   desk             the desk's calls
 
 options of plans:
@@ -25,6 +26,7 @@ options of plans:
 pub enum Part {
     Plans,
     Stack,
+    Sheets,
     Desk,
 }
 
@@ -67,6 +69,7 @@ impl Options {
             match word.as_str() {
                 "plans" => options.parts.push(Part::Plans),
                 "stack" => options.parts.push(Part::Stack),
+                "sheets" => options.parts.push(Part::Sheets),
                 "desk" => options.parts.push(Part::Desk),
                 "--sizes" => asked.sizes = numbers(value()?, size)?,
                 "--family" => asked.family = value()?.clone(),
@@ -80,7 +83,7 @@ impl Options {
             }
         }
         if options.parts.is_empty() {
-            options.parts = vec![Part::Plans, Part::Stack, Part::Desk];
+            options.parts = vec![Part::Plans, Part::Stack, Part::Sheets, Part::Desk];
         }
         if options.parts.contains(&Part::Plans) {
             options.groups = asked.groups()?;

@@ -1,0 +1,88 @@
+-- The bounds by weights and by modules as cuts.
+use mathlib.Core.Path.{_≡_}
+use mathlib.Core.Logic.{_⊎_, inl, inr}
+use mathlib.Core.Bool.{true, false, not}
+use mathlib.Core.List.{List, [], _∷_}
+use Prim.Native.Nat.{ℕ, suc, _+_, _-_, _*_, _≤_, _<_}
+use native.Mathlib.Omega.{arith}
+use native.Mathlib.Nat.{le-trans}
+use lib.Dec.{leb}
+use Rattle.counting.specs.Counting.{only, sum}
+use Rattle.counting.proofs.Tests.{clash, less-or-not}
+use Rattle.schedule.specs.Plan.{Sheet, Plan, Valid, finish, planEnd, Narrow, Lasting}
+use Rattle.schedule.specs.ListPlan.{PartPlan, noJobs, Follows, occupies, placeAll, partOf, occupied}
+use Rattle.schedule.proofs.Sound.{Sound, part-sound, place-all-sound, Completes, completes-all, complete-valid}
+use Rattle.schedule.proofs.Earliest.{valid-timed}
+use Rattle.schedule.proofs.Along.{place-all-keeps}
+use Rattle.schedule.proofs.Branch.{next-first}
+use Rattle.schedule.proofs.Places.{CannotBeat}
+use Rattle.schedule.proofs.Cuts.{NoneBefore, by-completions}
+use Rattle.schedule.proofs.Weights.{Holds, GoesOn, weights-bound}
+use Rattle.schedule.proofs.Modulewise.{Lasts, GoesOnWith, modules-bound, by-profile}
+
+module _ (S : Sheet) (lasting : Lasting S) (n : Narrow S) (w : List ℕ) (f : Follows S noJobs w) (l : ℕ) (from : partOf S w .last ≤ l)
+    (next : NoneBefore S n w f l) (T : ℕ) where
+  abbrev P : PartPlan
+  P = partOf S w
+
+  sound : Sound S P
+  sound = part-sound S n w f
+
+  -- ---- a completion goes on from P
+
+  module _ (p : List ℕ) (c : Completes S P p) where
+    abbrev Q : Plan
+    Q = placeAll S P p .plan
+
+    valid : Valid S Q
+    valid = complete-valid S (placeAll S P p) (place-all-sound S n P p sound (c .0)) (completes-all S P p c)
+
+    early : (k : ℕ) → k < S .jobs → P .placed k ≡ true → P .plan .start k ≤ l
+    early k x p = le-trans (sound .early k x p) from
+
+    later : (k : ℕ) → k < S .jobs → P .placed k ≡ false → l ≤ Q .start k
+    unfolding placeAll
+    later = go p c
+      where
+        go : (p : List ℕ) → Completes S P p → (k : ℕ) → k < S .jobs → P .placed k ≡ false → l ≤ placeAll S P p .plan .start k
+        go [] c k x z = clash (P .placed k) (completes-all S P [] c k x) z
+        go (j ∷ o) c k x z = le-trans (next j (c .0 .0)) (next-first S n P j o (c .0) k z (completes-all S P (j ∷ o) c k x))
+
+    goes-on : GoesOn S P l Q
+    goes-on = record {
+      timed = valid-timed S Q valid;
+      kept = λ k x z. place-all-keeps S P p (c .0) k z .start;
+      early = early;
+      later = later;
+    }
+
+    goes-on-with : GoesOnWith S P l Q
+    goes-on-with = record {
+      valid = valid;
+      kept = λ k x z. place-all-keeps S P p (c .0) k z .start;
+      uses = λ k m x z. place-all-keeps S P p (c .0) k z .uses m;
+      early = early;
+      later = later;
+    }
+
+  -- ---- the cuts
+
+  -- what all completions that end by T would break
+  by-end : ((p : List ℕ) (c : Completes S P p) → planEnd S (Q p c) ≤ T → ⊥) → CannotBeat S (suc T) w
+  by-end h = by-completions S n w f (suc T) (λ p c. go p c (less-or-not T (planEnd S (Q p c))))
+    where
+      go : (p : List ℕ) (c : Completes S P p) → (T < planEnd S (Q p c)) ⊎ (planEnd S (Q p c) ≤ T) → suc T ≤ planEnd S (Q p c)
+      go p c (inl x) = x
+      go p c (inr x) = absurd (h p c x)
+
+  pub weights-cut : (y K : ℕ → ℕ) → Holds S y K
+      → sum T (λ t. only (leb l t) (K (S .modules - occupied S P t))) < sum (S .jobs) (λ k. only (not (P .placed k)) (S .minutes k * y k))
+      → CannotBeat S (suc T) w
+  weights-cut y K most over = by-end (λ p c x. omega (arith, over, weights-bound S P l (Q p c) (goes-on p c) T x y K most))
+
+  pub modules-cut : (y Z : ℕ → ℕ) → Lasts S P y Z → ((a b : ℕ) → a ≤ b → Z a ≤ Z b)
+      → sum (S .jobs) (λ k. only (occupies S P l k) (S .need k * Z (T - finish S (P .plan) k))) + (S .modules - occupied S P l) * Z (T - l)
+      < sum (S .jobs) (λ k. only (not (P .placed k)) (S .need k * y k))
+      → CannotBeat S (suc T) w
+  modules-cut y Z most mono over = by-end (λ p c x.
+      omega (arith, over, by-profile S P sound l from T Z mono, modules-bound S lasting P l (Q p c) (goes-on-with p c) T x y Z most))

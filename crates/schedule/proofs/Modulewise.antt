@@ -1,0 +1,221 @@
+-- The bound by modules: where no set of jobs that are left and last x minutes together weighs more than Z x, a module serves, from the
+-- minute at which it comes free, no more weight than Z of the minutes up to the end.
+use mathlib.Core.Path.{_≡_, refl, sym, ap, _∙_}
+use mathlib.Core.Logic.{_⊎_, inl, inr, ⊎-elim, _≢_}
+use mathlib.Core.Bool.{Bool, true, false, not, _&&_}
+use Prim.Native.Nat.{ℕ, _+_, _-_, _*_, _≤_, _<_, zero-le, min, max}
+use native.Mathlib.Omega.{arith}
+use lib.Dec.{leb, eqb}
+use borrow.Author.Tests.{ltb-true, leb-true, lt-ltb, le-leb, lt-leb, eqb-true, eqb-false, not-true, not-false}
+use Rattle.counting.specs.Counting.{only, sum, count}
+use Rattle.counting.proofs.Tests.{true-or-false, less-or-not, clash, and-left, and-right, and-both}
+use Rattle.counting.proofs.Sums.{sum-le, sum-same, sum-add, sum-swap, sum-zero, sum-mul, le-sum}
+use Rattle.counting.proofs.Intervals.{inside, sum-inside}
+use Rattle.counting.proofs.Ranges.{le-largest, largest-le, any-some}
+use Rattle.counting.proofs.Counts.{count-one, count-none}
+use Rattle.schedule.specs.Plan.{Sheet, Plan, Valid, finish, planEnd, Lasting}
+use Rattle.schedule.specs.ListPlan.{PartPlan, occupies, free, occupied}
+use Rattle.schedule.proofs.Sound.{Sound}
+use Rattle.schedule.proofs.Occupied.{free-count}
+use Rattle.schedule.proofs.Area.{availableFrom}
+
+-- no set of jobs that are left and last x minutes together weighs more than Z x
+abbrev pub Lasts : Sheet → PartPlan → (ℕ → ℕ) → (ℕ → ℕ) → Type 0
+Lasts S P y Z = (X : ℕ → Bool) (x : ℕ) → ((k : ℕ) → X k ≡ true → P .placed k ≡ false)
+    → sum (S .jobs) (λ k. only (X k) (S .minutes k)) ≤ x → sum (S .jobs) (λ k. only (X k) (y k)) ≤ Z x
+
+-- Q goes on from P, on the same modules: it keeps the placed jobs and starts the others from minute l on
+pub record GoesOnWith (S : Sheet) (P : PartPlan) (l : ℕ) (Q : Plan) : Type 0 where
+  pub valid : Valid S Q
+  pub kept : (k : ℕ) → k < S .jobs → P .placed k ≡ true → Q .start k ≡ P .plan .start k
+  pub uses : (k m : ℕ) → k < S .jobs → P .placed k ≡ true → Q .uses k m ≡ P .plan .uses k m
+  pub early : (k : ℕ) → k < S .jobs → P .placed k ≡ true → P .plan .start k ≤ l
+  pub later : (k : ℕ) → k < S .jobs → P .placed k ≡ false → l ≤ Q .start k
+
+-- the minute from which module m is free for the jobs that are left
+abbrev pub freeFrom : Sheet → PartPlan → ℕ → ℕ → ℕ
+freeFrom S P l m = max l (availableFrom S P m)
+
+module _ (S : Sheet) (w : Lasting S) (P : PartPlan) (l : ℕ) (Q : Plan) (h : GoesOnWith S P l Q) (T : ℕ) (e : planEnd S Q ≤ T) where
+  -- job k is one of those that are left, and module m serves it
+  abbrev served : ℕ → ℕ → Bool
+  served m k = not (P .placed k) && Q .uses k m
+
+  is-left : (m k : ℕ) → served m k ≡ true → P .placed k ≡ false
+  is-left m k b = not-true (P .placed k) (and-left (not (P .placed k)) _ b)
+
+  -- a job that a module serves starts when the module is free
+  starts-free : (m k : ℕ) → k < S .jobs → served m k ≡ true → freeFrom S P l m ≤ Q .start k
+  starts-free m k x b =
+      let most = largest-le (S .jobs) (λ i. only (P .placed i && P .plan .uses i m) (finish S (P .plan) i)) (Q .start k)
+      (λ i z. one i z (true-or-false (P .placed i && P .plan .uses i m))) in
+      omega (arith, most, h .later k x (is-left m k b))
+    where
+      one : (i : ℕ) → i < S .jobs → ((P .placed i && P .plan .uses i m) ≡ true) ⊎ ((P .placed i && P .plan .uses i m) ≡ false)
+          → only (P .placed i && P .plan .uses i m) (finish S (P .plan) i) ≤ Q .start k
+      one i z (inr c) = rw c zero-le
+      one i z (inl c) =
+          let p = and-left (P .placed i) _ c in
+          let s = h .kept i z p in
+          let u : Q .uses i m ≡ true = h .uses i m z p ∙ and-right (P .placed i) _ c in
+          let other : i ≢ k = λ y. clash (P .placed i) p (ap (P .placed) y ∙ is-left m k b) in
+          rw c (⊎-elim (λ d. omega (arith, d, s)) (λ d. absurd (omega (arith, d, s, h .early i z p, h .later k x (is-left m k b), w k x)))
+          (h .valid .apart i k m z x other u (and-right (not (P .placed k)) _ b)))
+
+  -- ---- one module
+
+  busy : ℕ → ℕ → ℕ → Bool
+  busy m t k = served m k && inside (Q .start k) (finish S Q k) t
+
+  over-minutes : (m k : ℕ) → k < S .jobs → only (served m k) (S .minutes k) ≡ sum T (λ t. only (busy m t k) 1)
+  unfolding busy
+  over-minutes m k x = go (served m k) refl
+    where
+      go : (b : Bool) → served m k ≡ b
+          → only (served m k) (S .minutes k) ≡ sum T (λ t. only (served m k && inside (Q .start k) (finish S Q k) t) 1)
+      go true q =
+          let d : S .minutes k ≡ (min T (finish S Q k) - Q .start k) * 1 = omega (arith, e, le-largest (S .jobs) (finish S Q) k x) in
+          rw q (d ∙ sym (sum-inside T (Q .start k) (finish S Q k) 1))
+      go false q = rw q (sym (sum-zero T))
+
+  -- two jobs do not share a minute of a module
+  alone : (m t i k : ℕ) → i < S .jobs → k < S .jobs → busy m t i ≡ true → busy m t k ≡ true → (b : Bool) → eqb i k ≡ b → i ≡ k
+  unfolding busy
+  alone m t i k x z a b true q = eqb-true i k q
+  alone m t i k x z a b false q =
+      let a1 = leb-true (Q .start i) t (and-left (leb (Q .start i) t) _ (and-right (served m i) _ a)) in
+      let a2 = ltb-true t (finish S Q i) (and-right (leb (Q .start i) t) _ (and-right (served m i) _ a)) in
+      let b1 = leb-true (Q .start k) t (and-left (leb (Q .start k) t) _ (and-right (served m k) _ b)) in
+      let b2 = ltb-true t (finish S Q k) (and-right (leb (Q .start k) t) _ (and-right (served m k) _ b)) in
+      let ui = and-right (not (P .placed i)) _ (and-left (served m i) _ a) in
+      let uk = and-right (not (P .placed k)) _ (and-left (served m k) _ b) in
+      ⊎-elim (λ d. absurd (omega arith)) (λ d. absurd (omega arith)) (h .valid .apart i k m x z (eqb-false i k q) ui uk)
+
+  minute : (m t : ℕ) → (t < freeFrom S P l m) ⊎ (freeFrom S P l m ≤ t)
+      → sum (S .jobs) (λ k. only (busy m t k) 1) ≤ only (leb (freeFrom S P l m) t) 1
+  unfolding busy
+  minute m t (inr c) = rw (le-leb (freeFrom S P l m) t c) (count-one (S .jobs) (busy m t) (λ i k x z a b. alone m t i k x z a b
+      (eqb i k) refl))
+  minute m t (inl c) =
+      let none : count (S .jobs) (busy m t) ≡ 0 = count-none (S .jobs) (busy m t) (λ k x. idle k x (true-or-false (served m k))) in
+      rw none zero-le
+    where
+      idle : (k : ℕ) → k < S .jobs → (served m k ≡ true) ⊎ (served m k ≡ false)
+          → (served m k && inside (Q .start k) (finish S Q k) t) ≡ false
+      idle k x (inr s) = rw s refl
+      idle k x (inl s) = rw (s, lt-leb (Q .start k) t (omega (arith, starts-free m k x s))) refl
+
+  served-minutes : (m : ℕ) → sum (S .jobs) (λ k. only (served m k) (S .minutes k)) ≤ T - freeFrom S P l m
+  served-minutes m =
+      let a = freeFrom S P l m in
+      let all = sum-same (S .jobs) _ (λ k. sum T (λ t. only (busy m t k) 1)) (over-minutes m)
+      ∙ sum-swap (S .jobs) T (λ k t. only (busy m t k) 1) in
+      let each = sum-le T (λ t. sum (S .jobs) (λ k. only (busy m t k) 1)) (λ t. only (leb a t) 1) (λ t x. minute m t (less-or-not t a)) in
+      let span : sum T (λ t. only (leb a t) 1) ≡ T - a = sum-same T _ (λ t. only (inside a T t) 1) (λ t x. below t x)
+      ∙ sum-inside T a T 1 ∙ omega arith in
+      omega (arith, all, each, span)
+    where
+      below : (t : ℕ) → t < T → only (leb (freeFrom S P l m) t) 1 ≡ only (inside (freeFrom S P l m) T t) 1
+      below t x = rw (lt-ltb t T x) (ap (λ (b : Bool). only b 1) (sym (and-true (leb (freeFrom S P l m) t))))
+        where
+          and-true : (b : Bool) → (b && true) ≡ b
+          and-true true = refl
+          and-true false = refl
+
+  -- ---- all modules
+
+  over-modules : (y : ℕ → ℕ) (k : ℕ) → k < S .jobs
+      → only (not (P .placed k)) (S .need k * y k) ≡ sum (S .modules) (λ m. only (served m k) (y k))
+  over-modules y k x = go (not (P .placed k)) refl
+    where
+      one : (m : ℕ) → only (Q .uses k m) 1 * y k ≡ only (Q .uses k m) (y k)
+      one m = two (Q .uses k m)
+        where
+          two : (b : Bool) → only b 1 * y k ≡ only b (y k)
+          two true = omega arith
+          two false = omega arith
+
+      go : (b : Bool) → not (P .placed k) ≡ b → only (not (P .placed k)) (S .need k * y k) ≡ sum (S .modules) (λ m. only (served m k) (y k))
+      go true q =
+          rw q
+          (ap (λ (c : ℕ). c * y k) (sym (h .valid .enough k x)) ∙ sym (sum-mul (S .modules) (λ m. only (Q .uses k m) 1) (y k))
+          ∙ sum-same (S .modules) _ _ (λ m z. one m))
+      go false q = rw q (sym (sum-zero (S .modules)))
+
+  -- The jobs that are left weigh no more than what the modules can serve.
+  pub modules-bound : (y Z : ℕ → ℕ) → Lasts S P y Z
+      → sum (S .jobs) (λ k. only (not (P .placed k)) (S .need k * y k)) ≤ sum (S .modules) (λ m. Z (T - freeFrom S P l m))
+  modules-bound y Z most =
+      let all = sum-same (S .jobs) _ (λ k. sum (S .modules) (λ m. only (served m k) (y k))) (over-modules y)
+      ∙ sum-swap (S .jobs) (S .modules) (λ k m. only (served m k) (y k)) in
+      let each = sum-le (S .modules) (λ m. sum (S .jobs) (λ k. only (served m k) (y k))) (λ m. Z (T - freeFrom S P l m))
+      (λ m x. most (served m) (T - freeFrom S P l m) (λ k b. is-left m k b) (served-minutes m)) in
+      omega (arith, all, each)
+
+-- ---- the same, from the placed jobs that still run
+
+module _ (S : Sheet) (P : PartPlan) (s : Sound S P) (l : ℕ) (from : P .last ≤ l) (T : ℕ) (Z : ℕ → ℕ)
+    (mono : (a b : ℕ) → a ≤ b → Z a ≤ Z b) where
+  -- what a placed job leaves of its modules
+  rest-of : ℕ → ℕ
+  rest-of k = Z (T - finish S (P .plan) k)
+
+  -- a module that is not free at minute l is held by a job that runs
+  one-module : (m : ℕ) → (free S P l m ≡ true) ⊎ (free S P l m ≡ false)
+      → Z (T - freeFrom S P l m)
+      ≤ sum (S .jobs) (λ k. only (occupies S P l k && P .plan .uses k m) (rest-of k)) + only (free S P l m) (Z (T - l))
+  unfolding rest-of
+  one-module m (inl f) =
+      let z = mono (T - freeFrom S P l m) (T - l) (omega arith) in
+      rw f (omega (arith, z))
+  one-module m (inr f) = go (any-some (S .jobs) (λ i. occupies S P l i && P .plan .uses i m) (not-false _ f))
+    where
+      go : (k : ℕ) × (k < S .jobs) × ((occupies S P l k && P .plan .uses k m) ≡ true)
+          → Z (T - freeFrom S P l m)
+          ≤ sum (S .jobs) (λ k. only (occupies S P l k && P .plan .uses k m) (rest-of k)) + only (free S P l m) (Z (T - l))
+      go (k, x, b) =
+          let p = and-left (P .placed k) _ (and-left (occupies S P l k) _ b) in
+          let u = and-both (P .placed k) _ p (and-right (occupies S P l k) _ b) in
+          let a : finish S (P .plan) k ≤ availableFrom S P m =
+          rw u at (le-largest (S .jobs) (λ i. only (P .placed i && P .plan .uses i m) (finish S (P .plan) i)) k x) in
+          let z = mono (T - freeFrom S P l m) (T - finish S (P .plan) k) (omega arith) in
+          let y : rest-of k ≤ sum (S .jobs) (λ k. only (occupies S P l k && P .plan .uses k m) (rest-of k)) =
+          rw b at (le-sum (S .jobs) (λ k. only (occupies S P l k && P .plan .uses k m) (rest-of k)) k x) in
+          omega (arith, z, y)
+
+  held : (k : ℕ) → k < S .jobs
+      → sum (S .modules) (λ m. only (occupies S P l k && P .plan .uses k m) (rest-of k)) ≡ only (occupies S P l k) (S .need k * rest-of k)
+  held k x = go (occupies S P l k) refl
+    where
+      two : (b : Bool) → only b (rest-of k) ≡ only b 1 * rest-of k
+      two true = omega arith
+      two false = omega arith
+
+      go : (b : Bool) → occupies S P l k ≡ b
+          → sum (S .modules) (λ m. only (occupies S P l k && P .plan .uses k m) (rest-of k)) ≡ only (occupies S P l k)
+          (S .need k * rest-of k)
+      go true q =
+          rw q
+          (sum-same (S .modules) _ _ (λ m z. two (P .plan .uses k m)) ∙ sum-mul (S .modules) (λ m. only (P .plan .uses k m) 1) (rest-of k)
+          ∙ ap (λ (c : ℕ). c * rest-of k) (s .enough k x (and-left (P .placed k) _ q)))
+      go false q = rw q (sum-zero (S .modules))
+
+  pub by-profile : sum (S .modules) (λ m. Z (T - freeFrom S P l m))
+      ≤ sum (S .jobs) (λ k. only (occupies S P l k) (S .need k * Z (T - finish S (P .plan) k))) + (S .modules - occupied S P l) * Z (T - l)
+  unfolding rest-of
+  by-profile =
+      let busy : ℕ → ℕ → ℕ = λ k m. only (occupies S P l k && P .plan .uses k m) (rest-of k) in
+      let each = sum-le (S .modules) (λ m. Z (T - freeFrom S P l m)) (λ m. sum (S .jobs) (λ k. busy k m) + only (free S P l m) (Z (T - l)))
+      (λ m x. one-module m (true-or-false (free S P l m))) in
+      let split = sum-add (S .modules) (λ m. sum (S .jobs) (λ k. busy k m)) (λ m. only (free S P l m) (Z (T - l))) in
+      let swap = sum-swap (S .jobs) (S .modules) busy in
+      let jobs = sum-same (S .jobs) _ (λ k. only (occupies S P l k) (S .need k * rest-of k)) held in
+      let frees : sum (S .modules) (λ m. only (free S P l m) (Z (T - l))) ≡ (S .modules - occupied S P l) * Z (T - l) =
+      sum-same (S .modules) _ (λ m. only (free S P l m) 1 * Z (T - l)) (λ m x. two (free S P l m))
+      ∙ sum-mul (S .modules) (λ m. only (free S P l m) 1) (Z (T - l))
+      ∙ ap (λ (c : ℕ). c * Z (T - l)) (omega (arith, free-count S P s l from)) in
+      omega (arith, each, split, swap, jobs, frees)
+    where
+      two : (b : Bool) → only b (Z (T - l)) ≡ only b 1 * Z (T - l)
+      two true = omega arith
+      two false = omega arith

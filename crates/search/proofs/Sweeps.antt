@@ -1,0 +1,132 @@
+-- The jobs that may come next, tried one after another in the order of their starts.
+use mathlib.Core.Path.{_≡_, refl, sym, ap, _∙_}
+use mathlib.Core.Logic.{_⊎_, inl, inr}
+use mathlib.Core.Bool.{Bool, true, false, not, _&&_}
+use mathlib.Core.List.{List, [], _∷_, _++_, append-assoc}
+use Prim.Native.Nat.{ℕ, suc, _+_, _≤_, _<_}
+use native.Mathlib.Omega.{arith}
+use lib.Dec.{eqb}
+use lib.Count.{ones}
+use lib.ListN.{getD, length-replicate}
+use borrow.Author.Tests.{eqb-true}
+use Rattle.counting.proofs.Tests.{true-or-false, clash, and-left, less-or-not}
+use Rattle.bits.specs.Bits.{bit, withBit, withoutBit}
+use Rattle.bits.proofs.Digits.{bit-none}
+use Rattle.bits.proofs.Members.{bit-with, bit-without}
+use Rattle.bits.proofs.Ones.{ones-without}
+use Rattle.schedule.specs.Plan.{Sheet}
+use Rattle.schedule.specs.ListPlan.{PartPlan, ready, partOf}
+use Rattle.schedule.proofs.Starts.{ready-says}
+use Rattle.tables.specs.Tables.{sheetOf}
+use Rattle.placement.specs.declared.Part.{Part}
+use Rattle.placement.specs.Part.{wordOf}
+use Rattle.placement.proofs.Parts.{start-short}
+use Rattle.search.specs.declared.Choice.{Choice}
+use Rattle.search.specs.declared.Found.{Found}
+use Rattle.search.specs.Search.{Known, Fails, Outcome, noneFound, EachStart, TriedSo, ChoiceOf}
+
+-- no order
+pub none-outcome : (S : Sheet) (target : ℕ) (v : List ℕ) → Fails S target v → Outcome S target v noneFound
+none-outcome S target v h = record { size = length-replicate {A = ℕ} 20 0; hit = λ e. clash false e refl; miss = λ e. h }
+
+-- an order that begins with v and a job more begins with v
+pub found-below : (S : Sheet) (target : ℕ) (v : List ℕ) (j : ℕ) (r : Found) → Outcome S target (v ++ (j ∷ [])) r → r .hit ≡ true
+    → Outcome S target v r
+found-below S target v j r h e =
+    let f = h .hit e in
+    record {
+      size = h .size;
+      hit = λ _. record {
+        order = f .order;
+        begins = (j ∷ f .begins .0, f .begins .1 ∙ append-assoc v (j ∷ []) (f .begins .0));
+        end = f .end;
+        within = f .within;
+      };
+      miss = λ z. clash (r .hit) e z;
+    }
+
+-- those that are no longer left lead nowhere, and c is the next
+pub record Sweep (need minutes earlier : List ℕ) (jobs modules : ℕ) (part : Part) (target : ℕ) (at : List ℕ) (left tried : ℕ) (c : Choice)
+    : Type 0 where
+  pub choice : ChoiceOf at left jobs c
+  pub before : TriedSo need minutes earlier jobs modules part target at tried (c .start)
+  pub gone : (j : ℕ) → j < jobs → bit left j ≡ false
+      → ready (sheetOf need minutes earlier jobs modules) (partOf (sheetOf need minutes earlier jobs modules)
+      (wordOf part) .placed) j ≡ true
+      → Fails (sheetOf need minutes earlier jobs modules) target (wordOf part ++ (j ∷ []))
+
+module _ (need minutes earlier : List ℕ) (jobs modules : ℕ) (part : Part) (known : Known need minutes earlier jobs modules part)
+    (target : ℕ) (at : List ℕ) (starts : EachStart need minutes earlier jobs modules part at) where
+  abbrev S : Sheet
+  S = sheetOf need minutes earlier jobs modules
+
+  abbrev w : List ℕ
+  w = wordOf part
+
+  abbrev P : PartPlan
+  P = partOf S w
+
+  abbrev Now : ℕ → ℕ → Choice → Type 0
+  Now = Sweep need minutes earlier jobs modules part target at
+
+  pub sweep-first : (c : Choice) → ChoiceOf at (part .unplaced) jobs c → Now (part .unplaced) 0 c
+  sweep-first c h = record {
+    choice = h;
+    before = λ x m b. clash (bit 0 x) b (bit-none x);
+    gone = λ j l b r. clash (bit (part .unplaced) j)
+        (known .is .figures .set j l ∙ ap not (ready-says S (P .placed) j r .new)) b;
+  }
+
+  -- the chosen job is in its set
+  pub chosen-in : (left : ℕ) (c : Choice) → ChoiceOf at left jobs c → c .start < 65535 → suc (ones (withoutBit left (c .job))) ≡ ones left
+  chosen-in left c h l = ones-without left (c .job) (h .some l .1 .0)
+
+  pub sweep-next : (left tried : ℕ) (c d : Choice) → Now left tried c → c .start < 65535 → Fails S target (w ++ (c .job ∷ []))
+      → ChoiceOf at (withoutBit left (c .job)) jobs d → Now (withoutBit left (c .job)) (withBit tried (c .job)) d
+  sweep-next left tried c d s l f h = record {
+    choice = h;
+    before = λ x m b. earlier-ones x m b (eqb x
+        (c .job)) refl;
+    gone = λ j m b. go j m b (eqb j (c .job)) refl;
+  }
+    where
+      c-at : getD at (c .job) 0 ≡ c .start
+      c-at = s .choice .some l .1 .1
+
+      -- the next one starts no earlier
+      rising : (d .start < 65535) ⊎ (65535 ≤ d .start) → c .start ≤ d .start
+      rising (inr x) = omega arith
+      rising (inl x) =
+          let z = h .some x in
+          let b : bit left (d .job) ≡ true = and-left (bit left (d .job)) _ (sym (bit-without left (c .job) (d .job)) ∙ z .1 .0) in
+          omega (arith, s .choice .first (d .job) (z .0) b, z .1 .1)
+
+      earlier-ones : (x : ℕ) → x < jobs → bit (withBit tried (c .job)) x ≡ true → (e : Bool) → eqb x (c .job) ≡ e
+          → (getD at x 0 ≤ d .start) × ((getD at x 0 < 65535) × Fails S target (w ++ (x ∷ [])))
+      earlier-ones x m b true e = rw (eqb-true x (c .job) e)
+          (omega (arith, c-at, rising (less-or-not (d .start) 65535)), (omega (arith, c-at), f))
+      earlier-ones x m b false e =
+          let t : bit tried x ≡ true = rw e at (sym (bit-with tried (c .job) x) ∙ b) in
+          let r = s .before x m t in
+          (omega (arith, r .0, rising (less-or-not (d .start) 65535)), r .1)
+
+      go : (j : ℕ) → j < jobs → bit (withoutBit left (c .job)) j ≡ false → (e : Bool) → eqb j (c .job) ≡ e
+          → ready S (P .placed) j ≡ true → Fails S target (w ++ (j ∷ []))
+      go j m b true e r = rw (eqb-true j (c .job) e) f
+      go j m b false e r =
+          let t : bit left j && true ≡ false = rw e at (sym (bit-without left (c .job) j) ∙ b) in
+          s .gone j m (and-true (bit left j) t) r
+        where
+          and-true : (x : Bool) → x && true ≡ false → x ≡ false
+          and-true true y = y
+          and-true false y = refl
+
+  pub sweep-all : (left tried : ℕ) (c : Choice) → Now left tried c → c .start ≡ 65535
+      → (j : ℕ) → j < jobs → ready S (P .placed) j ≡ true → Fails S target (w ++ (j ∷ []))
+  sweep-all left tried c s e j l r = go (true-or-false (bit left j))
+    where
+      go : (bit left j ≡ true) ⊎ (bit left j ≡ false) → Fails S target (w ++ (j ∷ []))
+      go (inr b) = s .gone j l b r
+      go (inl b) =
+          let short = start-short need minutes earlier jobs modules (known .fit) part w (known .is) j r in
+          absurd (omega (arith, s .choice .first j l b, starts j l .here r))

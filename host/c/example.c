@@ -1,0 +1,158 @@
+/*
+ * A cabinet's controller in small: it reads and plans the job sheet of document 01's E1, prints the plan as the printing program
+ * does, writes the sheet anew, and claims and hands back modules as in E9 and E10. It checks all that it gets and exits with 1
+ * where something differs.
+ */
+#include "depot.h"
+
+#include <stdio.h>
+#include <string.h>
+
+static int failures = 0;
+
+static void check(int holds, const char *what)
+{
+    if (!holds) {
+        fprintf(stderr, "example: %s\n", what);
+        failures++;
+    }
+}
+
+/* ---- a plan */
+
+static const uint8_t e1[] = {
+    0x41, 0x42, 0x43,                                           /* labels: A, B, C */
+    0x01, 0x01, 0x0A, 0x00, 0x00, 0x00, 0x00, 0x00, 0x1E, 0x00, /* 1 module for 10 minutes, departure 30 */
+    0x01, 0x02, 0x14, 0x00, 0x00, 0x00, 0x00, 0x00, 0x19, 0x00, /* 2 modules for 20 minutes, departure 25 */
+    0x01, 0x01, 0x0A, 0x00, 0x00, 0x00, 0x00, 0x00, 0x1E, 0x00, /* as the first */
+    0x03, 0x00, 0x00, 0x00, 0x03, 0x00, 0x02, 0x00              /* records from offset 3, 3 jobs, 2 modules */
+};
+
+static const char e1_lines[] = "plan 30 3 2\n"
+                               "A 0 10 -20 0000000000000001\n"
+                               "B 10 30 5 0000000000000003\n"
+                               "C 0 10 -20 0000000000000002\n";
+
+/* A number of so many bytes, little-endian. */
+static uint64_t number(const uint8_t *bytes, size_t count)
+{
+    uint64_t value = 0;
+    while (count > 0) {
+        count--;
+        value = value << 8 | bytes[count];
+    }
+    return value;
+}
+
+/* The lines of a planned sheet: end, n and N; then label, start, end, lateness and module set of each job. */
+static void plan_lines(const uint8_t *sheet, size_t sheet_len, const uint8_t *card, char *text, size_t room)
+{
+    struct depot_reading reading = depot_read(sheet, sheet_len);
+    const uint8_t *trailer = card + 13 * reading.count;
+    size_t used, job;
+    used = (size_t)snprintf(text, room, "plan %u %u %u\n", (unsigned)number(trailer + 4, 2), (unsigned)reading.count,
+                            (unsigned)reading.modules);
+    for (job = 0; job < reading.count; job++) {
+        const uint8_t *row = card + 12 * job;
+        struct depot_label_place label = depot_label(sheet, sheet_len, job);
+        int start = (int)number(row, 2), end = (int)number(row + 2, 2);
+        unsigned long long modules = number(row + 4, 8);
+        check(label.refusal == DEPOT_DONE, "a job that was read has a label");
+        used += (size_t)snprintf(text + used, room - used, "%.*s %d %d %d %016llX\n", (int)label.length,
+                                 (const char *)sheet + label.offset, start, end, end - reading.jobs[job].departure, modules);
+    }
+}
+
+static void plan_e1(void)
+{
+    static const uint8_t order[] = {0, 2, 1};
+    uint8_t card[DEPOT_LONGEST_CARD], work[4096];
+    char text[256];
+    size_t i;
+    memset(card, 0xEE, sizeof card);
+    memset(work, 0xEE, sizeof work);
+
+    check(depot_plan(e1, sizeof e1, card, DEPOT_CARD_BYTES(3) - 1, work, sizeof work) == DEPOT_BUFFER_TOO_SHORT,
+          "a card with a byte too few is refused");
+    check(card[0] == 0xEE && work[0] == 0xEE, "a refused call writes nothing");
+
+    check(depot_plan(e1, sizeof e1, card, sizeof card, work, sizeof work) == DEPOT_DONE, "E1 is planned");
+    check(memcmp(card + 36, order, sizeof order) == 0, "E1's order is 0, 2, 1");
+    check(card[46] == 0 && card[47] == 0xEE, "the card has 47 bytes, and the byte behind it stays");
+    for (i = 0; i < sizeof work && work[i] == 0; i++) {
+    }
+    check(i == sizeof work, "working memory is left all zero");
+
+    plan_lines(e1, sizeof e1, card, text, sizeof text);
+    check(strcmp(text, e1_lines) == 0, "E1's lines are document 01's");
+    fputs(text, stdout);
+}
+
+/* ---- job sheets */
+
+static void read_and_write_e1(void)
+{
+    struct depot_reading reading = depot_read(e1, sizeof e1);
+    struct depot_label_place label = depot_label(e1, sizeof e1, 2);
+    struct depot_written written;
+    uint8_t sheet[DEPOT_LONGEST_SHEET];
+
+    check(reading.refusal == DEPOT_DONE && reading.count == 3 && reading.modules == 2, "E1 has 3 jobs and 2 modules");
+    check(reading.jobs[1].modules == 2 && reading.jobs[1].minutes == 20 && reading.jobs[1].departure == 25, "E1's job 1");
+    check(reading.jobs[1].label_len == 1 && reading.jobs[1].earlier == 0, "E1's job 1 waits for none");
+    check(reading.jobs[3].minutes == 0, "places past the last job are 0");
+    check(label.refusal == DEPOT_DONE && label.offset == 2 && label.length == 1, "the label of E1's job 2 is its byte 2");
+    check(depot_label(e1, sizeof e1, 3).refusal == DEPOT_NO_SUCH_NUMBER, "E1 has no job 3");
+    check(depot_read(e1, sizeof e1 - 1).refusal == DEPOT_TOO_MANY_JOBS, "E1 without its last byte seems to have 768 jobs");
+
+    written = depot_write(reading.jobs, reading.count, e1, 3, reading.modules, sheet, sizeof sheet);
+    check(written.refusal == DEPOT_DONE && written.length == sizeof e1, "writing E1's jobs gives as many bytes");
+    check(written.length == DEPOT_SHEET_BYTES(3, 3), "they are as many as the header says");
+    check(memcmp(sheet, e1, sizeof e1) == 0, "writing E1's jobs gives E1");
+    written = depot_write(reading.jobs, reading.count, e1, 2, reading.modules, sheet, sizeof sheet);
+    check(written.refusal == DEPOT_LABEL_LENGTHS && written.length == 0, "a label byte too few is refused");
+}
+
+/* ---- the share desk */
+
+static uint32_t look(const struct depot_desk *desk, uint32_t controller)
+{
+    uint32_t modules = 0;
+    check(depot_desk_look(desk, controller, &modules) == DEPOT_DONE, "a look is answered");
+    return modules;
+}
+
+static void claim_and_hand_back(void)
+{
+    static const uint32_t assured[] = {4, 3}, ceilings[] = {10, 10}, too_much[] = {6, 5};
+    struct depot_desk desk, before;
+    memset(&desk, 0, sizeof desk);
+
+    check(depot_desk_open(&desk, 10, assured, 2, ceilings, 2) == DEPOT_DONE, "E9's desk opens");
+    check(look(&desk, 0) == 7 && look(&desk, 1) == 6, "E9's looks give 7 and 6");
+    check(depot_desk_claim(&desk, 0, 7) == DEPOT_DONE, "controller 0 claims 7");
+    before = desk;
+    check(depot_desk_claim(&desk, 0, 1) == DEPOT_DOES_NOT_FIT, "1 more does not fit");
+    check(memcmp(&desk, &before, sizeof desk) == 0, "a refused claim leaves the desk as it was");
+    check(depot_desk_claim(&desk, 1, 3) == DEPOT_DONE, "controller 1 claims its share of 3");
+    check(depot_desk_claim(&desk, 1, 1) == DEPOT_DOES_NOT_FIT, "1 more does not fit");
+    check(desk.held[0] + desk.held[1] == desk.limit, "the feeder is full");
+    check(depot_desk_hand_back(&desk, 0, 8) == DEPOT_EXCEEDS_HOLDING, "controller 0 holds no 8");
+    check(depot_desk_hand_back(&desk, 0, 7) == DEPOT_DONE, "controller 0 hands 7 back");
+    check(desk.held[0] == 0 && desk.held[1] == 3, "then it holds nothing");
+    check(depot_desk_claim(&desk, 2, 1) == DEPOT_NO_SUCH_NUMBER, "there is no controller 2");
+
+    before = desk;
+    check(depot_desk_open(&desk, 10, too_much, 2, ceilings, 2) == DEPOT_SHARES_EXCEED_LIMIT, "E11's first desk does not open");
+    check(memcmp(&desk, &before, sizeof desk) == 0, "a refused opening leaves the desk as it was");
+}
+
+int main(void)
+{
+    check(sizeof(struct depot_job) == 12 && sizeof(struct depot_reading) == 264, "a job and a reading have the library's sizes");
+    check(sizeof(struct depot_desk) == 104, "a desk has the library's size");
+    plan_e1();
+    read_and_write_e1();
+    claim_and_hand_back();
+    return failures != 0;
+}

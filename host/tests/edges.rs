@@ -1,0 +1,308 @@
+//! Every exported call with every argument at its edges, at the least, at the most and just past them: the answer and all lent
+//! memory are what a reading of document 01 says.
+use depot_host::guarded::{Against, Guarded};
+use depot_host::raw_sheet::Sheet;
+use depot_host::{card_length, ffi, reference, Desk, Job, LONGEST_SHEET, MOST_JOBS};
+use std::ptr::null_mut;
+
+/// Lent memory that ends at a page that may not be touched.
+struct Lent {
+    memory: Guarded,
+    at: *mut u8,
+}
+
+impl Lent {
+    fn of(bytes: &[u8]) -> Lent {
+        let mut memory = Guarded::new(bytes.len());
+        let at = memory.lend(Against::End, bytes).as_mut_ptr();
+        Lent { memory, at }
+    }
+
+    fn painted(length: usize) -> Lent {
+        Lent::of(&vec![0x5A; length])
+    }
+
+    fn at<T>(&self) -> *mut T {
+        self.at.cast()
+    }
+
+    fn len(&self) -> usize {
+        self.memory.left().len()
+    }
+
+    /// Whether these bytes are at its front, and the paint is behind them.
+    fn has(&self, front: &[u8]) -> bool {
+        let (written, behind) = self.memory.left().split_at(front.len());
+        self.memory.rest_untouched() && written == front && behind.iter().all(|byte| *byte == 0x5A)
+    }
+}
+
+/// The edges of a number, and those of its width.
+fn around(low: u32, high: u32, most: u32) -> Vec<u32> {
+    let mut numbers = vec![0, 1, low.saturating_sub(1), low, high - 1, high, high.saturating_add(1), most - 1, most];
+    numbers.retain(|number| *number <= most);
+    numbers.sort();
+    numbers.dedup();
+    numbers
+}
+
+fn refusal<T>(answer: &Result<T, u32>) -> u32 {
+    *answer.as_ref().err().unwrap_or(&0)
+}
+
+// ---- job sheets
+
+const PLAIN: Job = Job { label_len: 1, modules: 1, minutes: 1, earlier: 0, departure: 0 };
+
+/// A job with each figure at each of its edges, in a list of n jobs.
+fn edge_jobs(n: u32) -> Vec<Job> {
+    let mut jobs = vec![PLAIN];
+    jobs.extend(around(1, 12, 255).iter().map(|x| Job { label_len: *x as u8, ..PLAIN }));
+    jobs.extend(around(1, 64, 255).iter().map(|x| Job { modules: *x as u8, ..PLAIN }));
+    jobs.extend(around(1, 1440, 65535).iter().map(|x| Job { minutes: *x as u16, ..PLAIN }));
+    jobs.extend([1, 1 << (n - 1), 1 << n, 1 << 31, (1 << n) - 1, u32::MAX].map(|earlier| Job { earlier, ..PLAIN }));
+    jobs.extend(around(0, 2880, 65535).iter().map(|x| Job { departure: *x as u16, ..PLAIN }));
+    jobs
+}
+
+/// So many jobs, each behind the one before it, and the last of them as given.
+fn chain(n: usize, last: Job) -> Vec<Job> {
+    let mut jobs: Vec<Job> = (0..n as u32).map(|j| Job { earlier: (1 << j) >> 1, ..PLAIN }).collect();
+    jobs[n - 1] = Job { earlier: last.earlier | jobs[n - 1].earlier, ..last };
+    jobs
+}
+
+/// The parts of the sheet of these jobs.
+fn parts(jobs: Vec<Job>, modules: u16) -> Sheet {
+    let length = jobs.iter().map(|job| usize::from(job.label_len)).sum();
+    Sheet { labels: vec![b'~'; length], offset: length as u32, count: jobs.len() as u16, modules, jobs }
+}
+
+fn longest() -> Sheet {
+    let longest_labels = chain(MOST_JOBS, PLAIN).into_iter().map(|job| Job { label_len: 12, minutes: 1440, ..job });
+    parts(longest_labels.collect(), 64)
+}
+
+/// Sheets at the edges of what reading and planning check.
+fn edge_sheets() -> Vec<Vec<u8>> {
+    let mut sheets: Vec<Sheet> = around(1, 64, 65535).iter().map(|modules| parts(vec![], *modules as u16)).collect();
+    for n in [1, MOST_JOBS] {
+        sheets.extend(edge_jobs(n as u32).iter().map(|job| parts(chain(n, *job), 64)));
+    }
+    for byte in [0, 32, 33, 126, 127, 255] {
+        sheets.push(Sheet { labels: vec![byte], ..parts(vec![PLAIN], 1) });
+    }
+    for count in [0, 1, 2, 20, 21, 65535] {
+        sheets.push(Sheet { count, ..parts(vec![PLAIN], 1) });
+    }
+    for offset in [0, 1, 2, u32::MAX - 17, u32::MAX] {
+        sheets.push(Sheet { offset, ..parts(vec![PLAIN], 1) });
+    }
+    sheets.push(parts(chain(MOST_JOBS + 1, PLAIN), 64));
+    sheets.push(longest());
+    let mut bytes: Vec<Vec<u8>> = sheets.iter().map(Sheet::bytes).collect();
+    assert!(bytes.iter().any(|sheet| sheet.len() == LONGEST_SHEET));
+    for length in [0, 1, 7, 8, 9, LONGEST_SHEET - 1, LONGEST_SHEET, LONGEST_SHEET + 1, 1 << 16] {
+        bytes.push(vec![0; length]);
+        bytes.push([vec![b'~'; length], longest().bytes()].concat());
+    }
+    bytes
+}
+
+#[test]
+fn planning() {
+    for sheet in edge_sheets() {
+        let n = reference::reading::read(&sheet).map_or(0, |sheet| sheet.jobs.len());
+        let whole = card_length(n);
+        for room in [0, 7, 8, whole - 1, whole, whole + 1, card_length(MOST_JOBS)] {
+            let expected = reference::planning::plan(&sheet, room);
+            for work_length in [0, 1, 45, 4096] {
+                let (lent, card, work) = (Lent::of(&sheet), Lent::painted(room), Lent::painted(work_length));
+                // SAFETY: three buffers of their own.
+                let answer = unsafe { ffi::depot_plan(lent.at(), lent.len(), card.at(), room, work.at(), work_length) };
+                assert_eq!(answer, refusal(&expected), "sheet {sheet:02x?}, room {room}");
+                assert!(card.has(expected.as_deref().unwrap_or(&[])), "sheet {sheet:02x?}, room {room}");
+                assert!(work.has(&vec![0; if answer == 0 { work_length } else { 0 }]), "sheet {sheet:02x?}");
+                assert!(lent.has(&sheet));
+            }
+        }
+    }
+}
+
+#[test]
+fn reading() {
+    for sheet in edge_sheets() {
+        let lent = Lent::of(&sheet);
+        // SAFETY: a buffer of its own.
+        let answer = unsafe { ffi::depot_read(lent.at(), lent.len()) };
+        let expected = reference::reading::read(&sheet);
+        assert_eq!(answer.refusal, refusal(&expected), "sheet {sheet:02x?}");
+        assert_eq!(answer.count, expected.as_ref().map_or(0, |sheet| sheet.jobs.len()));
+        assert_eq!(usize::from(answer.modules), expected.as_ref().map_or(0, |sheet| sheet.modules));
+        assert!(lent.has(&sheet));
+        // what was read writes the same sheet; what was refused has no jobs
+        let (jobs, behind) = answer.jobs.split_at(answer.count);
+        if expected.is_ok() {
+            let labels = &sheet[..sheet.len() - 10 * jobs.len() - 8];
+            assert_eq!(reference::writing::write(jobs, labels, answer.modules, sheet.len()), Ok(sheet));
+        }
+        assert!(behind.iter().all(|job| *job == Job::default()));
+    }
+}
+
+#[test]
+fn labels() {
+    for sheet in edge_sheets() {
+        let n = reference::reading::read(&sheet).map_or(0, |sheet| sheet.jobs.len());
+        for job in [0, 1, n.saturating_sub(1), n, MOST_JOBS - 1, MOST_JOBS, u32::MAX as usize, usize::MAX] {
+            let lent = Lent::of(&sheet);
+            // SAFETY: a buffer of its own.
+            let answer = unsafe { ffi::depot_label(lent.at(), lent.len(), job) };
+            let expected = reference::reading::label(&sheet, job);
+            let (offset, length) = expected.as_ref().map_or((0, 0), |range| (range.start, range.len()));
+            assert_eq!(answer, ffi::LabelPlace { refusal: refusal(&expected), offset, length }, "job {job} of {sheet:02x?}");
+            assert!(lent.has(&sheet));
+        }
+    }
+}
+
+fn write_and_compare(jobs: &[Job], labels: &[u8], modules: u16, room: usize) {
+    let out = Lent::painted(room);
+    // SAFETY: a buffer of its own, and two slices that are read.
+    let answer =
+        unsafe { ffi::depot_write(jobs.as_ptr(), jobs.len(), labels.as_ptr(), labels.len(), modules, out.at(), out.len()) };
+    let expected = reference::writing::write(jobs, labels, modules, room);
+    let written = expected.as_deref().unwrap_or(&[]);
+    let about = || format!("{jobs:?}, {} label bytes, modules {modules}, room {room}", labels.len());
+    assert_eq!(answer, ffi::Written { refusal: refusal(&expected), length: written.len() }, "{}", about());
+    assert!(out.has(written), "{}", about());
+}
+
+#[test]
+fn writing() {
+    let mut lists = vec![vec![], longest().jobs, chain(MOST_JOBS + 1, PLAIN), vec![PLAIN; 1000]];
+    for n in [1, MOST_JOBS] {
+        lists.extend(edge_jobs(n as u32).iter().map(|job| chain(n, *job)));
+    }
+    for jobs in lists {
+        let whole: usize = jobs.iter().map(|job| usize::from(job.label_len)).sum();
+        let length = whole + 10 * jobs.len() + 8;
+        for labels in [0, whole.saturating_sub(1), whole, whole + 1] {
+            for modules in around(1, 64, 65535) {
+                for room in [0, 7, length - 1, length, length + 1, LONGEST_SHEET] {
+                    write_and_compare(&jobs, &vec![b'!'; labels], modules as u16, room);
+                }
+            }
+        }
+    }
+    for byte in [0, 32, 33, 126, 127, 255] {
+        write_and_compare(&[PLAIN], &[byte], 1, LONGEST_SHEET);
+    }
+}
+
+// ---- the desk
+
+fn bytes_of(desk: &Desk) -> Vec<u8> {
+    let lists = [desk.held, desk.assured, desk.ceiling].concat();
+    [desk.count, desk.limit].iter().chain(&lists).flat_map(|figure| figure.to_le_bytes()).collect()
+}
+
+/// Makes a call on a lent desk: the answer and the desk are the expected ones; refused, the desk is as before.
+fn call_on(desk: &Desk, expected: Result<Desk, u32>, call: impl Fn(*mut Desk) -> u32) {
+    let lent = Lent::of(&bytes_of(desk));
+    assert_eq!(call(lent.at()), refusal(&expected), "{desk:?}");
+    assert!(lent.has(&bytes_of(&expected.unwrap_or(*desk))), "{desk:?}");
+}
+
+#[test]
+fn openings() {
+    let kept = Desk { count: 3, limit: u32::MAX, held: [7; 8], ..Desk::default() };
+    for limit in around(1, 4096, u32::MAX) {
+        for (shares, tops) in (0..=9).flat_map(|shares| (0..=9).map(move |tops| (shares, tops))) {
+            for share in [0, 1, limit / shares.max(1) as u32, limit, u32::MAX] {
+                for top in [0, 1, limit.saturating_sub(1), limit, limit.saturating_add(1), u32::MAX] {
+                    let (assured, ceilings) = (vec![share; shares], vec![top; tops]);
+                    call_on(&kept, reference::desk::open(limit, &assured, &ceilings), |desk| {
+                        // SAFETY: a live desk and two slices that are read.
+                        unsafe { ffi::depot_desk_open(desk, limit, assured.as_ptr(), shares, ceilings.as_ptr(), tops) }
+                    });
+                }
+            }
+        }
+    }
+}
+
+/// Desks at the edges of what calls can leave, and desks that they cannot.
+fn edge_desks() -> Vec<Desk> {
+    let mut desks = vec![Desk::default()];
+    for count in [2, 8] {
+        for limit in [1, 8, 4096] {
+            for share in [0, 1, limit / count] {
+                let shares = vec![share; count as usize];
+                if let Ok(desk) = reference::desk::open(limit, &shares, &vec![limit; count as usize]) {
+                    let room = reference::desk::look(&desk, 0).unwrap();
+                    desks.push(desk);
+                    desks.extend(reference::desk::claim(&desk, 0, room));
+                    desks.push(Desk { count: desk.count - 1, ..desk });
+                    desks.push(Desk { count: u32::MAX, ..desk });
+                    desks.push(Desk { held: [u32::MAX; 8], ..desk });
+                    desks.push(Desk { held: [0, 0, 0, 0, 0, 0, 0, limit + 1], ..desk });
+                    desks.push(Desk { limit: u32::MAX, ..desk });
+                }
+            }
+        }
+    }
+    let most = [u32::MAX; 8];
+    desks.push(Desk { count: u32::MAX, limit: u32::MAX, held: most, assured: most, ceiling: most });
+    desks
+}
+
+#[test]
+fn claims_hand_backs_and_looks() {
+    for desk in edge_desks() {
+        for controller in [0, 1, desk.count.saturating_sub(1), desk.count, 7, 8, u32::MAX] {
+            let room = reference::desk::look(&desk, controller).unwrap_or(1);
+            let held = *desk.held.get(controller as usize).unwrap_or(&1);
+            for bound in [0, 1, room, held, 4096, u32::MAX] {
+                for modules in [bound.saturating_sub(1), bound, bound.saturating_add(1)] {
+                    call_on(&desk, reference::desk::claim(&desk, controller, modules), |desk| {
+                        // SAFETY: a live desk.
+                        unsafe { ffi::depot_desk_claim(desk, controller, modules) }
+                    });
+                    call_on(&desk, reference::desk::hand_back(&desk, controller, modules), |desk| {
+                        // SAFETY: a live desk.
+                        unsafe { ffi::depot_desk_hand_back(desk, controller, modules) }
+                    });
+                }
+            }
+            let expected = reference::desk::look(&desk, controller);
+            for before in [0, u32::MAX] {
+                let shown = Lent::of(&before.to_le_bytes());
+                call_on(&desk, expected.map(|_| desk), |desk| {
+                    // SAFETY: a live desk, which is read, and a live number.
+                    unsafe { ffi::depot_desk_look(desk, controller, shown.at()) }
+                });
+                assert!(shown.has(&expected.unwrap_or(before).to_le_bytes()), "{desk:?}");
+            }
+        }
+    }
+}
+
+// ---- empty buffers
+
+/// The pointer of an empty buffer is not looked at.
+#[test]
+fn empty_buffers_may_have_any_pointer() {
+    let mut desk = Desk::default();
+    let mut sheet = [0; 8];
+    // SAFETY: buffers of no elements, beside a live desk and a live sheet.
+    unsafe {
+        assert_eq!(ffi::depot_plan(null_mut(), 0, null_mut(), 0, null_mut(), 0), 1);
+        assert_eq!(ffi::depot_read(null_mut(), 0).refusal, 1);
+        assert_eq!(ffi::depot_label(null_mut(), 0, 0).refusal, 1);
+        assert_eq!(ffi::depot_write(null_mut(), 0, null_mut(), 0, 1, null_mut(), 0).refusal, 10);
+        assert_eq!(ffi::depot_write(null_mut(), 0, null_mut(), 0, 1, sheet.as_mut_ptr(), 8).length, 8);
+        assert_eq!(ffi::depot_desk_open(&mut desk, 1, null_mut(), 0, null_mut(), 0), 11);
+    }
+    assert_eq!(sheet, [0, 0, 0, 0, 0, 0, 1, 0]);
+}

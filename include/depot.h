@@ -1,0 +1,235 @@
+/*
+ * depot.h: the charging planner, the job sheets and the share desk of one depot feeder, for C.
+ *
+ * Link target/staticlib/libfirmware.a (x86-64; 'rt staticlib firmware' makes it). docs/FIRMWARE.md says how to build, how to size
+ * the buffers, and what is proved; docs/PROMISES.md has every promise. host/c/example.c uses every call.
+ *
+ * OF EVERY CALL
+ *
+ * Answers.    A call answers whatever bytes, numbers and lists it is given: it is done, or it is refused with the number of the
+ *             first check that fails (enum depot_refusal). A refused call changes no lent byte and no desk, and every other figure
+ *             of its answer is 0. Every call ends.
+ * Memory.     The caller owns all memory. A call reads and writes what it is lent and its own stack, keeps no pointer when it
+ *             returns, allocates nothing and has no state of its own.
+ * Buffers.    A buffer is a pointer and the number of its elements. One of 0 elements may have any pointer, NULL too. Every other
+ *             pointer must lead to as many elements as are said, aligned as C asks; this is the one thing that no call can check.
+ * Overlaps.   What a call writes must not overlap anything else that it is lent. What it only reads may overlap.
+ * Threads.    Calls may run at the same time as long as none writes what another is lent.
+ * Stack.      Measured, not proved: depot_plan stays within DEPOT_PLAN_STACK bytes, every other call within DEPOT_CALL_STACK.
+ *             The tests of the host package hold these figures.
+ * Names       that begin with depot_ or DEPOT_ belong to the library. It calls memcpy and memset, and nothing else.
+ *
+ * Numbers of several bytes in a sheet or on a card are little-endian; bit 0 is the lowest.
+ */
+#ifndef DEPOT_H
+#define DEPOT_H
+
+#include <stddef.h>
+#include <stdint.h>
+
+#ifdef __cplusplus
+extern "C" {
+#endif
+
+/* ---- refusals ---------------------------------------------------------------------------------------------------------------- */
+
+/*
+ * What a call answers: 0, or the number of the first check that fails. Each call makes its checks in the order of these numbers.
+ */
+enum depot_refusal {
+    DEPOT_DONE = 0,
+    DEPOT_SHEET_LENGTH = 1,         /* the sheet has fewer than 8 or more than 448 bytes */
+    DEPOT_TOO_MANY_JOBS = 2,        /* there are more than 20 jobs */
+    DEPOT_CABINET_SIZE = 3,         /* the cabinet has no modules or more than 64 */
+    DEPOT_RECORD_OFFSET = 4,        /* the record offset plus 10 for each job plus 8 is not the sheet's length */
+    DEPOT_RECORD_FIELD = 5,         /* some record has a field outside its range, or a bit for an earlier job that there is not */
+    DEPOT_LABEL_LENGTHS = 6,        /* the label lengths do not add up to the label bytes there are */
+    DEPOT_LABEL_BYTE = 7,           /* some label byte is below 33 or above 126 */
+    DEPOT_OVER_WIDE = 8,            /* some job needs more modules than the cabinet has */
+    DEPOT_CIRCULAR = 9,             /* some job would have to end before itself, directly or through others */
+    DEPOT_BUFFER_TOO_SHORT = 10,    /* the lent buffer for the card, or for the written sheet, is too short */
+    DEPOT_LIST_LENGTHS = 11,        /* shares and ceilings are not two lists of one length, 2 to 8 */
+    DEPOT_DESK_FIGURES = 12,        /* the limit is not 1 to 4096, a share exceeds its ceiling, or a ceiling exceeds the limit */
+    DEPOT_SHARES_EXCEED_LIMIT = 13, /* the assured shares add up to more than the limit */
+    DEPOT_NO_SUCH_NUMBER = 14,      /* no job or controller has this number, or no opening and later calls can leave this desk */
+    DEPOT_FOR_NOTHING = 15,         /* the call is for 0 modules */
+    DEPOT_PASSES_CEILING = 16,      /* the claim would pass the controller's ceiling */
+    DEPOT_DOES_NOT_FIT = 17,        /* the claim does not fit beside what the others hold or have reserved */
+    DEPOT_EXCEEDS_HOLDING = 18      /* the hand-back exceeds the holding */
+};
+
+/* ---- sizes ------------------------------------------------------------------------------------------------------------------- */
+
+#define DEPOT_MOST_JOBS 20
+#define DEPOT_MOST_MODULES 64 /* of a cabinet */
+#define DEPOT_LONGEST_LABEL 12
+
+#define DEPOT_SHORTEST_SHEET 8
+#define DEPOT_LONGEST_SHEET 448
+/* the sheet of so many jobs with so many label bytes in all */
+#define DEPOT_SHEET_BYTES(jobs, label_bytes) ((size_t)10 * (jobs) + (label_bytes) + 8)
+
+#define DEPOT_LONGEST_CARD 268
+/* the card of so many jobs */
+#define DEPOT_CARD_BYTES(jobs) ((size_t)13 * (jobs) + 8)
+
+#define DEPOT_FEWEST_CONTROLLERS 2
+#define DEPOT_MOST_CONTROLLERS 8
+#define DEPOT_MOST_LIMIT 4096 /* of a feeder, in modules */
+
+#define DEPOT_PLAN_STACK 24576
+#define DEPOT_CALL_STACK 2048
+
+/* ---- planning ---------------------------------------------------------------------------------------------------------------- */
+
+/*
+ * Plans a job sheet: of all valid plans the one that ends first, by the tie rule.
+ *
+ * sheet  Read. The sheet's bytes.
+ * card   Written. The plan's card goes to its front, DEPOT_CARD_BYTES(n) bytes for n jobs; the bytes behind it stay. A buffer of
+ *        DEPOT_LONGEST_CARD bytes is enough for every sheet. The card has n rows of 12 bytes in job order: start (2 bytes), end (2),
+ *        modules (8, bit m for module m); then the order, a byte for each job; then a trailer: offset of the order (4), the plan's
+ *        end (2), n (2).
+ * work   Written. Working memory of any length, 0 too: more of it can make the search shorter. What it holds changes no answer, and
+ *        an answered call leaves it all zero.
+ *
+ * The three do not overlap. Answers 0, or a refusal: 1 to 10. Refused, card and work are as before.
+ *
+ * The time grows steeply with the jobs and nothing interrupts the call: docs/FIRMWARE.md, 'Time'. Stack: DEPOT_PLAN_STACK.
+ */
+uint32_t depot_plan(const uint8_t *sheet, size_t sheet_len, uint8_t *card, size_t card_len, uint8_t *work, size_t work_len);
+
+/* ---- job sheets -------------------------------------------------------------------------------------------------------------- */
+
+/* A job, in the widths of its record. */
+struct depot_job {
+    uint8_t label_len;  /* 1 to 12 */
+    uint8_t modules;    /* that it needs, 1 to 255 */
+    uint16_t minutes;   /* 1 to 1440 */
+    uint32_t earlier;   /* bit i: job i must have ended first */
+    uint16_t departure; /* a minute counted from the plan's start, 0 to 2880 */
+};
+
+/* What reading answers. */
+struct depot_reading {
+    uint32_t refusal;                       /* 0, or the refusal's number; then all else is 0 */
+    struct depot_job jobs[DEPOT_MOST_JOBS]; /* in order; 0 in the places past the last job */
+    size_t count;                           /* n, the number of jobs */
+    uint16_t modules;                       /* N, the modules in the cabinet */
+};
+
+/*
+ * Reads a job sheet. Label bytes come from depot_label.
+ *
+ * sheet  Read. The sheet's bytes.
+ *
+ * Answers the jobs, n and N, or a refusal: 1 to 7. Stack: DEPOT_CALL_STACK, and the answer in the caller's frame.
+ */
+struct depot_reading depot_read(const uint8_t *sheet, size_t sheet_len);
+
+/* Where a label lies. */
+struct depot_label_place {
+    uint32_t refusal; /* 0, or the refusal's number; then all else is 0 */
+    size_t offset;    /* of the label's first byte in the sheet */
+    size_t length;    /* of the label, 1 to 12 */
+};
+
+/*
+ * Finds the label of a job: the length bytes from sheet + offset, in the caller's sheet, where they stay. No 0 ends them.
+ *
+ * sheet  Read. The sheet's bytes.
+ * job    The job's number, from 0.
+ *
+ * Answers the label's place, or a refusal: 1 to 7 and 14. Stack: DEPOT_CALL_STACK.
+ */
+struct depot_label_place depot_label(const uint8_t *sheet, size_t sheet_len, size_t job);
+
+/* What writing answers. */
+struct depot_written {
+    uint32_t refusal; /* 0, or the refusal's number; then the length is 0 */
+    size_t length;    /* of the sheet */
+};
+
+/*
+ * Writes a job sheet. Reading it gives the same jobs, n and N.
+ *
+ * jobs     Read. The jobs in order.
+ * labels   Read. The jobs' labels run together in the same order: as many bytes as the label lengths add up to.
+ * modules  N, the modules in the cabinet.
+ * sheet    Written. The sheet goes to its front, DEPOT_SHEET_BYTES(jobs_len, labels_len) bytes; the bytes behind it stay. A buffer of
+ *          DEPOT_LONGEST_SHEET bytes is enough for every sheet.
+ *
+ * sheet does not overlap jobs or labels. Answers the sheet's length, or a refusal: 2, 3, 5, 6, 7, 10. Refused, no byte is written.
+ * Stack: DEPOT_CALL_STACK.
+ */
+struct depot_written depot_write(const struct depot_job *jobs, size_t jobs_len, const uint8_t *labels, size_t labels_len,
+                                 uint16_t modules, uint8_t *sheet, size_t sheet_len);
+
+/* ---- the share desk ---------------------------------------------------------------------------------------------------------- */
+
+/*
+ * What 2 to 8 controllers hold on one feeder, in modules. The caller keeps it and hands each call the desk as the call before it
+ * left it: what is promised of several calls is promised of such a sequence. Calls on one desk come one after another. The fields
+ * are open to be read. Whoever writes them makes a desk that later calls may refuse with 14, as every call but opening refuses a
+ * desk that no answered opening and later calls can leave.
+ */
+struct depot_desk {
+    uint32_t count;                           /* of controllers */
+    uint32_t limit;                           /* of the feeder */
+    uint32_t held[DEPOT_MOST_CONTROLLERS];    /* what each controller holds; 0 past the last */
+    uint32_t assured[DEPOT_MOST_CONTROLLERS]; /* what each controller is assured of; 0 past the last */
+    uint32_t ceiling[DEPOT_MOST_CONTROLLERS]; /* what each controller may hold at most; 0 past the last */
+};
+
+/*
+ * Opens a desk, on which nobody holds anything.
+ *
+ * desk      Written. Its earlier contents do not matter; they stay where the call is refused.
+ * limit     The feeder's limit, 1 to 4096.
+ * assured   Read. What each controller is assured of, for 2 to 8 controllers.
+ * ceilings  Read. What each controller may hold at most, for as many.
+ *
+ * desk overlaps neither list. Answers 0, or a refusal: 11 to 13. Stack: DEPOT_CALL_STACK.
+ */
+uint32_t depot_desk_open(struct depot_desk *desk, uint32_t limit, const uint32_t *assured, size_t assured_len,
+                         const uint32_t *ceilings, size_t ceilings_len);
+
+/*
+ * Claims modules for a controller. It is granted where the controller's holding plus the claim is within its ceiling and, together
+ * with the larger of holding and assured share of every other controller, within the limit.
+ *
+ * desk        Updated. Refused, it is as before.
+ * controller  The controller's number, from 0.
+ * modules     How many, 1 or more.
+ *
+ * Answers 0, or a refusal: 14 to 17. Stack: DEPOT_CALL_STACK.
+ */
+uint32_t depot_desk_claim(struct depot_desk *desk, uint32_t controller, uint32_t modules);
+
+/*
+ * Hands modules of a controller back.
+ *
+ * desk        Updated. Refused, it is as before.
+ * controller  The controller's number, from 0.
+ * modules     How many, 1 or more.
+ *
+ * Answers 0, or a refusal: 14, 15, 18. Stack: DEPOT_CALL_STACK.
+ */
+uint32_t depot_desk_hand_back(struct depot_desk *desk, uint32_t controller, uint32_t modules);
+
+/*
+ * Gives the largest claim by a controller that would be granted now, 0 if none.
+ *
+ * desk        Read.
+ * controller  The controller's number, from 0.
+ * modules     Written. The figure; refused, it is as before. It does not overlap desk.
+ *
+ * Answers 0, or the refusal 14. Stack: DEPOT_CALL_STACK.
+ */
+uint32_t depot_desk_look(const struct depot_desk *desk, uint32_t controller, uint32_t *modules);
+
+#ifdef __cplusplus
+}
+#endif
+
+#endif
