@@ -74,7 +74,7 @@ module _ (need minutes earlier : List ℕ) (jobs modules : ℕ) (fit : Fit need 
   S = sheetOf need minutes earlier jobs modules
 
   -- no minute of a plan reaches 28,801
-  end-short : (j : ℕ) → j < jobs → finish S (listPlan S o) j ≤ 28800
+  pub end-short : (j : ℕ) → j < jobs → finish S (listPlan S o) j ≤ 28800
   end-short j l =
       let placed = completes-all S emptyPart o (order-completes S o h) j l in
       let within = ends-within S (fit .narrow) 0 (λ i k. zero-le) o (h .follows) j l placed in

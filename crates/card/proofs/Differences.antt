@@ -19,7 +19,7 @@ use Rattle.card.specs.Card.{latenessOf}
 
 -- ---- in 32 bits
 
-difference-small : (a b n : ℕ) → a < n → b < n → mag (pos a -ℤ pos b) < n
+pub difference-small : (a b n : ℕ) → a < n → b < n → mag (pos a -ℤ pos b) < n
 difference-small a zero n l m = omega arith
 difference-small a (suc b) n l m = go (ltb a (suc b)) refl
   where

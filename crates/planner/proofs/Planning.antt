@@ -10,15 +10,15 @@ use native.Mathlib.Omega.{arith}
 use lib.Dec.{ltb}
 use lib.ListN.{length, drop}
 use Rattle.counting.proofs.Tests.{true-or-false, clash}
-use Rattle.schedule.specs.Plan.{Sheet, Plan, Valid, Circular, planEnd, overWide}
-use Rattle.schedule.specs.ListPlan.{Order}
+use Rattle.schedule.specs.Plan.{Sheet, Plan, Valid, Circular, finish, planEnd, overWide}
+use Rattle.schedule.specs.ListPlan.{Order, listPlan}
 use Rattle.schedule.specs.TieRule.{Best, bestOrder, endOf}
 use Rattle.schedule.proofs.Orders.{best-order}
 use Rattle.schedule.proofs.Existence.{narrow-says, has-plan}
 use Rattle.schedule.proofs.Theorems.{none-circular, best-not-circular, best-earliest}
 use Rattle.card.specs.Card.{cardOf}
 use Rattle.card.specs.Decoding.{planOn, Decodes}
-use Rattle.card.proofs.Decoding.{card-length, card-decodes}
+use Rattle.card.proofs.Decoding.{card-length, end-short, card-decodes}
 use Rattle.card.proofs.OnCard.{card-valid, card-end}
 use Rattle.checking.specs.Checking.{firstFailing, FirstFails}
 use Rattle.checking.proofs.Order.{all-passed, none-failing, first-behind, refused-exactly}
@@ -160,6 +160,14 @@ module _ (s card : List ℕ) (e : planRefusal s (length card) ≡ 0) where
       (λ h. card-decodes (needs (reading s)) (minutes (reading s)) (earliers (reading s)) (reading s .count) (reading s .modules)
       (fit-read s (p .reads) (p .narrow)) o h (drop (cardSize S) card))
       (best .order))
+
+  -- no minute of the plan reaches 28,801
+  pub ends-short : (j : ℕ) → j < S .jobs → finish S (listPlan S o) j ≤ 28800
+  ends-short =
+      subst (λ (T : Sheet). Order T o → (j : ℕ) → j < T .jobs → finish T (listPlan T o) j ≤ 28800) (sheet-tables (reading s))
+      (λ h. end-short (needs (reading s)) (minutes (reading s)) (earliers (reading s)) (reading s .count) (reading s .modules)
+      (fit-read s (p .reads) (p .narrow)) o h [])
+      (best .order)
 
   last : planEnd S (planOn (cardAfter s card)) ≡ endOf S o
   last = card-end S (narrow-says S (p .narrow)) o (best .order) (cardAfter s card) decodes ∙ decodes .last

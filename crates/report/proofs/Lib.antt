@@ -3,4 +3,5 @@ pub mod Numbers
 pub mod Sheets
 pub mod Lengths
 pub mod Reports
+pub mod Figures
 pub mod Examples

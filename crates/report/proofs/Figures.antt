@@ -1,0 +1,99 @@
+-- Every figure that a report shows is below 100000, where `decimal-value` reads it back from its digits.
+use mathlib.Core.Path.{_≡_, sym, subst}
+use mathlib.Core.Bool.{Bool, true, false, cond}
+use mathlib.Core.List.{List, [], _∷_}
+use mathlib.Core.Option.{some}
+use Prim.Native.Nat.{ℕ, _≤_, _<_}
+use native.Mathlib.Omega.{arith}
+use lib.Dec.{T, leb, leb→le}
+use lib.IntN.{natAbs}
+use lib.ListN.{replicate}
+use lib.Signed.{natAbs-le}
+use Rattle.counting.proofs.Ranges.{largest-le}
+use Rattle.checking.specs.Checking.{Check, firstFailing}
+use Rattle.schedule.specs.Plan.{Sheet, Plan, finish, planEnd}
+use Rattle.schedule.specs.ListPlan.{listPlan}
+use Rattle.schedule.specs.TieRule.{bestOrder}
+use Rattle.card.specs.Card.{latenessOf}
+use Rattle.card.proofs.Differences.{difference-small}
+use Rattle.sheet.specs.declared.Reading.{Reading}
+use Rattle.sheet.specs.Read.{readRefusal, reading}
+use Rattle.sheet.proofs.Answers.{read-answer, reads}
+use Rattle.planner.specs.Planning.{sheetOn, planChecks, planRefusal}
+use Rattle.planner.proofs.Tables.{job-read}
+use Rattle.planner.proofs.Planning.{passes, found, ends-short}
+use Rattle.report.specs.Report.{departureOf, longestCard}
+use Rattle.report.proofs.Sheets.{few}
+
+-- ---- a refusal's number
+
+abbrev UpTo : ℕ → List Check → Type 0
+UpTo k [] = Unit {0}
+UpTo k (c ∷ cs) = (c .0 ≤ k) × UpTo k cs
+
+first-small : (k : ℕ) (cs : List Check) → UpTo k cs → firstFailing cs ≤ k
+unfolding firstFailing
+first-small k [] u = omega arith
+first-small k (c ∷ cs) u = either (c .1) (u .0) (first-small k cs (u .1))
+  where
+    either : (b : Bool) {x y : ℕ} → x ≤ k → y ≤ k → cond b x y ≤ k
+    either true l m = l
+    either false l m = m
+
+pub refusal-small : (s : List ℕ) → planRefusal s longestCard ≤ 10
+unfolding planRefusal
+refusal-small s =
+    let l : (n : ℕ) → T (leb n 10) → n ≤ 10 = λ n t. leb→le n 10 t in
+    first-small 10 (planChecks s longestCard)
+    (l 1 tt, (l 2 tt, (l 3 tt, (l 4 tt, (l 5 tt, (l 6 tt, (l 7 tt, (l 8 tt, (l 9 tt, (l 10 tt, tt))))))))))
+
+-- ---- the figures of a plan P of the sheet S that s reads as
+
+pub record Small (s : List ℕ) (S : Sheet) (P : Plan) : Type 0 where
+  pub end : planEnd S P < 100000
+  pub jobs : S .jobs < 100000
+  pub modules : S .modules < 100000
+  pub starts : (j : ℕ) → j < S .jobs → P .start j < 100000
+  pub finishes : (j : ℕ) → j < S .jobs → finish S P j < 100000
+  pub late : (j : ℕ) → j < S .jobs → natAbs (latenessOf (finish S P j) (departureOf s j)) < 100000
+
+module _ (s : List ℕ) (z : planRefusal s longestCard ≡ 0) where
+  abbrev S : Sheet
+  S = sheetOn (reading s)
+
+  abbrev card : List ℕ
+  card = replicate longestCard 0
+
+  abbrev P : Plan
+  P = listPlan S (found s card z .0)
+
+  ends : (j : ℕ) → j < S .jobs → finish S P j ≤ 28800
+  ends = ends-short s card z
+
+  reads-well : readRefusal s ≡ 0
+  reads-well = passes s longestCard z .reads
+
+  modules-few : S .modules ≤ 64
+  modules-few = subst (λ (r : Reading). r .modules ≤ 64) (sym (read-answer s reads-well)) (reads s reads-well .trailer .most)
+
+  late-small : (j : ℕ) → j < S .jobs → natAbs (latenessOf (finish S P j) (departureOf s j)) ≤ 28801
+  late-small j l =
+      let departs = job-read s reads-well j l .departure in
+      natAbs-le (latenessOf (finish S P j) (departureOf s j))
+      (difference-small (finish S P j) (departureOf s j) 28801 (omega (arith, ends j l)) (omega arith))
+
+  small : Small s S P
+  small = record {
+    end = omega (arith, largest-le (S .jobs) (finish S P) 28800 ends);
+    jobs = omega (arith, few s);
+    modules = omega (arith, modules-few);
+    starts = λ j l. omega (arith, ends j l);
+    finishes = λ j l. omega (arith, ends j l);
+    late = λ j l. omega (arith, late-small j l);
+  }
+
+  -- Of the tie rule's plan every figure is small.
+  pub figures-small : (o : List ℕ) → bestOrder S ≡ some o → Small s S (listPlan S o)
+  figures-small o b =
+      let same : found s card z .0 ≡ o = cc (found s card z .1) in
+      subst (λ (q : List ℕ). Small s S (listPlan S q)) same small
