@@ -125,7 +125,7 @@ module _ (s card : List ℕ) (e : planRefusal s (length card) ≡ 0) where
   abbrev p : Passes s (length card)
   p = passes s (length card) e
 
-  found : (o : List ℕ) × (bestOrder S ≡ some o)
+  pub found : (o : List ℕ) × (bestOrder S ≡ some o)
   unfolding noOrder
   found = go (bestOrder S) refl
     where
@@ -153,7 +153,7 @@ module _ (s card : List ℕ) (e : planRefusal s (length card) ≡ 0) where
   card-is : cardAfter s card ≡ cardOf S o ++ drop (cardSize S) card
   card-is = plan-written ∙ ap (λ (c : List ℕ). c ++ drop (cardSize S) card) best-card
 
-  decodes : Decodes S o (cardAfter s card)
+  pub decodes : Decodes S o (cardAfter s card)
   decodes =
       subst (λ (c : List ℕ). Decodes S o c) (sym card-is)
       (subst (λ (T : Sheet). Order T o → Decodes T o (cardOf T o ++ drop (cardSize S) card)) (sheet-tables (reading s))

@@ -1,0 +1,126 @@
+// The edges of planning.
+use super::cases::print_case;
+use sheet::Job;
+
+// The lengths of the sheets of one job and of twenty jobs with labels of one byte.
+const ONE: usize = 19;
+
+const TWENTY: usize = 228;
+
+// The lengths of their cards.
+const ONE_CARD: usize = 21;
+
+const TWENTY_CARD: usize = 268;
+
+// What the lent bytes hold before a call.
+const CARD_BYTE: u8 = 9;
+
+const WORK_BYTE: u8 = 7;
+
+fn job(modules: u8, minutes: u16, earlier: u32) -> Job {
+    Job {
+        label_len: 1,
+        modules,
+        minutes,
+        earlier,
+        departure: 30,
+    }
+}
+
+// The sheet of one job of 10 minutes, for a cabinet of 64 modules.
+fn one(modules: u8, earlier: u32) -> [u8; ONE] {
+    let mut s = [0u8; ONE];
+    sheet::write([job(modules, 10, earlier); 20], 1, b"A", 64, &mut s);
+    s
+}
+
+// The sheet of twenty jobs that are alike, for a cabinet of 64 modules.
+fn twenty(modules: u8, minutes: u16) -> [u8; TWENTY] {
+    let mut s = [0u8; TWENTY];
+    sheet::write([job(modules, minutes, 0); 20], 20, &[b'B'; 20], 64, &mut s);
+    s
+}
+
+fn wide(x: u8) -> u32 {
+    x as u32
+}
+
+fn first(s: &[u8]) -> u32 {
+    if 0 < s.len() { wide(s[0]) } else { 0 }
+}
+
+// The plan's end on a card that fills the lent bytes: the second number of the trailer.
+fn end(card: &[u8]) -> u32 {
+    if card.len() < 8 {
+        return 0;
+    }
+    words::read16(card, card.len() - 4) as u32
+}
+
+// Plans a sheet, and prints the number and what then stands first in the lent bytes.
+fn plan(name: &[u8], s: &[u8], card: &mut [u8], work: &mut [u8]) {
+    print_case(name, planner::plan(s, card, work));
+    print_case(b"  first byte of the card", first(card));
+    print_case(b"  first byte of the memory", first(work));
+}
+
+// Plans a sheet whose card fills the lent bytes, and prints the plan's end too.
+fn plan_whole(name: &[u8], s: &[u8], card: &mut [u8], work: &mut [u8]) {
+    plan(name, s, card, work);
+    print_case(b"  end", end(card));
+}
+
+fn one_job() {
+    let fits = one(64, 0);
+    plan_whole(
+        b"a job of 64 modules out of 64",
+        &fits,
+        &mut [CARD_BYTE; ONE_CARD],
+        &mut [WORK_BYTE; 64],
+    );
+    plan(
+        b"a card of one byte less",
+        &fits,
+        &mut [CARD_BYTE; ONE_CARD - 1],
+        &mut [WORK_BYTE; 64],
+    );
+    plan(
+        b"a job of 65 modules out of 64",
+        &one(65, 0),
+        &mut [CARD_BYTE; ONE_CARD],
+        &mut [WORK_BYTE; 64],
+    );
+    plan(
+        b"a job before itself",
+        &one(64, 1),
+        &mut [CARD_BYTE; ONE_CARD],
+        &mut [WORK_BYTE; 64],
+    );
+}
+
+fn twenty_jobs() {
+    plan_whole(
+        b"20 jobs at once",
+        &twenty(3, 10),
+        &mut [CARD_BYTE; TWENTY_CARD],
+        &mut [WORK_BYTE; 4096],
+    );
+    let long = twenty(64, 1440);
+    plan_whole(
+        b"20 jobs of 1440 minutes one after another",
+        &long,
+        &mut [CARD_BYTE; TWENTY_CARD],
+        &mut [WORK_BYTE; 4096],
+    );
+    plan_whole(
+        b"the same without working memory",
+        &long,
+        &mut [CARD_BYTE; TWENTY_CARD],
+        &mut [WORK_BYTE; 0],
+    );
+}
+
+pub fn run() {
+    one_job();
+    twenty_jobs();
+}

@@ -1,0 +1,67 @@
+-- A report is never longer than the room of a text: the first line has at most 4 + 3 * 6 + 1 = 23 bytes, each of at most 20 job lines
+-- 12 + 6 + 6 + 7 + 17 + 1 = 49, together 1003.
+use mathlib.Core.Path.{_≡_, refl}
+use mathlib.Core.Bool.{Bool, true, false, cond}
+use mathlib.Core.List.{List}
+use mathlib.Core.Option.{Option, none, some}
+use Prim.Native.Nat.{ℕ, zero, suc, _+_, _*_, _≤_}
+use native.Mathlib.Omega.{arith}
+use lib.Dec.{eqb}
+use lib.ListN.{length, length-append}
+use Rattle.counting.specs.Counting.{joined}
+use Rattle.schedule.specs.Plan.{Sheet, Plan, planEnd}
+use Rattle.schedule.specs.ListPlan.{listPlan}
+use Rattle.schedule.specs.TieRule.{bestOrder}
+use Rattle.card.specs.Card.{latenessOf}
+use Rattle.sheet.specs.Read.{reading}
+use Rattle.sheet.specs.Label.{labelOf}
+use Rattle.planner.specs.Planning.{sheetOn, planRefusal}
+use Rattle.text.specs.Lines.{line}
+use Rattle.text.specs.Texts.{room}
+use Rattle.text.proofs.Lengths.{decimal-short, signed-short, hexadecimal-length}
+use Rattle.report.specs.Report.{planLine, jobLine, refusedLine, lineOfJob, planLines, bestLines, longestCard, reportOf}
+use Rattle.report.proofs.Sheets.{few, label-short}
+
+refused-short : (k : ℕ) → length (refusedLine k) ≤ room
+unfolding refusedLine line
+refused-short k = simp length-append (omega (arith, decimal-short k))
+
+plan-short : (end n N : ℕ) → length (planLine end n N) ≤ 23
+unfolding planLine line
+plan-short end n N = simp length-append (omega (arith, decimal-short end, decimal-short n, decimal-short N))
+
+job-short : (label : List ℕ) (start end departure modules : ℕ) → length label ≤ 12
+    → length (jobLine label start end departure modules) ≤ 49
+unfolding jobLine line
+job-short label start end departure modules l =
+    simp length-append
+    (omega (arith, decimal-short start, decimal-short end, signed-short (latenessOf end departure), hexadecimal-length modules))
+
+-- n lists of at most w elements each
+joined-short : (n w : ℕ) (f : ℕ → List ℕ) → ((i : ℕ) → length (f i) ≤ w) → length (joined n f) ≤ n * w
+unfolding joined
+joined-short zero w f h = omega arith
+joined-short (suc n) w f h = simp length-append (omega (arith, joined-short n w f h, h n))
+
+plan-lines-short : (s : List ℕ) (S : Sheet) (P : Plan) → S .jobs ≤ 20 → length (planLines s S P) ≤ room
+plan-lines-short s S P l =
+    let rows = joined-short (S .jobs) 49 (lineOfJob s S P) (λ j. job-short (labelOf s j) _ _ _ _ (label-short s j)) in
+    simp length-append (omega (arith, plan-short (planEnd S P) (S .jobs) (S .modules)))
+
+best-short : (s : List ℕ) (S : Sheet) → S .jobs ≤ 20 → length (bestLines s S) ≤ room
+unfolding bestLines
+best-short s S l = go (bestOrder S) refl
+  where
+    go : (b : Option (List ℕ)) → bestOrder S ≡ b → length (bestLines s S) ≤ room
+    go none e = rw (e, bestLines) (omega arith)
+    go (some o) e = rw (e, bestLines) (plan-lines-short s S (listPlan S o) l)
+
+-- Every report fits a text.
+pub report-fits : (s : List ℕ) → length (reportOf s) ≤ room
+unfolding reportOf
+report-fits s = go (eqb (planRefusal s longestCard) 0) refl
+  where
+    go : (b : Bool) → eqb (planRefusal s longestCard) 0 ≡ b
+        → length (cond b (bestLines s (sheetOn (reading s))) (refusedLine (planRefusal s longestCard))) ≤ room
+    go true e = best-short s (sheetOn (reading s)) (few s)
+    go false e = refused-short (planRefusal s longestCard)

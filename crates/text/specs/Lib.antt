@@ -1,0 +1,4 @@
+-- How numbers and lines are printed, and what a text holds.
+pub mod Numbers
+pub mod Lines
+pub mod Texts

@@ -1,0 +1,94 @@
+#!/usr/bin/env python3
+"""Runs target/bin/print_plan on sheets and compares what it prints with the lines of document 01, written out here."""
+import pathlib
+import struct
+import subprocess
+import sys
+
+PROGRAM = pathlib.Path(__file__).parent.parent / 'target/bin/print_plan'
+
+
+def record(label=1, modules=1, minutes=10, earlier=0, departure=30):
+    return struct.pack('<BBHIH', label, modules, minutes, earlier, departure)
+
+
+def sheet(labels, records, modules, offset=None):
+    offset = len(labels) if offset is None else offset
+    return labels + b''.join(records) + struct.pack('<IHH', offset, len(records), modules)
+
+
+E1 = bytes.fromhex(
+    '414243 01010A0000000000 1E00 0102140000000000 1900 01010A0000000000 1E00 0300000003000200')
+LONGEST = sheet(b'L' * 240, [record(label=12, modules=64, minutes=1440, departure=2880)] * 20, 64)
+
+PLANS = [
+    ('E1', E1,
+     'plan 30 3 2\n'
+     'A 0 10 -20 0000000000000001\n'
+     'B 10 30 5 0000000000000003\n'
+     'C 0 10 -20 0000000000000002\n'),
+    ('E2: no jobs', sheet(b'', [], 1), 'plan 0 0 1\n'),
+    ('E7', sheet(b'ABC', [record(departure=0), record(departure=20), record(minutes=20, departure=2880)], 2),
+     'plan 20 3 2\n'
+     'A 0 10 10 0000000000000001\n'
+     'B 10 20 0 0000000000000001\n'
+     'C 0 20 -2860 0000000000000002\n'),
+    ('E8', sheet(b'oneBBthree,4444', [
+        record(label=3, minutes=1), record(label=2),
+        record(label=6, modules=2, minutes=1, earlier=1), record(label=4, earlier=4)], 2),
+     'plan 12 4 2\n'
+     'one 0 1 -29 0000000000000001\n'
+     'BB 2 12 -18 0000000000000001\n'
+     'three, 1 2 -28 0000000000000003\n'
+     '4444 2 12 -18 0000000000000002\n'),
+    ('the lowest lateness, and all of 64 modules',
+     sheet(b'!~', [record(minutes=1, departure=2880), record(modules=64, minutes=2, departure=0)], 64),
+     'plan 3 2 64\n'
+     '! 0 1 -2879 0000000000000001\n'
+     '~ 1 3 3 FFFFFFFFFFFFFFFF\n'),
+    ('the highest module', sheet(b'AB', [record(modules=63), record()], 64),
+     'plan 10 2 64\n'
+     'A 0 10 -20 7FFFFFFFFFFFFFFF\n'
+     'B 0 10 -20 8000000000000000\n'),
+    ('the longest sheet, of the latest end', LONGEST,
+     'plan 28800 20 64\n' + ''.join(
+         f'LLLLLLLLLLLL {1440 * j} {1440 * j + 1440} {1440 * j + 1440 - 2880} FFFFFFFFFFFFFFFF\n' for j in range(20))),
+]
+
+REFUSED = [
+    (1, 'nothing', b''),
+    (1, '7 bytes', bytes(7)),
+    (1, '449 bytes', LONGEST + b'\0'),
+    (1, 'a byte before the longest sheet', b'L' + LONGEST),
+    (1, '100000 bytes', bytes(100000)),
+    (2, '21 jobs', sheet(b'A' * 21, [record()] * 21, 1)),
+    (3, 'no modules', sheet(b'A', [record()], 0)),
+    (3, '65 modules', sheet(b'A', [record()], 65)),
+    (4, 'an offset of one more', sheet(b'A', [record()], 1, offset=2)),
+    (5, 'no minutes', sheet(b'A', [record(minutes=0)], 1)),
+    (5, '1441 minutes', sheet(b'A', [record(minutes=1441)], 1)),
+    (5, 'an earlier job that is not there', sheet(b'A', [record(earlier=2)], 1)),
+    (6, 'a label byte too few', sheet(b'A', [record(label=2)], 1)),
+    (7, 'a space in a label', sheet(b' ', [record()], 1)),
+    (7, 'byte 127 in a label', sheet(b'\x7f', [record()], 1)),
+    (8, 'E3: a job that is too wide', sheet(b'A', [record(modules=2)], 1)),
+    (8, 'E6: E4 with one job too wide', sheet(b'AB', [record(modules=2, earlier=2), record(earlier=1)], 1)),
+    (9, 'E4: two jobs each before the other', sheet(b'AB', [record(earlier=2), record(earlier=1)], 1)),
+    (9, 'E5: a job before itself', sheet(b'A', [record(earlier=1)], 1)),
+]
+
+
+def main():
+    cases = PLANS + [(f'refusal {k}: {name}', s, f'refused {k}\n') for k, name, s in REFUSED]
+    failed = 0
+    for name, s, lines in cases:
+        run = subprocess.run([PROGRAM], input=s, capture_output=True)
+        if (run.returncode, run.stdout, run.stderr) != (0, lines.encode(), b''):
+            failed += 1
+            print(f'{name}: expected {lines!r}, got {run.stdout!r}, status {run.returncode}, errors {run.stderr!r}')
+    print(f'{len(cases) - failed} passed, {failed} failed')
+    sys.exit(1 if failed else 0)
+
+
+if __name__ == '__main__':
+    main()
