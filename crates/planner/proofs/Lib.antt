@@ -4,4 +4,3 @@ pub mod Copies
 pub mod Planning
 pub mod Calls
 pub mod Granted
-pub mod Examples
