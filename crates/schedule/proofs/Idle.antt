@@ -6,19 +6,19 @@ use mathlib.Core.List.{List, [], _∷_, _++_}
 use Prim.Native.Nat.{ℕ, _+_, _≤_, _<_, zero-le}
 use native.Mathlib.Omega.{arith}
 use native.Mathlib.Nat.{le-refl, le-trans}
-use lib.Dec.{eqb, leb}
-use borrow.Author.Tests.{eqb-true, ltb-true, leb-true, lt-ltb, eq-eqb, ne-eqb, lt-leb}
+use lib.Dec.{eqb}
+use borrow.Author.Tests.{eqb-true, eq-eqb, ne-eqb}
 use Rattle.counting.specs.Counting.{only}
-use Rattle.counting.proofs.Tests.{true-or-false, clash, and-left, and-right, and-both, only-mono, only-le}
-use Rattle.counting.proofs.Sums.{sum-le, sum-add, sum-single}
+use Rattle.counting.proofs.Tests.{true-or-false, clash}
+use Rattle.counting.proofs.Sums.{sum-le}
 use Rattle.counting.proofs.Ranges.{le-largest, largest-le}
 use Rattle.schedule.specs.Plan.{Sheet, Plan, finish, planEnd, Narrow, Lasting}
-use Rattle.schedule.specs.ListPlan.{PartPlan, noJobs, ready, Follows, occupies, startOf, partOf, MayStart, occupied}
+use Rattle.schedule.specs.ListPlan.{PartPlan, noJobs, ready, Follows, startOf, partOf, MayStart}
 use Rattle.schedule.proofs.Starts.{Ready, ready-says, start-may}
 use Rattle.schedule.proofs.Sound.{part-sound}
-use Rattle.schedule.proofs.Occupied.{occupied-falls, room-sum}
-use Rattle.schedule.proofs.Timed.{runs, load, Timed}
+use Rattle.schedule.proofs.Timed.{runs, runs-from, runs-to, load, Timed}
 use Rattle.schedule.proofs.Places.{CannotBeat}
+use Rattle.schedule.proofs.Beside.{beside-room}
 use Rattle.schedule.proofs.Settled.{StartsNext, settled-next, Completion, by-plans}
 
 module _ (S : Sheet) (w : Lasting S) (n : Narrow S) (v : List ℕ) (f : Follows S noJobs v) (i j : ℕ)
@@ -51,40 +51,13 @@ module _ (S : Sheet) (w : Lasting S) (n : Narrow S) (v : List ℕ) (f : Follows 
         go true e = rw (e, eqb-true k i e) (omega (arith, i-later))
         go false e = rw e (le-refl _)
 
-    self : eqb i i ≡ true
-    self = eq-eqb i i refl
+    at-i : moved .start i ≡ s
+    at-i = let self : eqb i i ≡ true = eq-eqb i i refl in rw self refl
+
+    kept : (k : ℕ) → k < S .jobs → P .placed k ≡ true → moved .start k ≡ P .plan .start k
+    kept k l p = rw (ne-eqb k i (λ y. clash (P .placed k) p (rw y (ri .new)))) (c .kept k l p)
 
     -- ---- the load
-
-    -- while job i runs, only placed jobs run beside it
-    beside : (t k : ℕ) → t < Q .start j → k < S .jobs → (b : Bool) → eqb k i ≡ b → (P .placed k ≡ true) ⊎ (P .placed k ≡ false)
-        → only (runs S moved t k) (S .need k) ≤ only (occupies S P t k) (S .need k) + only (eqb k i) (S .need k)
-    beside t k m l true e p = le-trans {m = S .need k} (only-le (runs S moved t k) (S .need k)) (rw e (omega arith))
-    beside t k m l false e (inl p) =
-        let same : moved .start k ≡ P .plan .start k = rw e (c .kept k l p) in
-        le-trans {m = only (occupies S P t k) (S .need k)}
-        (only-mono (runs S moved t k) (occupies S P t k) (S .need k) (λ x.
-        let y = ltb-true t (finish S moved k + S .rest) (and-right (leb (moved .start k) t) _ x) in
-        and-both (P .placed k) _ p (lt-ltb t (finish S (P .plan) k + S .rest) (omega arith))))
-        (omega arith)
-    beside t k m l false e (inr p) =
-        let late : leb (moved .start k) t ≡ false = rw e (lt-leb (Q .start k) t (omega (arith, c .first k l p))) in
-        rw late zero-le
-
-    while-running : (t : ℕ) → s ≤ t → t < s + S .minutes i + S .rest → load S moved t ≤ S .modules
-    unfolding occupied
-    while-running t a b =
-        let m : t < Q .start j = omega (arith, idle, c .next) in
-        let each = sum-le (S .jobs) (λ k. only (runs S moved t k) (S .need k)) _
-        (λ k l. beside t k m l (eqb k i) refl (true-or-false (P .placed k))) in
-        omega (
-          arith,
-          each,
-          sum-add (S .jobs) (λ k. only (occupies S P t k) (S .need k)) (λ k. only (eqb k i) (S .need k)),
-          sum-single (S .jobs) (S .need) i (ri .job),
-          occupied-falls S P s t a,
-          room-sum S P (part-sound S n v f) i s may,
-        )
 
     otherwise : (t : ℕ) → runs S moved t i ≡ false → load S moved t ≤ S .modules
     otherwise t e = le-trans (sum-le (S .jobs) _ (λ k. only (runs S Q t k) (S .need k)) (λ k l. one k (eqb k i) refl)) (c .timed .room t)
@@ -95,8 +68,8 @@ module _ (S : Sheet) (w : Lasting S) (n : Narrow S) (v : List ℕ) (f : Follows 
 
     room : (t : ℕ) → (runs S moved t i ≡ true) ⊎ (runs S moved t i ≡ false) → load S moved t ≤ S .modules
     room t (inl e) =
-        let h : runs S (record { start = λ k. s; uses = Q .uses }) t i ≡ true = rw self at e in
-        while-running t (leb-true s t (and-left _ _ h)) (ltb-true t _ (and-right (leb s t) _ h))
+        beside-room S P (part-sound S n v f) i s (ri .job) may moved kept t (omega (arith, at-i, runs-from S moved i t e)) (λ k l p d.
+        rw (ne-eqb k i d) (omega (arith, at-i, runs-to S moved i t e, idle, c .next, c .first k l p)))
     room t (inr e) = otherwise t e
 
     -- ---- the rest
@@ -123,14 +96,14 @@ module _ (S : Sheet) (w : Lasting S) (n : Narrow S) (v : List ℕ) (f : Follows 
     next : StartsNext S w n v f i r moved
     next = record {
       timed = timed;
-      kept = λ k l p. rw (ne-eqb k i (λ y. clash (P .placed k) p (rw y (ri .new)))) (c .kept k l p);
-      reached = rw self (le-refl s);
+      kept = kept;
+      reached = rw at-i (le-refl s);
       first = λ k l p. first k l p (eqb k i) refl;
     }
       where
         first : (k : ℕ) → k < S .jobs → P .placed k ≡ false → (x : Bool) → eqb k i ≡ x → moved .start i ≤ moved .start k
         first k l p true q = rw (eqb-true k i q) (le-refl _)
-        first k l p false q = rw (self, q) (omega (arith, idle, c .next, c .first k l p))
+        first k l p false q = rw (at-i, q) (omega (arith, idle, c .next, c .first k l p))
 
     ends : planEnd S moved ≤ planEnd S Q
     ends = largest-le (S .jobs) (finish S moved) (planEnd S Q) (λ k l. omega (arith, no-later k, le-largest (S .jobs) (finish S Q) k l))

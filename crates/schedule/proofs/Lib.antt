@@ -17,7 +17,9 @@ pub mod Cuts
 pub mod Branch
 pub mod Settled
 pub mod SameMinute
+pub mod Beside
 pub mod Idle
+pub mod Alone
 pub mod Exchange
 pub mod Alike
 pub mod Swaps

@@ -1,8 +1,8 @@
 -- Plans by their starts alone: where no minute's load passes the modules, the jobs that are left can be taken in the order of their
 -- starts, and no job starts later.
 use mathlib.Core.Path.{_≡_, refl, ap}
-use mathlib.Core.Logic.{_⊎_, inl, inr, ⊎-elim}
-use mathlib.Core.Bool.{Bool, true, false, not, _&&_, and-false}
+use mathlib.Core.Logic.{_⊎_, inl, inr, ⊎-elim, _≢_}
+use mathlib.Core.Bool.{Bool, true, false, not, _&&_, _||_, and-false}
 use mathlib.Core.List.{List, [], _∷_}
 use Prim.Native.Nat.{ℕ, zero, suc, _+_, _≤_, _<_, zero-le}
 use native.Mathlib.Omega.{arith}
@@ -11,8 +11,8 @@ use lib.Dec.{ltb, leb, eqb}
 use lib.ListN.{length}
 use borrow.Author.Tests.{ltb-true, leb-true, eqb-true, lt-ltb, le-leb, lt-leb, le-ltb, ne-eqb, not-true}
 use Rattle.counting.specs.Counting.{only, sum, count}
-use Rattle.counting.proofs.Tests.{true-or-false, clash, and-left, and-right, and-both, or-right, not-of-false}
-use Rattle.counting.proofs.Sums.{sum-le, sum-add, sum-single, le-sum}
+use Rattle.counting.proofs.Tests.{true-or-false, clash, and-left, and-right, and-both, or-right, not-of-false, only-mono}
+use Rattle.counting.proofs.Sums.{sum-le, sum-add, sum-single, sum-insert, le-sum}
 use Rattle.counting.proofs.Ranges.{argmin}
 use Rattle.counting.proofs.Counts.{count-insert, count-full, count-not, count-none}
 use Rattle.schedule.specs.Plan.{Sheet, Plan, finish, Narrow, Lasting}
@@ -46,6 +46,19 @@ module _ (S : Sheet) (P : Plan) (k t : ℕ) where
 -- the modules that the jobs need at minute t
 abbrev pub load : Sheet → Plan → ℕ → ℕ
 load S P t = sum (S .jobs) (λ i. only (runs S P t i) (S .need i))
+
+-- two jobs that run at the same minute
+pub both-run : (S : Sheet) (Q : Plan) (t i k : ℕ) → i < S .jobs → k < S .jobs → k ≢ i → runs S Q t i ≡ true → runs S Q t k ≡ true
+    → S .need i + S .need k ≤ load S Q t
+both-run S Q t i k l m d p q =
+    let two = sum-insert (S .jobs) (λ a. eqb a i) (S .need) k m (ne-eqb k i d) in
+    let each = sum-le (S .jobs) (λ a. only (eqb a k || eqb a i) (S .need a)) (λ a. only (runs S Q t a) (S .need a))
+    (λ a z. only-mono (eqb a k || eqb a i) (runs S Q t a) (S .need a) (one a (eqb a k) refl)) in
+    omega (arith, sum-single (S .jobs) (S .need) i l)
+  where
+    one : (a : ℕ) (b : Bool) → eqb a k ≡ b → (eqb a k || eqb a i) ≡ true → runs S Q t a ≡ true
+    one a true e h = rw (eqb-true a k e) q
+    one a false e h = let z : eqb a i ≡ true = rw e at h in rw (eqb-true a i z) p
 
 -- what a plan's starts have to keep: enough modules at every minute, earlier jobs, arrivals
 pub record Timed (S : Sheet) (P : Plan) : Type 0 where
