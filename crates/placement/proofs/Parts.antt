@@ -36,7 +36,7 @@ use Rattle.tables.proofs.Laws.{job-area, all-minutes}
 use Rattle.placement.specs.declared.Part.{Part}
 use Rattle.placement.specs.Profile.{heldAt, heldAfter, heldFrom}
 use Rattle.placement.specs.Part.{waits, StartFor, Figures, IsPart, Placeable, Placed, isReady, firstPart}
-use Rattle.placement.proofs.Inserts.{inserted-held, inserted-after}
+use Rattle.placement.proofs.Inserts.{inserted-sum}
 
 not-true-false : (b : Bool) → not b ≡ true → b ≡ false
 not-true-false true e = sym e
@@ -46,6 +46,10 @@ not-false-true : (b : Bool) → not b ≡ false → b ≡ true
 not-false-true true e = refl
 not-false-true false e = sym e
 
+times-one : (b : Bool) (x : ℕ) → x * only b 1 ≡ only b x
+times-one true x = omega arith
+times-one false x = omega arith
+
 module _ (need minutes earlier : List ℕ) (jobs modules : ℕ) (fit : Fit need minutes jobs modules) where
   abbrev S : Sheet
   S = sheetOf need minutes earlier jobs modules
@@ -53,7 +57,7 @@ module _ (need minutes earlier : List ℕ) (jobs modules : ℕ) (fit : Fit need 
   -- ---- the part-plan without jobs
 
   pub first-is : IsPart S [] (firstPart need minutes jobs modules)
-  unfolding firstPart placeAll heldAt heldAfter heldFrom sum occupied
+  unfolding firstPart placeAll heldFrom sum
   first-is = record {
     word = refl;
     follows = tt;
@@ -71,8 +75,7 @@ module _ (need minutes earlier : List ℕ) (jobs modules : ℕ) (fit : Fit need 
         ended = λ k l. absurd (not-suc-le-zero l);
         rest = add-zero modules;
       };
-      occupied = λ t. sym (sum-zero jobs);
-      after = λ t. sym (sum-zero jobs);
+      by-end = λ g. sym (sum-zero jobs);
       ends-length = length-replicate {A = ℕ} 20 0;
       until-length = length-replicate {A = ℕ} 20 0;
       held-length = length-replicate {A = ℕ} 20 0;
@@ -89,6 +92,25 @@ module _ (need minutes earlier : List ℕ) (jobs modules : ℕ) (fit : Fit need 
 
     sound : Sound S P
     sound = part-sound S (fit .narrow) w (is .follows)
+
+    -- ---- what the placed jobs hold
+
+    pub occupied-is : (t : ℕ) → heldAt (p .until) (p .held) (p .placed) t ≡ occupied S P t
+    unfolding heldAt occupied
+    occupied-is t =
+        sum-same (p .placed) _ _ (λ k l. sym (times-one (ltb t (getD (p .until) k 0)) (getD (p .held) k 0)))
+        ∙ F .by-end (λ e. only (ltb t e) 1)
+        ∙ sum-same jobs _ _ (λ i l. one i (P .placed i) refl)
+      where
+        one : (i : ℕ) (b : Bool) → P .placed i ≡ b
+            → only (P .placed i) (S .need i * only (ltb t (finish S (P .plan) i)) 1) ≡ only (occupies S P t i) (S .need i)
+        one i true e = rw (e, add-zero (finish S (P .plan) i)) (times-one (ltb t (finish S (P .plan) i)) (S .need i))
+        one i false e = rw e refl
+
+    pub after-is : (t : ℕ) → heldAfter (p .until) (p .held) (p .placed) t
+        ≡ sum jobs (λ i. only (P .placed i) (S .need i * (finish S (P .plan) i - t)))
+    unfolding heldAfter
+    after-is t = F .by-end (λ e. e - t)
 
     -- ---- how many jobs are left
 
@@ -124,7 +146,7 @@ module _ (need minutes earlier : List ℕ) (jobs modules : ℕ) (fit : Fit need 
         let most = sum-most jobs (λ i. only (P .placed i) (S .need i * (finish S (P .plan) i - t))) (64 * 28800)
         (λ i l. one i l (true-or-false (P .placed i))) in
         let all : jobs * (64 * 28800) ≤ 20 * (64 * 28800) = mul-le-mul-right (64 * 28800) (fit .few) in
-        omega (arith, F .after t)
+        omega (arith, after-is t)
       where
         one : (i : ℕ) → i < jobs → (P .placed i ≡ true) ⊎ (P .placed i ≡ false)
             → only (P .placed i) (S .need i * (finish S (P .plan) i - t)) ≤ 64 * 28800
@@ -193,9 +215,9 @@ module _ (need minutes earlier : List ℕ) (jobs modules : ℕ) (fit : Fit need 
           let g = start-may S P j (fit .narrow j (R .job)) in
           let low = not-before-le S P j (startOf S P j) (g .later) (g .arrived) (g .after) in
           let room : heldAt (p .until) (p .held) (p .placed) (startOf S P j) + getD need j 0 ≤ modules =
-          omega (arith, F .occupied (startOf S P j), room-sum S P sound j (startOf S P j) g) in
+          omega (arith, occupied-is (startOf S P j), room-sum S P sound j (startOf S P j) g) in
           sym (start-here S P sound j t (omega (arith, f .from, waits-is)) (f .first (startOf S P j) (omega (arith, waits-is)) room)
-          (omega (arith, F .occupied t, f .room)))
+          (omega (arith, occupied-is t, f .room)))
 
       pub start-short : startOf S P j + getD minutes j 0 ≤ 28800
       start-short =
@@ -230,7 +252,7 @@ module _ (need minutes earlier : List ℕ) (jobs modules : ℕ) (fit : Fit need 
             fits = omega (arith, start-short);
             most = fit .most;
             profile = F .profile;
-            room = omega (arith, F .occupied (startOf S P j), room-sum S P sound j (startOf S P j) g);
+            room = omega (arith, occupied-is (startOf S P j), room-sum S P sound j (startOf S P j) g);
             area = area-le;
             until-length = F .until-length;
             held-length = F .held-length;
@@ -277,40 +299,18 @@ module _ (need minutes earlier : List ℕ) (jobs modules : ℕ) (fit : Fit need 
             one i true e = let n : P .placed i ≡ false = rw (eqb-true i j e) (R .new) in rw (e, n) (omega arith)
             one i false e = rw e (omega arith)
 
-        next-occupied : (t : ℕ) → heldAt (q .until) (q .held) (q .placed) t ≡ occupied S Q t
-        unfolding occupied
-        next-occupied t =
-            let parts = sum-same jobs (λ i. only (occupies S Q t i) (S .need i))
-            (λ i. only (occupies S P t i) (S .need i) + only (eqb i j) (only (ltb t (startOf S P j + getD minutes j 0)) (S .need i)))
-            (λ i l. one i (eqb i j) refl) in
-            let split = sum-add jobs (λ i. only (occupies S P t i) (S .need i))
-            (λ i. only (eqb i j) (only (ltb t (startOf S P j + getD minutes j 0)) (S .need i))) in
-            let self = sum-single jobs (λ i. only (ltb t (startOf S P j + getD minutes j 0)) (S .need i)) j (R .job) in
-            rw (h .placed) (omega (arith, inserted-held (h .lists) t, F .occupied t))
+        next-by-end : (g : ℕ → ℕ) → sum (q .placed) (λ k. getD (q .held) k 0 * g (getD (q .until) k 0))
+            ≡ sum jobs (λ i. only (Q .placed i) (S .need i * g (finish S (Q .plan) i)))
+        next-by-end g =
+            let f : ℕ → ℕ = λ i. S .need i * g (startOf S P j + S .minutes i) in
+            let parts = sum-same jobs (λ i. only (Q .placed i) (S .need i * g (finish S (Q .plan) i)))
+            (λ i. only (P .placed i) (S .need i * g (finish S (P .plan) i)) + only (eqb i j) (f i)) (λ i l. one i (eqb i j) refl) in
+            let split = sum-add jobs (λ i. only (P .placed i) (S .need i * g (finish S (P .plan) i))) (λ i. only (eqb i j) (f i)) in
+            rw (h .placed) (omega (arith, inserted-sum (h .lists) g, F .by-end g, sum-single jobs f j (R .job)))
           where
             one : (i : ℕ) (b : Bool) → eqb i j ≡ b
-                → only (occupies S Q t i) (S .need i)
-                ≡ only (occupies S P t i) (S .need i) + only (eqb i j) (only (ltb t (startOf S P j + getD minutes j 0)) (S .need i))
-            one i true e =
-                let n : P .placed i ≡ false = rw (eqb-true i j e) (R .new) in
-                let z : startOf S P j + getD minutes i 0 + 0 ≡ startOf S P j + getD minutes j 0 =
-                add-zero _ ∙ ap (λ (k : ℕ). startOf S P j + getD minutes k 0) (eqb-true i j e) in
-                rw (e, n, z) (omega arith)
-            one i false e = rw e (omega arith)
-
-        next-after : (t : ℕ) → heldAfter (q .until) (q .held) (q .placed) t
-            ≡ sum jobs (λ i. only (Q .placed i) (S .need i * (finish S (Q .plan) i - t)))
-        next-after t =
-            let f : ℕ → ℕ = λ i. S .need i * (startOf S P j + S .minutes i - t) in
-            let parts = sum-same jobs (λ i. only (Q .placed i) (S .need i * (finish S (Q .plan) i - t)))
-            (λ i. only (P .placed i) (S .need i * (finish S (P .plan) i - t)) + only (eqb i j) (f i)) (λ i l. one i (eqb i j) refl) in
-            let split = sum-add jobs (λ i. only (P .placed i) (S .need i * (finish S (P .plan) i - t))) (λ i. only (eqb i j) (f i)) in
-            rw (h .placed) (omega (arith, inserted-after (h .lists) t, F .after t, sum-single jobs f j (R .job)))
-          where
-            one : (i : ℕ) (b : Bool) → eqb i j ≡ b
-                → only (Q .placed i) (S .need i * (finish S (Q .plan) i - t))
-                ≡ only (P .placed i) (S .need i * (finish S (P .plan) i - t))
-                + only (eqb i j) (S .need i * (startOf S P j + S .minutes i - t))
+                → only (Q .placed i) (S .need i * g (finish S (Q .plan) i))
+                ≡ only (P .placed i) (S .need i * g (finish S (P .plan) i)) + only (eqb i j) (S .need i * g (startOf S P j + S .minutes i))
             one i true e = let n : P .placed i ≡ false = rw (eqb-true i j e) (R .new) in rw (e, n) (omega arith)
             one i false e = rw e (omega arith)
 
@@ -323,8 +323,7 @@ module _ (need minutes earlier : List ℕ) (jobs modules : ℕ) (fit : Fit need 
           ends = λ i l. next-ends i l (eqb i j) refl;
           left = next-left;
           profile = rw (h .last) (h .profile);
-          occupied = next-occupied;
-          after = next-after;
+          by-end = next-by-end;
           ends-length = ap length (h .ends) ∙ length-set (p .ends) j (startOf S P j + getD minutes j 0) ∙ F .ends-length;
           until-length = h .lists .until-length;
           held-length = h .lists .held-length;

@@ -10,9 +10,9 @@ use lib.ListN.{length, getD, take, set, replicate}
 use Rattle.counting.specs.Counting.{only, sum, largest}
 use Rattle.bits.specs.Bits.{bit, withoutBit}
 use Rattle.schedule.specs.Plan.{Sheet, finish}
-use Rattle.schedule.specs.ListPlan.{PartPlan, noJobs, Follows, partOf, occupied}
+use Rattle.schedule.specs.ListPlan.{PartPlan, noJobs, Follows, partOf}
 use Rattle.placement.specs.declared.Part.{Part}
-use Rattle.placement.specs.Profile.{heldAt, heldAfter, Profile, FirstRoom, Inserted}
+use Rattle.placement.specs.Profile.{heldAt, Profile, FirstRoom, Inserted}
 
 -- the jobs in the order in which they were placed
 abbrev pub wordOf : Part → List ℕ
@@ -31,9 +31,9 @@ pub record Figures (S : Sheet) (P : PartPlan) (p : Part) : Type 0 where
   -- the module-minutes of the unplaced jobs
   pub left : p .left ≡ sum (S .jobs) (λ i. only (not (P .placed i)) (S .need i * S .minutes i))
   pub profile : Profile (p .until) (p .held) (p .placed) (p .gone) (p .free) (S .modules) (p .last)
-  pub occupied : (t : ℕ) → heldAt (p .until) (p .held) (p .placed) t ≡ occupied S P t
-  pub after : (t : ℕ) → heldAfter (p .until) (p .held) (p .placed) t
-      ≡ sum (S .jobs) (λ i. only (P .placed i) (S .need i * (finish S (P .plan) i - t)))
+  -- whatever is counted of an end and for each module, the placed jobs sorted by their ends give the same
+  pub by-end : (g : ℕ → ℕ) → sum (p .placed) (λ k. getD (p .held) k 0 * g (getD (p .until) k 0))
+      ≡ sum (S .jobs) (λ i. only (P .placed i) (S .need i * g (finish S (P .plan) i)))
   pub ends-length : length (p .ends) ≡ 20
   pub until-length : length (p .until) ≡ 20
   pub held-length : length (p .held) ≡ 20

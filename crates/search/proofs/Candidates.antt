@@ -1,5 +1,5 @@
 -- The jobs that may come next, and their starts.
-use mathlib.Core.Path.{_≡_, refl, sym, _∙_}
+use mathlib.Core.Path.{_≡_, sym, _∙_}
 use mathlib.Core.Logic.{_⊎_, inl, inr}
 use mathlib.Core.Bool.{true, false}
 use mathlib.Core.List.{List}
@@ -14,9 +14,9 @@ use Rattle.schedule.specs.ListPlan.{PartPlan, ready}
 use Rattle.tables.specs.Tables.{sheetOf}
 use Rattle.schedule.proofs.Starts.{start-may}
 use Rattle.placement.specs.declared.Part.{Part}
-use Rattle.placement.specs.Part.{wordOf, StartFor, isReady}
+use Rattle.placement.specs.Part.{wordOf, isReady}
 use Rattle.placement.proofs.Parts.{ready-is, start-is, last-short}
-use Rattle.search.specs.Search.{Known, theoryPart, JobStart, JobStarts}
+use Rattle.search.specs.Search.{Known, theoryPart, NextStart, JobStart, JobStarts}
 
 module _ (need minutes earlier : List ℕ) (jobs modules : ℕ) (part : Part) (known : Known need minutes earlier jobs modules part) where
   abbrev S : Sheet
@@ -29,16 +29,14 @@ module _ (need minutes earlier : List ℕ) (jobs modules : ℕ) (part : Part) (k
     is-ready : isReady earlier (part .unplaced) j ≡ ready S (P .placed) j
     is-ready = ready-is need minutes earlier jobs modules (known .fit) part (wordOf part) (known .is) j l
 
-    pub start-ready : (s : ℕ) → isReady earlier (part .unplaced) j ≡ true
-        → StartFor (part .ends) (part .until) (part .held) (part .placed) modules (part .last) jobs (getD earlier j 0) (getD need j 0) s
+    pub job-start : (s : ℕ)
+        → NextStart need earlier (part .ends) (part .until) (part .held) (part .unplaced) (part .placed) modules (part .last) jobs j s
         → JobStart need minutes earlier jobs modules part j s
-    start-ready s e f = record {
+    job-start s (inl (e, f)) = record {
       here = λ r. start-is need minutes earlier jobs modules (known .fit) part (wordOf part) (known .is) j r s f;
       none = λ r. clash (ready S (P .placed) j) (sym is-ready ∙ e) r;
     }
-
-    pub start-none : isReady earlier (part .unplaced) j ≡ false → JobStart need minutes earlier jobs modules part j 65535
-    start-none e = record { here = λ r. clash (ready S (P .placed) j) r (sym is-ready ∙ e); none = λ r. refl }
+    job-start s (inr (e, f)) = record { here = λ r. clash (ready S (P .placed) j) r (sym is-ready ∙ e); none = λ r. f }
 
     -- a start lies at the last start or after it
     pub start-from : (s : ℕ) → JobStart need minutes earlier jobs modules part j s → part .last ≤ s

@@ -23,7 +23,7 @@ use Rattle.tables.specs.Tables.{sheetOf}
 use Rattle.placement.specs.declared.Part.{Part}
 use Rattle.placement.specs.Profile.{heldAfter}
 use Rattle.placement.specs.Part.{wordOf, IsPart, Placeable, Placed}
-use Rattle.placement.proofs.Parts.{after-small, left-count, all-placed, placeable, fewer, placed-part}
+use Rattle.placement.proofs.Parts.{after-is, after-small, left-count, all-placed, placeable, fewer, placed-part}
 use Rattle.memory.specs.Entries.{Hit, Adds}
 use Rattle.search.proofs.Recalls.{remembered-adds, hit-cut}
 use Rattle.search.specs.Search.{Tails, Known, theoryPart, JobStart, JobStarts, HeldAfter, SomeTooLong, Hopeless, Remembered}
@@ -103,7 +103,7 @@ module _ (need minutes earlier tails : List ℕ) (jobs modules : ℕ) where
           (λ i l. one i (true-or-false (P .placed i))) in
           let split = sum-add jobs (λ i. only (P .placed i) (S .need i * (finish S (P .plan) i - least)))
           (λ i. only (not (P .placed i)) (S .need i * S .minutes i)) in
-          omega (arith, F .after least, F .left)
+          omega (arith, after-is need minutes earlier jobs modules (known .fit) part w (known .is) least, F .left)
         where
           one : (i : ℕ) → (P .placed i ≡ true) ⊎ (P .placed i ≡ false) → todo S P least i
               ≡ only (P .placed i) (S .need i * (finish S (P .plan) i - least)) + only (not (P .placed i)) (S .need i * S .minutes i)

@@ -18,7 +18,7 @@ use Rattle.schedule.proofs.Places.{Begins, Before, CannotBeat}
 use Rattle.tables.specs.Tables.{sheetOf, Fit}
 use Rattle.placement.specs.declared.Part.{Part}
 use Rattle.placement.specs.Profile.{heldAfter}
-use Rattle.placement.specs.Part.{wordOf, IsPart}
+use Rattle.placement.specs.Part.{wordOf, IsPart, StartFor, isReady}
 use Rattle.memory.specs.Entries.{setAt, lastAt, endAt, entryAt}
 use Rattle.search.specs.declared.Found.{Found}
 use Rattle.search.specs.declared.Settled.{Settled}
@@ -63,6 +63,12 @@ JobStart need minutes earlier jobs modules part =
 abbrev pub JobStarts : List ℕ → List ℕ → List ℕ → ℕ → ℕ → Part → List ℕ → ℕ → Type 0
 JobStarts need minutes earlier jobs modules part =
     StartsOf (sheetOf need minutes earlier jobs modules) (theoryPart need minutes earlier jobs modules part)
+
+-- the same by the figures alone
+abbrev pub NextStart : List ℕ → List ℕ → List ℕ → List ℕ → List ℕ → ℕ → ℕ → ℕ → ℕ → ℕ → ℕ → ℕ → Type 0
+NextStart need earlier ends until held unplaced placed modules last jobs j s =
+    ((isReady earlier unplaced j ≡ true) × StartFor ends until held placed modules last jobs (getD earlier j 0) (getD need j 0) s)
+    ⊎ ((isReady earlier unplaced j ≡ false) × (s ≡ 65535))
 
 -- the first `gone` of the placed jobs have ended by minute l, and what is held from then on is a small number
 pub record HeldAfter (until held : List ℕ) (gone count l : ℕ) : Type 0 where

@@ -8,10 +8,10 @@ ghost use Prim.Native.Nat.{suc, _+_, _-_, _*_, _<_, _≤_, min};
 ghost use lib.ListN.{length, getD, take, replicate};
 ghost use Rattle.counting.specs.Counting.{only, largest};
 ghost use Rattle.bits.specs.Bits.{bit, withBit};
-ghost use Rattle.placement.specs.Profile.{heldAfter};
+ghost use Rattle.placement.specs.Profile.{heldAfter, Profile};
 ghost use Rattle.placement.specs.Part.{wordOf};
 ghost use Rattle.tables.specs.Tables.{sheetOf, Fit};
-ghost use Rattle.search.specs.Search.{Known, JobStart, JobStarts, HeldAfter, SomeTooLong, Hopeless, ChainsOf, Laters, LaterOf};
+ghost use Rattle.search.specs.Search.{Known, NextStart, JobStart, JobStarts, HeldAfter, SomeTooLong, Hopeless, ChainsOf, Laters, LaterOf};
 ghost use Rattle.search.specs.Search.{ComesFirst, TurnsRound, Stands, PassedOver, Outcome, finishedAs, noneFound, withSettled};
 ghost use Rattle.search.specs.Search.{Searching, EachStart, TriedSo, Remembered, Chosen, ChoiceOf, Listed, theoryPart};
 ghost use Rattle.search.specs.Search.{noneSettled, keptAs, Lowering, Lowered, Lowest, Going, Placing, Answer};
@@ -40,6 +40,45 @@ pub struct Starts {
 }
 
 // The start of job j, or 65535 where it may not come next.
+fn next_start<'a>(
+    need: &[u16; 20],
+    earlier: &[u32; 20],
+    ends: &'a [u16; 20],
+    until: &'a [u16; 20],
+    held: &'a [u16; 20],
+    unplaced: u32,
+    placed: usize,
+    gone: usize,
+    free: u16,
+    modules: u16,
+    last: u16,
+    jobs: usize,
+    j: usize,
+) -> u16
+    requires { ⌜ (Profile (now until) (now held) placed gone free modules last)
+        × ((getD (now need) j 0 ≤ modules) × ((jobs ≤ 20) × (j < 20))) ⌝ }
+    ensures { λ r. ⌜ NextStart (now (need .entry)) (now (earlier .entry)) (now (ends .entry)) (now (until .entry)) (now (held .entry))
+        unplaced placed modules last jobs j r ⌝ }
+{
+    if placement::may_follow(earlier, unplaced, j) {
+        return placement::start_of(
+            ends,
+            until,
+            held,
+            placed,
+            gone,
+            free,
+            modules,
+            last,
+            jobs,
+            earlier[j],
+            need[j],
+        );
+    }
+    65535
+}
+
+// The same of a part-plan.
 fn start_or_none(
     need: &[u16; 20],
     minutes: &[u16; 20],
@@ -52,22 +91,21 @@ fn start_or_none(
     requires { ⌜ (Known (now need) (now minutes) (now earlier) jobs modules part) × (j < jobs) ⌝ }
     ensures { λ r. ⌜ JobStart (now (need .entry)) (now (minutes .entry)) (now (earlier .entry)) jobs modules part j r ⌝ }
 {
-    if placement::may_follow(earlier, part.unplaced, j) {
-        return placement::start_of(
-            &part.ends,
-            &part.until,
-            &part.held,
-            part.placed,
-            part.gone,
-            part.free,
-            modules,
-            part.last,
-            jobs,
-            earlier[j],
-            need[j],
-        );
-    }
-    65535
+    next_start(
+        need,
+        earlier,
+        &part.ends,
+        &part.until,
+        &part.held,
+        part.unplaced,
+        part.placed,
+        part.gone,
+        part.free,
+        modules,
+        part.last,
+        jobs,
+        j,
+    )
 }
 
 // The earlier of two minutes.
@@ -93,7 +131,21 @@ fn ready_starts(
     let mut least: u16 = 65535;
     let mut j: usize = 0;
     while j < jobs {
-        let s = start_or_none(need, minutes, earlier, jobs, modules, part, j);
+        let s = next_start(
+            need,
+            earlier,
+            &part.ends,
+            &part.until,
+            &part.held,
+            part.unplaced,
+            part.placed,
+            part.gone,
+            part.free,
+            modules,
+            part.last,
+            jobs,
+            j,
+        );
         at[j] = s;
         least = sooner(least, s);
         j += 1;

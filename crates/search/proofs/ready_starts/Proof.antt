@@ -2,7 +2,7 @@
 use Prim.Native.Nat.{ℕ, _-_}
 use native.Mathlib.Omega.{arith}
 use lib.ListN.{length-replicate}
-use Rattle.search.proofs.Candidates.{Starting, starting-none, starting-step, starting-all}
+use Rattle.search.proofs.Candidates.{job-start, Starting, starting-none, starting-step, starting-all}
 use borrow.Author.Needs.{needs}
 use Rattle.search.proofs.ready_starts.Statement.{statement}
 use Rattle.search.proofs.ready_starts.Tie as tie
@@ -16,19 +16,21 @@ abbrev μ-loop : tie.MeasureT-loop
 loop-holds : tie.Need-loop-holds Inv-loop μ-loop
 loop-holds c = starting-none _ (c .pre) (length-replicate {A = ℕ} 20 65535)
 
-start-or-none-requires : tie.Need-start-or-none-requires Inv-loop μ-loop
-start-or-none-requires c κs =
-    let pre = c .before .before .pre in
-    (pre, c .loop-test .taken)
+next-start-requires : tie.Need-next-start-requires Inv-loop μ-loop
+next-start-requires c κs =
+    let start = c .before .before .before .before .before .before in
+    let in-range = c .before .before .before .before .loop-test .taken in
+    let known = start .pre in
+    (known .is .figures .profile, (known .fit .narrow _ in-range, (known .fit .few, omega (arith, known .fit .few))))
 
 mul-at : tie.Need-mul-at Inv-loop μ-loop
 mul-at c =
-    let pre = c .before .before .before .pre in
+    let pre = c .before .before .before .before .before .before .before .pre in
     record { fits = omega (arith, pre .fit .few) }
 
 array-write-at : tie.Need-array-write-at Inv-loop μ-loop
 array-write-at c =
-    let pre = c .before .before .before .pre in
+    let pre = c .before .before .before .before .before .before .before .pre in
     omega (arith, pre .fit .few)
 
 sooner-requires : tie.Need-sooner-requires Inv-loop μ-loop
@@ -42,10 +44,10 @@ loop-less c = search needs
 
 loop-again : tie.Need-loop-again Inv-loop μ-loop
 loop-again c =
-    let loop = c .before .before .before .loop in
-    let loop-test = c .before .before .loop-test in
-    let start-or-none = c .before .start-or-none in
-    rw (c .sooner .ensures) (starting-step (loop .inv) (loop-test .taken) (start-or-none .ensures))
+    let tested = c .before .before .before .before .before .before in
+    let inv = tested .before .loop .inv in
+    let taken = tested .loop-test .taken in
+    rw (c .sooner .ensures) (starting-step inv taken (job-start _ _ _ _ _ _ (inv .known) _ taken _ (c .before .next-start .ensures)))
 
 returns : tie.Need-returns Inv-loop μ-loop
 returns c =
@@ -59,7 +61,7 @@ ready-starts-spec =
     Inv-loop
     μ-loop
     loop-holds
-    start-or-none-requires
+    next-start-requires
     mul-at
     array-write-at
     sooner-requires
