@@ -30,6 +30,18 @@ unfolding largest
 largest-same zero f g h = refl
 largest-same (suc n) f g h = ap₂ max (largest-same n f g (below-suc n h)) (h n (le-refl _))
 
+-- it is one of the values, or 0 where there is none above
+pub largest-some : (n : ℕ) (f : ℕ → ℕ) → (largest n f ≡ 0) ⊎ ((i : ℕ) × (i < n) × (largest n f ≡ f i))
+unfolding largest
+largest-some zero f = inl refl
+largest-some (suc n) f = go (less-or-not (largest n f) (f n)) (largest-some n f)
+  where
+    go : (largest n f < f n) ⊎ (f n ≤ largest n f) → (largest n f ≡ 0) ⊎ ((i : ℕ) × (i < n) × (largest n f ≡ f i))
+        → (max (largest n f) (f n) ≡ 0) ⊎ ((i : ℕ) × (i < suc n) × (max (largest n f) (f n) ≡ f i))
+    go (inl l) h = inr (n, le-refl _, omega arith)
+    go (inr l) (inl e) = inl (omega arith)
+    go (inr l) (inr (i, k, e)) = inr (i, omega arith, omega arith)
+
 -- ---- every and any
 
 pub every-at : (n : ℕ) (p : ℕ → Bool) → every n p ≡ true → (i : ℕ) → i < n → p i ≡ true

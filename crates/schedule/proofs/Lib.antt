@@ -28,6 +28,7 @@ pub mod Modulewise
 pub mod Bounds
 pub mod Jumps
 pub mod Horizon
+pub mod EndSums
 pub mod Theorems
 pub mod RowLaws
 pub mod ValidTest

@@ -16,9 +16,10 @@ use Rattle.schedule.specs.Plan.{Sheet, Plan, finish, planEnd}
 use Rattle.schedule.specs.ListPlan.{PartPlan, occupies, occupied}
 use Rattle.schedule.proofs.Timed.{runs, Timed}
 
--- no set of jobs that fits on x modules weighs more than K x
+-- no set of jobs that fits on x modules of the cabinet weighs more than K x
 abbrev pub Holds : Sheet → (ℕ → ℕ) → (ℕ → ℕ) → Type 0
-Holds S y K = (X : ℕ → Bool) (x : ℕ) → sum (S .jobs) (λ k. only (X k) (S .need k)) ≤ x → sum (S .jobs) (λ k. only (X k) (y k)) ≤ K x
+Holds S y K = (X : ℕ → Bool) (x : ℕ) → x ≤ S .modules → sum (S .jobs) (λ k. only (X k) (S .need k)) ≤ x
+    → sum (S .jobs) (λ k. only (X k) (y k)) ≤ K x
 
 -- Q goes on from P: it keeps the placed jobs and starts the others from minute l on
 pub record GoesOn (S : Sheet) (P : PartPlan) (l : ℕ) (Q : Plan) : Type 0 where
@@ -77,7 +78,7 @@ module _ (S : Sheet) (P : PartPlan) (l : ℕ) (Q : Plan) (h : GoesOn S P l Q) (T
       omega (arith, all, each)
     where
       one : (t : ℕ) → (t < l) ⊎ (l ≤ t) → sum (S .jobs) (λ k. only (left t k) (y k)) ≤ only (leb l t) (K (S .modules - occupied S P t))
-      one t (inr m) = rw (le-leb l t m) (most (left t) (S .modules - occupied S P t) (omega (arith, beside t m)))
+      one t (inr m) = rw (le-leb l t m) (most (left t) (S .modules - occupied S P t) (omega arith) (omega (arith, beside t m)))
       one t (inl m) =
           let none : sum (S .jobs) (λ k. only (left t k) (y k)) ≡ 0 =
           sum-same (S .jobs) _ (λ k. 0) (λ k x. zero k x (true-or-false (P .placed k))) ∙ sum-zero (S .jobs) in

@@ -16,7 +16,15 @@ use Rattle.schedule.proofs.Starts.{start-may}
 use Rattle.placement.specs.declared.Part.{Part}
 use Rattle.placement.specs.Part.{wordOf, isReady}
 use Rattle.placement.proofs.Parts.{ready-is, start-is, last-short}
-use Rattle.search.specs.Search.{Known, theoryPart, NextStart, JobStart, JobStarts}
+use Rattle.search.specs.Search.{StartOr, Known, theoryPart, NextStart, JobStart, JobStarts}
+
+-- a job with a start may come next
+pub started : {S : Sheet} {P : PartPlan} {j s : ℕ} → StartOr S P j s → s < 65535 → ready S (P .placed) j ≡ true
+started {S} {P} {j} h l = go (true-or-false (ready S (P .placed) j))
+  where
+    go : (ready S (P .placed) j ≡ true) ⊎ (ready S (P .placed) j ≡ false) → ready S (P .placed) j ≡ true
+    go (inl e) = e
+    go (inr e) = absurd (omega (arith, h .none e))
 
 module _ (need minutes earlier : List ℕ) (jobs modules : ℕ) (part : Part) (known : Known need minutes earlier jobs modules part) where
   abbrev S : Sheet

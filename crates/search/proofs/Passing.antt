@@ -26,7 +26,7 @@ use Rattle.placement.specs.declared.Part.{Part}
 use Rattle.placement.specs.Part.{wordOf}
 use Rattle.search.specs.Search.{ComesFirst, TurnsRound, PassedOver, Fails, SettledAt, SettledSo}
 use Rattle.search.specs.Search.{Searching, EachStart, TriedSo}
-use Rattle.search.proofs.Turns.{started}
+use Rattle.search.proofs.Candidates.{started}
 
 -- a set that is in another
 subset : (a b : ℕ) → bitAnd a b ≡ a → (k : ℕ) → bit a k ≡ true → bit b k ≡ true
@@ -56,7 +56,7 @@ module _ (need minutes earlier later tails : List ℕ) (jobs modules : ℕ) (par
   follows = s .known .is .follows
 
   may-come : (x : ℕ) → x < jobs → getD at x 0 < 65535 → ready S (P .placed) x ≡ true
-  may-come x m k = started need minutes earlier tails jobs modules part (s .known) x (getD at x 0) (starts x m) k
+  may-come x m k = started (starts x m) k
 
   starts-at : (x : ℕ) → (m : x < jobs) → getD at x 0 < 65535 → getD at x 0 ≡ startOf S P x
   starts-at x m k = starts x m .here (may-come x m k)

@@ -1,14 +1,14 @@
 -- The jobs that may come next, tried one after another in the order of their starts.
 use mathlib.Core.Path.{_≡_, refl, sym, ap, _∙_}
 use mathlib.Core.Logic.{_⊎_, inl, inr}
-use mathlib.Core.Bool.{Bool, true, false, not, _&&_}
+use mathlib.Core.Bool.{Bool, true, false, not, _&&_, _||_}
 use mathlib.Core.List.{List, [], _∷_, _++_, append-assoc}
 use Prim.Native.Nat.{ℕ, suc, _+_, _≤_, _<_}
 use native.Mathlib.Omega.{arith}
 use lib.Dec.{eqb}
 use lib.Count.{ones}
 use lib.ListN.{getD, length-replicate}
-use borrow.Author.Tests.{eqb-true}
+use borrow.Author.Tests.{eqb-true, eq-eqb}
 use Rattle.counting.proofs.Tests.{true-or-false, clash, and-left, less-or-not}
 use Rattle.bits.specs.Bits.{bit, withBit, withoutBit}
 use Rattle.bits.proofs.Digits.{bit-none}
@@ -17,13 +17,15 @@ use Rattle.bits.proofs.Ones.{ones-without}
 use Rattle.schedule.specs.Plan.{Sheet}
 use Rattle.schedule.specs.ListPlan.{PartPlan, ready, partOf}
 use Rattle.schedule.proofs.Starts.{ready-says}
+use Rattle.schedule.proofs.Alone.{alone-cut}
 use Rattle.tables.specs.Tables.{sheetOf}
 use Rattle.placement.specs.declared.Part.{Part}
 use Rattle.placement.specs.Part.{wordOf}
 use Rattle.placement.proofs.Parts.{start-short}
 use Rattle.search.specs.declared.Choice.{Choice}
 use Rattle.search.specs.declared.Found.{Found}
-use Rattle.search.specs.Search.{Known, Fails, Outcome, noneFound, EachStart, TriedSo, ChoiceOf}
+use Rattle.search.specs.Search.{Known, ToTry, Fails, Outcome, noneFound, EachStart, TriedSo, ChoiceOf}
+use Rattle.search.proofs.Candidates.{started}
 
 -- no order
 pub none-outcome : (S : Sheet) (target : ℕ) (v : List ℕ) → Fails S target v → Outcome S target v noneFound
@@ -45,18 +47,19 @@ found-below S target v j r h e =
       miss = λ z. clash (r .hit) e z;
     }
 
--- those that are no longer left lead nowhere, and c is the next
-pub record Sweep (need minutes earlier : List ℕ) (jobs modules : ℕ) (part : Part) (target : ℕ) (at : List ℕ) (left tried : ℕ) (c : Choice)
+-- those of the first set that are no longer left lead nowhere, and c is the next
+pub record Sweep (need minutes earlier : List ℕ) (jobs modules : ℕ) (part : Part) (target : ℕ) (at : List ℕ) (first left tried : ℕ)
+    (c : Choice)
     : Type 0 where
   pub choice : ChoiceOf at left jobs c
   pub before : TriedSo need minutes earlier jobs modules part target at tried (c .start)
-  pub gone : (j : ℕ) → j < jobs → bit left j ≡ false
+  pub gone : (j : ℕ) → j < jobs → bit first j ≡ true → bit left j ≡ false
       → ready (sheetOf need minutes earlier jobs modules) (partOf (sheetOf need minutes earlier jobs modules)
       (wordOf part) .placed) j ≡ true
       → Fails (sheetOf need minutes earlier jobs modules) target (wordOf part ++ (j ∷ []))
 
 module _ (need minutes earlier : List ℕ) (jobs modules : ℕ) (part : Part) (known : Known need minutes earlier jobs modules part)
-    (target : ℕ) (at : List ℕ) (starts : EachStart need minutes earlier jobs modules part at) where
+    (target : ℕ) (at : List ℕ) (starts : EachStart need minutes earlier jobs modules part at) (first : ℕ) where
   abbrev S : Sheet
   S = sheetOf need minutes earlier jobs modules
 
@@ -67,14 +70,13 @@ module _ (need minutes earlier : List ℕ) (jobs modules : ℕ) (part : Part) (k
   P = partOf S w
 
   abbrev Now : ℕ → ℕ → Choice → Type 0
-  Now = Sweep need minutes earlier jobs modules part target at
+  Now = Sweep need minutes earlier jobs modules part target at first
 
-  pub sweep-first : (c : Choice) → ChoiceOf at (part .unplaced) jobs c → Now (part .unplaced) 0 c
+  pub sweep-first : (c : Choice) → ChoiceOf at first jobs c → Now first 0 c
   sweep-first c h = record {
     choice = h;
     before = λ x m b. clash (bit 0 x) b (bit-none x);
-    gone = λ j l b r. clash (bit (part .unplaced) j)
-        (known .is .figures .set j l ∙ ap not (ready-says S (P .placed) j r .new)) b;
+    gone = λ j l a b. clash (bit first j) a b;
   }
 
   -- the chosen job is in its set
@@ -87,7 +89,7 @@ module _ (need minutes earlier : List ℕ) (jobs modules : ℕ) (part : Part) (k
     choice = h;
     before = λ x m b. earlier-ones x m b (eqb x
         (c .job)) refl;
-    gone = λ j m b. go j m b (eqb j (c .job)) refl;
+    gone = λ j m a b. go j m a b (eqb j (c .job)) refl;
   }
     where
       c-at : getD at (c .job) 0 ≡ c .start
@@ -110,23 +112,36 @@ module _ (need minutes earlier : List ℕ) (jobs modules : ℕ) (part : Part) (k
           let r = s .before x m t in
           (omega (arith, r .0, rising (less-or-not (d .start) 65535)), r .1)
 
-      go : (j : ℕ) → j < jobs → bit (withoutBit left (c .job)) j ≡ false → (e : Bool) → eqb j (c .job) ≡ e
+      go : (j : ℕ) → j < jobs → bit first j ≡ true → bit (withoutBit left (c .job)) j ≡ false → (e : Bool) → eqb j (c .job) ≡ e
           → ready S (P .placed) j ≡ true → Fails S target (w ++ (j ∷ []))
-      go j m b true e r = rw (eqb-true j (c .job) e) f
-      go j m b false e r =
+      go j m a b true e r = rw (eqb-true j (c .job) e) f
+      go j m a b false e r =
           let t : bit left j && true ≡ false = rw e at (sym (bit-without left (c .job) j) ∙ b) in
-          s .gone j m (and-true (bit left j) t) r
+          s .gone j m a (and-true (bit left j) t) r
         where
           and-true : (x : Bool) → x && true ≡ false → x ≡ false
           and-true true y = y
           and-true false y = refl
 
   pub sweep-all : (left tried : ℕ) (c : Choice) → Now left tried c → c .start ≡ 65535
-      → (j : ℕ) → j < jobs → ready S (P .placed) j ≡ true → Fails S target (w ++ (j ∷ []))
-  sweep-all left tried c s e j l r = go (true-or-false (bit left j))
+      → (j : ℕ) → j < jobs → bit first j ≡ true → ready S (P .placed) j ≡ true → Fails S target (w ++ (j ∷ []))
+  sweep-all left tried c s e j l a r = go (true-or-false (bit left j))
     where
       go : (bit left j ≡ true) ⊎ (bit left j ≡ false) → Fails S target (w ++ (j ∷ []))
-      go (inr b) = s .gone j l b r
+      go (inr b) = s .gone j l a b r
       go (inl b) =
           let short = start-short need minutes earlier jobs modules (known .fit) part w (known .is) j r in
           absurd (omega (arith, s .choice .first j l b, starts j l .here r))
+
+  -- Where the jobs to be tried lead nowhere, no job does.
+  pub all-tried : (least : ℕ) → ((j : ℕ) → j < jobs → least ≤ getD at j 0) → ToTry need at least (part .unplaced) jobs modules first
+      → ((j : ℕ) → j < jobs → bit first j ≡ true → ready S (P .placed) j ≡ true → Fails S target (w ++ (j ∷ [])))
+      → (j : ℕ) → j < jobs → ready S (P .placed) j ≡ true → Fails S target (w ++ (j ∷ []))
+  all-tried least low (inl e) h j l r =
+      h j l (ap (λ (x : ℕ). bit x j) e ∙ known .is .figures .set j l ∙ ap not (ready-says S (P .placed) j r .new)) r
+  all-tried least low (inr (i, m, (e, ((a, k), alone)))) h j l r =
+      let ri = started (starts i m) (omega arith) in
+      let in-first : bit first i ≡ true = ap (λ (x : ℕ). bit x i) e ∙ bit-with 0 i i ∙ ap (λ b. b || bit 0 i) (eq-eqb i i refl) in
+      alone-cut S (known .fit .lasting) (known .fit .narrow) w (known .is .follows) i j ri
+      (omega (arith, low j l, starts i m .here ri, starts j l .here r))
+      (λ x y p d. alone x y (known .is .figures .set x y ∙ ap not p) d) (suc target) (h i m in-first ri)

@@ -25,6 +25,7 @@ use Rattle.placement.specs.Profile.{heldAfter}
 use Rattle.placement.specs.Part.{wordOf, IsPart, Placeable, Placed}
 use Rattle.placement.proofs.Parts.{after-is, after-small, left-count, all-placed, placeable, fewer, placed-part}
 use Rattle.memory.specs.Entries.{Hit, Adds}
+use Rattle.search.proofs.Candidates.{started}
 use Rattle.search.proofs.Recalls.{remembered-adds, hit-cut}
 use Rattle.search.specs.Search.{Tails, Known, theoryPart, JobStart, JobStarts, HeldAfter, SomeTooLong, Hopeless, Remembered}
 use Rattle.search.specs.Search.{Fails, Outcome, finishedAs}
@@ -80,14 +81,6 @@ module _ (need minutes earlier tails : List ℕ) (jobs modules : ℕ) where
 
     -- ---- cuts
 
-    -- a job with a start may come next
-    pub started : (j s : ℕ) → JobStart need minutes earlier jobs modules part j s → s < 65535 → ready S (P .placed) j ≡ true
-    started j s h k = go (true-or-false (ready S (P .placed) j))
-      where
-        go : (ready S (P .placed) j ≡ true) ⊎ (ready S (P .placed) j ≡ false) → ready S (P .placed) j ≡ true
-        go (inl e) = e
-        go (inr e) = absurd (omega (arith, h .none e))
-
     module _ (at : List ℕ) (least : ℕ) (starts : JobStarts need minutes earlier jobs modules part at least) where
       none-before : NoneBefore S (known .fit .narrow) w (known .is .follows) least
       none-before j r =
@@ -129,7 +122,7 @@ module _ (need minutes earlier tails : List ℕ) (jobs modules : ℕ) where
 
       long-cut : (e : ℕ) → Tails S tails → SomeTooLong at tails jobs e → CannotBeat S e w
       long-cut e chains (j, l, k, h) =
-          let r = started j (getD at j 0) (starts .each j l) k in
+          let r = started (starts .each j l) k in
           chain-cut S (known .fit .narrow) w (known .is .follows) jobs j e r (omega (arith, chains j l, starts .each j l .here r))
 
       pub hopeless-cut : (e : ℕ) → Tails S tails → 0 < ones (part .unplaced) → Hopeless part at tails jobs modules least e
@@ -146,7 +139,7 @@ module _ (need minutes earlier tails : List ℕ) (jobs modules : ℕ) where
     module _ (job : ℕ) (l : job < jobs) (s : ℕ) (start : JobStart need minutes earlier jobs modules part job s) where
       module _ (low : s < 65535) where
         pub child-ready : ready S (P .placed) job ≡ true
-        child-ready = started job s start low
+        child-ready = started start low
 
         pub child-placeable : Placeable part job s (getD need job 0) (getD minutes job 0) modules
         child-placeable = rw (start .here child-ready)

@@ -1,6 +1,6 @@
 -- What the search's figures stand for, and what it keeps true from call to call.
 use mathlib.Core.Path.{_≡_}
-use mathlib.Core.Logic.{_⊎_}
+use mathlib.Core.Logic.{_⊎_, _≢_}
 use mathlib.Core.Bool.{true, false, not}
 use mathlib.Core.List.{List, [], _∷_, _++_}
 use Prim.Native.Nat.{ℕ, suc, _+_, _*_, _/_, _≤_, _<_}
@@ -8,7 +8,7 @@ use lib.Dec.{ltb}
 use lib.Bits.{bitAnd}
 use lib.ListN.{length, getD, take, set, replicate}
 use Rattle.counting.specs.Counting.{only, largest}
-use Rattle.bits.specs.Bits.{bit}
+use Rattle.bits.specs.Bits.{bit, withBit}
 use Rattle.schedule.specs.Plan.{Sheet, finish, Circular}
 use Rattle.schedule.specs.ListPlan.{Order, PartPlan, noJobs, ready, Follows, startOf, partOf}
 use Rattle.schedule.specs.TieRule as tie
@@ -101,6 +101,15 @@ Remembered S m e = (k : ℕ) → k < length m / 46 → 0 < setAt (entryAt m k)
     → (v : List ℕ) × StandsFor S (entryAt m k) v × CannotBeat S e v
 
 -- ---- jobs that need not be tried
+
+-- job i can run beside no other job of the set
+abbrev pub Alone : List ℕ → ℕ → ℕ → ℕ → ℕ → Type 0
+Alone need set jobs modules i = (k : ℕ) → k < jobs → bit set k ≡ true → k ≢ i → modules < getD need i 0 + getD need k 0
+
+-- all jobs of the set, or one alone that starts first
+abbrev pub ToTry : List ℕ → List ℕ → ℕ → ℕ → ℕ → ℕ → ℕ → Type 0
+ToTry need at least set jobs modules r =
+    (r ≡ set) ⊎ ((i : ℕ) × (i < jobs) × ((r ≡ withBit 0 i) × (((getD at i 0 ≡ least) × (least < 65535)) × Alone need set jobs modules i)))
 
 -- each job's later jobs: those of which it is an earlier job
 abbrev pub Laters : List ℕ → ℕ → List ℕ → Type 0

@@ -1,7 +1,7 @@
 // The search for the tie rule's order. One search decides whether some order that goes on from a part-plan ends by a target: it lowers the
 // end until no order ends earlier, and then it settles the places of the order one after another.
 ghost use mathlib.Core.Path.{_≡_};
-ghost use mathlib.Core.Logic.{_⊎_};
+ghost use mathlib.Core.Logic.{_⊎_, _≢_};
 ghost use mathlib.Core.Bool.{true, false, cond};
 ghost use mathlib.Core.List.{[], _∷_, _++_};
 ghost use Prim.Native.Nat.{suc, _+_, _-_, _*_, _<_, _≤_, min};
@@ -12,7 +12,7 @@ ghost use Rattle.placement.specs.Profile.{heldAfter, Profile};
 ghost use Rattle.placement.specs.Part.{wordOf};
 ghost use Rattle.tables.specs.Tables.{sheetOf, Fit};
 ghost use Rattle.search.specs.Search.{Known, NextStart, JobStart, JobStarts, HeldAfter, SomeTooLong, Hopeless, ChainsOf, Laters, LaterOf};
-ghost use Rattle.search.specs.Search.{ComesFirst, TurnsRound, Stands, PassedOver, Outcome, finishedAs, noneFound, withSettled};
+ghost use Rattle.search.specs.Search.{Alone, ToTry, ComesFirst, TurnsRound, Stands, PassedOver, Outcome, finishedAs, noneFound, withSettled};
 ghost use Rattle.search.specs.Search.{Searching, EachStart, TriedSo, Remembered, Chosen, ChoiceOf, Listed, theoryPart};
 ghost use Rattle.search.specs.Search.{noneSettled, keptAs, Lowering, Lowered, Lowest, Going, Placing, Answer};
 ghost use Rattle.schedule.specs.ListPlan.{ready};
@@ -427,6 +427,93 @@ fn with_settled(settled: Settled, i: usize, tried: u32) -> Settled
     next
 }
 
+// ---- the jobs to be tried
+
+// Whether job k is another job of the set, and the cabinet can run jobs i and k side by side.
+fn runs_beside(need1: u16, need2: u16, set: u32, modules: u16, i: usize, k: usize) -> bool
+    requires { ⌜ k < 20 ⌝ }
+    ensures { λ r. ⌜ (r ≡ false → bit set k ≡ true → k ≢ i → modules < need1 + need2) ⌝ }
+{
+    if k == i {
+        return false;
+    }
+    if bits::test32(set, k) {
+        return (need1 as u32) + (need2 as u32) <= (modules as u32);
+    }
+    false
+}
+
+// Whether job i can run beside no other job of the set.
+fn alone(need: &[u16; 20], set: u32, jobs: usize, modules: u16, i: usize) -> bool
+    requires { ⌜ (jobs ≤ 20) × (i < 20) ⌝ }
+    ensures { λ r. ⌜ (r ≡ true → Alone (now (need .entry)) set jobs modules i) ⌝ }
+{
+    let mut k: usize = 0;
+    while k < jobs {
+        if runs_beside(need[i], need[k], set, modules, i, k) {
+            return false;
+        }
+        k += 1;
+    }
+    true
+}
+
+// The same of a job that starts first.
+fn alone_at(
+    need: &[u16; 20],
+    start: u16,
+    least: u16,
+    set: u32,
+    jobs: usize,
+    modules: u16,
+    i: usize,
+) -> bool
+    requires { ⌜ (jobs ≤ 20) × (i < 20) ⌝ }
+    ensures { λ r. ⌜ (r ≡ true → (start ≡ least) × Alone (now (need .entry)) set jobs modules i) ⌝ }
+{
+    if start != least {
+        return false;
+    }
+    alone(need, set, jobs, modules, i)
+}
+
+// A job that starts first and can run beside no other job of the set, or `jobs` where there is none.
+fn first_alone(
+    need: &[u16; 20],
+    at: &[u16; 20],
+    least: u16,
+    set: u32,
+    jobs: usize,
+    modules: u16,
+) -> usize
+    requires { ⌜ jobs ≤ 20 ⌝ }
+    ensures { λ r. ⌜ (r < jobs → (getD (now (at .entry)) r 0 ≡ least) × Alone (now (need .entry)) set jobs modules r) ⌝ }
+{
+    let mut i: usize = 0;
+    while i < jobs {
+        if alone_at(need, at[i], least, set, jobs, modules, i) {
+            return i;
+        }
+        i += 1;
+    }
+    jobs
+}
+
+// All jobs of the set, or one of those that start first, where it can run beside no other.
+fn to_try(need: &[u16; 20], at: &[u16; 20], least: u16, set: u32, jobs: usize, modules: u16) -> u32
+    requires { ⌜ jobs ≤ 20 ⌝ }
+    ensures { λ r. ⌜ ToTry (now (need .entry)) (now (at .entry)) least set jobs modules r ⌝ }
+{
+    if least == 65535 {
+        return set;
+    }
+    let i = first_alone(need, at, least, set, jobs, modules);
+    if i < jobs {
+        return bits::set32(0, i);
+    }
+    set
+}
+
 // A job that may come next, its start and its weight; the start 65535 stands for none.
 pub struct Choice {
     pub job: usize,
@@ -517,7 +604,8 @@ fn visit(
     if memory::recall(memory, &part.ends, jobs, unplaced, least) {
         return none_found();
     }
-    let mut left = unplaced;
+    let first = to_try(need, &at, least, unplaced, jobs, modules);
+    let mut left = first;
     let mut tried: u32 = 0;
     let mut c = next_choice(&at, tails, left, jobs);
     while c.start != 65535 {

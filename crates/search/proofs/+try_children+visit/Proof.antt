@@ -14,7 +14,7 @@ use Rattle.search.proofs.Turns.{visit-leaf, held-ready, hopeless-cut, r
 use Rattle.search.proofs.Turns.{child-fewer, child-known, child-word, visit-all, visit-remember}
 use Rattle.search.proofs.Steps.{one-less}
 use Rattle.search.proofs.Passing.{passed-cut, settled-more}
-use Rattle.search.proofs.Sweeps.{none-outcome, found-below, Sweep, sweep-first, chosen-in, sweep-next, sweep-all}
+use Rattle.search.proofs.Sweeps.{none-outcome, found-below, Sweep, sweep-first, chosen-in, sweep-next, sweep-all, all-tried}
 use borrow.Fn.Kinds.{In}
 use borrow.Fn.PlainCycle.{Measures, is, falls, and}
 use Rattle.search.proofs.try_children.Reads as try-children
@@ -30,6 +30,7 @@ use Rattle.search.proofs.next_choice.Reads as next-choice-reads
 use Rattle.search.proofs.none_found.Reads as none-found-reads
 use Rattle.search.proofs.passed_over.Reads as passed-over-reads
 use Rattle.search.proofs.ready_starts.Reads as ready-starts-reads
+use Rattle.search.proofs.to_try.Reads as to-try-reads
 use Rattle.search.proofs.with_settled.Reads as with-settled-reads
 use Rattle.search.proofs.try_children.Kinds as try-children-kinds
 use Rattle.search.proofs.+try_children+visit.Lts-try_children as try-children-lts
@@ -89,6 +90,8 @@ visit-claims t = (
   none-found-reads.Learnt,
   recall-reads.Asked,
   recall-reads.Learnt,
+  to-try-reads.Asked,
+  to-try-reads.Learnt,
   next-choice-reads.Asked,
   next-choice-reads.Learnt,
   try-children-below t,
@@ -220,12 +223,12 @@ try-children-returns-2 t c =
     (rw word at (visit .ensures .0), visit .ensures .1)
 
 abbrev visit-Inv-loop : visit-lts.InvT-loop
-visit-Inv-loop need minutes earlier later tails jobs modules settled target memory₀ part unplaced at least left₀ tried₀ c₀ memory left tried c =
-    Sweep need minutes earlier jobs modules part target at left tried c
+visit-Inv-loop need minutes earlier later tails jobs modules settled target memory₀ part unplaced at least first left₀ tried₀ c₀ memory left tried c =
+    Sweep need minutes earlier jobs modules part target at first left tried c
     × (Remembered (sheetOf need minutes earlier jobs modules) memory (suc target) × (length memory ≡ length memory₀))
 
 abbrev visit-μ-loop : visit-lts.MeasureT-loop
-visit-μ-loop need minutes earlier later tails jobs modules settled target memory₀ part unplaced at least left₀ tried₀ c₀ memory left tried c =
+visit-μ-loop need minutes earlier later tails jobs modules settled target memory₀ part unplaced at least first left₀ tried₀ c₀ memory left tried c =
     ones left
 
 visit-finished-requires : (t : ℕ) → visit-lts.Need-finished-requires (visit-claims t) (visit-at t) visit.Post visit-Inv-loop visit-μ-loop
@@ -307,30 +310,33 @@ visit-returns-3 t c =
     (p .remembered) (c .before .before .recall .ensures (c .before .if3 .taken)) in
     (rw (c .none-found2 .ensures) (none-outcome _ (a .target) _ cut), p .remembered)
 
+visit-to-try-requires : (t : ℕ) → visit-lts.Need-to-try-requires (visit-claims t) (visit-at t) visit.Post visit-Inv-loop visit-μ-loop
+visit-to-try-requires t c κs = c .before .before .before .before .before .before .before .before .before .before .before .before .before .pre .1 .known .fit .few
+
 visit-next-choice-requires : (t : ℕ)
     → visit-lts.Need-next-choice-requires (visit-claims t) (visit-at t) visit.Post visit-Inv-loop visit-μ-loop
 visit-next-choice-requires t c κs =
-    let p = c .before .before .before .before .before .before .before .before .before .before .before .before .before .pre .1 in
+    let p = c .before .before .before .before .before .before .before .before .before .before .before .before .before .before .before .pre .1 in
     p .known .fit .few
 
 visit-loop-holds : (t : ℕ) → visit-lts.Need-loop-holds (visit-claims t) (visit-at t) visit.Post visit-Inv-loop visit-μ-loop
 visit-loop-holds t c =
-    let start = c .before .before .before .before .before .before .before .before .before .before .before .before .before .before in
+    let start = c .before .before .before .before .before .before .before .before .before .before .before .before .before .before .before .before in
     let a = start .args in
     let p = start .pre .1 in
-    let r = c .before .before .before .before .before .before .before .before .before .before .before .ready-starts in (
+    let r = c .before .before .before .before .before .before .before .before .before .before .before .before .before .ready-starts in (
       sweep-first (a .need .now) (a .minutes .now) (a .earlier .now) (a .jobs) (a .modules) (a .t8) (p .known) (a .target) (r .result .at)
-          (r .ensures .each) (c .next-choice .result) (c .next-choice .ensures),
+          (r .ensures .each) (c .before .before .to-try .result) (c .next-choice .result) (c .next-choice .ensures),
       (p .remembered, refl),
     )
 
 visit-try-children-requires : (t : ℕ)
     → visit-lts.Need-try-children-requires (visit-claims t) (visit-at t) visit.Post visit-Inv-loop visit-μ-loop
 visit-try-children-requires t c κs =
-    let start = c .before .before .before .before .before .before .before .before .before .before .before .before .before .before .before .before .before .before .before in
+    let start = c .before .before .before .before .before .before .before .before .before .before .before .before .before .before .before .before .before .before .before .before .before in
     let a = start .args in
     let p = start .pre .1 in
-    let r = c .before .before .before .before .before .before .before .before .before .before .before .before .before .before .before .before .ready-starts in
+    let r = c .before .before .before .before .before .before .before .before .before .before .before .before .before .before .before .before .before .before .ready-starts in
     let loop = c .before .before .before .before .loop in
     let sweep = loop .inv .0 in
     let l : loop .c .start < 65535 = omega (arith, c .before .before .if4 .taken, sweep .choice .low) in
@@ -356,7 +362,7 @@ visit-same-length-2 t c =
 
 visit-returns-4 : (t : ℕ) → visit-lts.Need-returns-4 (visit-claims t) (visit-at t) visit.Post visit-Inv-loop visit-μ-loop
 visit-returns-4 t c =
-    let start = c .before .before .before .before .before .before .before .before .before .before .before .before .before .before .before .before .before .before .before .before .before .before .before in
+    let start = c .before .before .before .before .before .before .before .before .before .before .before .before .before .before .before .before .before .before .before .before .before .before .before .before .before in
     let a = start .args in
     let p = start .pre .1 in
     let loop = c .before .before .before .before .before .before .before .before .loop in
@@ -367,7 +373,7 @@ visit-clear32-requires : (t : ℕ) → visit-lts.Need-clear32-requires (visit-cl
 visit-clear32-requires t c κs =
     let loop = c .before .before .before .before .before .before .before .before .loop in
     let sweep = loop .inv .0 in
-    let p = c .before .before .before .before .before .before .before .before .before .before .before .before .before .before .before .before .before .before .before .before .before .before .before .pre .1 in
+    let p = c .before .before .before .before .before .before .before .before .before .before .before .before .before .before .before .before .before .before .before .before .before .before .before .before .before .pre .1 in
     let l : loop .c .start < 65535 = omega (arith, c .before .before .before .before .before .before .if4 .taken, sweep .choice .low) in
     omega (arith, sweep .choice .some l .0, p .known .fit .few)
 
@@ -375,7 +381,7 @@ visit-set32-requires : (t : ℕ) → visit-lts.Need-set32-requires (visit-claims
 visit-set32-requires t c κs =
     let loop = c .before .before .before .before .before .before .before .before .before .loop in
     let sweep = loop .inv .0 in
-    let p = c .before .before .before .before .before .before .before .before .before .before .before .before .before .before .before .before .before .before .before .before .before .before .before .before .pre .1 in
+    let p = c .before .before .before .before .before .before .before .before .before .before .before .before .before .before .before .before .before .before .before .before .before .before .before .before .before .before .pre .1 in
     let l : loop .c .start < 65535 = omega
     (arith, c .before .before .before .before .before .before .before .if4 .taken, sweep .choice .low) in
     omega (arith, sweep .choice .some l .0, p .known .fit .few)
@@ -383,28 +389,30 @@ visit-set32-requires t c κs =
 visit-next-choice-requires-2 : (t : ℕ)
     → visit-lts.Need-next-choice-requires-2 (visit-claims t) (visit-at t) visit.Post visit-Inv-loop visit-μ-loop
 visit-next-choice-requires-2 t c κs =
-    let p = c .before .before .before .before .before .before .before .before .before .before .before .before .before .before .before .before .before .before .before .before .before .before .before .before .before .before .pre .1 in
+    let p = c .before .before .before .before .before .before .before .before .before .before .before .before .before .before .before .before .before .before .before .before .before .before .before .before .before .before .before .before .pre .1 in
     p .known .fit .few
 
 visit-loop-less : (t : ℕ) → visit-lts.Need-loop-less (visit-claims t) (visit-at t) visit.Post visit-Inv-loop visit-μ-loop
 visit-loop-less t c =
-    let start = c .before .before .before .before .before .before .before .before .before .before .before .before .before .before .before .before .before .before .before .before .before .before .before .before .before .before .before in
+    let start = c .before .before .before .before .before .before .before .before .before .before .before .before .before .before .before .before .before .before .before .before .before .before .before .before .before .before .before .before .before in
     let a = start .args in
     let p = start .pre .1 in
-    let r = c .before .before .before .before .before .before .before .before .before .before .before .before .before .before .before .before .before .before .before .before .before .before .before .before .ready-starts in
+    let r = c .before .before .before .before .before .before .before .before .before .before .before .before .before .before .before .before .before .before .before .before .before .before .before .before .before .before .ready-starts in
+    let first = c .before .before .before .before .before .before .before .before .before .before .before .before .before .before .before .to-try in
     let loop = c .before .before .before .before .before .before .before .before .before .before .before .before .loop in
     let sweep = loop .inv .0 in
     let l : loop .c .start < 65535 = omega
     (arith, c .before .before .before .before .before .before .before .before .before .before .if4 .taken, sweep .choice .low) in
     rw (c .before .before .before .clear32 .ensures) (one-less (chosen-in (a .need .now) (a .minutes .now) (a .earlier .now) (a .jobs)
-    (a .modules) (a .t8) (p .known) (a .target) (r .result .at) (r .ensures .each) (loop .left) (loop .c) (sweep .choice) l))
+    (a .modules) (a .t8) (p .known) (a .target) (r .result .at) (r .ensures .each) (first .result) (loop .left) (loop .c) (sweep .choice) l))
 
 visit-loop-again : (t : ℕ) → visit-lts.Need-loop-again (visit-claims t) (visit-at t) visit.Post visit-Inv-loop visit-μ-loop
 visit-loop-again t c =
-    let start = c .before .before .before .before .before .before .before .before .before .before .before .before .before .before .before .before .before .before .before .before .before .before .before .before .before .before .before in
+    let start = c .before .before .before .before .before .before .before .before .before .before .before .before .before .before .before .before .before .before .before .before .before .before .before .before .before .before .before .before .before in
     let a = start .args in
     let p = start .pre .1 in
-    let r = c .before .before .before .before .before .before .before .before .before .before .before .before .before .before .before .before .before .before .before .before .before .before .before .before .ready-starts in
+    let r = c .before .before .before .before .before .before .before .before .before .before .before .before .before .before .before .before .before .before .before .before .before .before .before .before .before .before .ready-starts in
+    let first = c .before .before .before .before .before .before .before .before .before .before .before .before .before .before .before .to-try in
     let loop = c .before .before .before .before .before .before .before .before .before .before .before .before .loop in
     let sweep = loop .inv .0 in
     let try = c .before .before .before .before .before .before .before .try-children in
@@ -412,7 +420,7 @@ visit-loop-again t c =
     (arith, c .before .before .before .before .before .before .before .before .before .before .if4 .taken, sweep .choice .low) in (
       rw (c .before .before .before .clear32 .ensures, c .before .before .set32 .ensures)
           (sweep-next (a .need .now) (a .minutes .now) (a .earlier .now) (a .jobs) (a .modules) (a .t8) (p .known) (a .target)
-          (r .result .at) (r .ensures .each) (loop .left) (loop .tried) (loop .c) (c .next-choice2 .result) sweep l
+          (r .result .at) (r .ensures .each) (first .result) (loop .left) (loop .tried) (loop .c) (c .next-choice2 .result) sweep l
           (try .ensures .0 .miss (c .before .before .before .before .if5 .left)) (rw (c .before .before .before .clear32 .ensures) at
           (c .next-choice2 .ensures))),
       (try .ensures .1, try .kept .1 .1 .1 .1 .1 .1 .1 .1 .1 .1 .1 .1 .1 .0 ∙ loop .inv .1 .1),
@@ -420,7 +428,7 @@ visit-loop-again t c =
 
 visit-remember-requires : (t : ℕ) → visit-lts.Need-remember-requires (visit-claims t) (visit-at t) visit.Post visit-Inv-loop visit-μ-loop
 visit-remember-requires t c κs =
-    let p = c .before .before .before .before .before .before .before .before .before .before .before .before .before .before .before .before .before .before .before .before .pre .1 in
+    let p = c .before .before .before .before .before .before .before .before .before .before .before .before .before .before .before .before .before .before .before .before .before .before .pre .1 in
     p .known .fit .few
 
 visit-none-found-requires-3 : (t : ℕ)
@@ -434,18 +442,21 @@ visit-same-length-3 t c =
 
 visit-returns-5 : (t : ℕ) → visit-lts.Need-returns-5 (visit-claims t) (visit-at t) visit.Post visit-Inv-loop visit-μ-loop
 visit-returns-5 t c =
-    let start = c .before .before .before .before .before .before .before .before .before .before .before .before .before .before .before .before .before .before .before .before .before .before .before .before in
+    let start = c .before .before .before .before .before .before .before .before .before .before .before .before .before .before .before .before .before .before .before .before .before .before .before .before .before .before in
     let a = start .args in
     let p = start .pre .1 in
-    let r = c .before .before .before .before .before .before .before .before .before .before .before .before .before .before .before .before .before .before .before .before .before .ready-starts in
+    let r = c .before .before .before .before .before .before .before .before .before .before .before .before .before .before .before .before .before .before .before .before .before .before .before .ready-starts in
+    let first = c .before .before .before .before .before .before .before .before .before .before .before .before .to-try in
     let loop = c .before .before .before .before .before .before .before .before .before .loop in
     let remember = c .before .before .before .remember in
-    let all = sweep-all (a .need .now) (a .minutes .now) (a .earlier .now) (a .jobs) (a .modules) (a .t8) (p .known) (a .target)
-    (r .result .at) (r .ensures .each) (loop .left) (loop .tried) (loop .c) (loop .inv .0)
+    let swept = sweep-all (a .need .now) (a .minutes .now) (a .earlier .now) (a .jobs) (a .modules) (a .t8) (p .known) (a .target)
+    (r .result .at) (r .ensures .each) (first .result) (loop .left) (loop .tried) (loop .c) (loop .inv .0)
     (c .before .before .before .before .before .before .before .if4 .left) in
+    let all = all-tried (a .need .now) (a .minutes .now) (a .earlier .now) (a .jobs) (a .modules) (a .t8) (p .known) (a .target)
+    (r .result .at) (r .ensures .each) (first .result) (r .result .least) (r .ensures .first) (first .ensures) swept in
     let cut = visit-all (a .need .now) (a .minutes .now) (a .earlier .now) (a .tails .now) (a .jobs) (a .modules) (a .t8) (p .known)
     (a .target) (pos-of-ne-zero
-    (c .before .before .before .before .before .before .before .before .before .before .before .before .before .before .before .before .before .before .before .before .before .before .if1 .left)) all in (
+    (c .before .before .before .before .before .before .before .before .before .before .before .before .before .before .before .before .before .before .before .before .before .before .before .before .if1 .left)) all in (
       rw (c .none-found3 .ensures) (none-outcome _ (a .target) _ cut),
       visit-remember (a .need .now) (a .minutes .now) (a .earlier .now) (a .tails .now) (a .jobs) (a .modules) (a .t8) (p .known)
           (a .target) (loop .memory) (remember .last .0) (loop .inv .1 .0) cut (remember .ensures),
@@ -491,6 +502,8 @@ pub +try-children+visit-spec : {M : Type 1} → statement M
       none-found-reads.Learnt,
       recall-reads.Asked,
       recall-reads.Learnt,
+      to-try-reads.Asked,
+      to-try-reads.Learnt,
       next-choice-reads.Asked,
       next-choice-reads.Learnt,
       try-children-below t,
@@ -517,6 +530,7 @@ pub +try-children+visit-spec : {M : Type 1} → statement M
     (visit-none-found-requires-2 t)
     (visit-same-length t)
     (visit-returns-3 t)
+    (visit-to-try-requires t)
     (visit-next-choice-requires t)
     (visit-loop-holds t)
     (visit-try-children-requires t)
