@@ -1,0 +1,134 @@
+-- The sums of all choices of jobs, one job more at a time.
+use mathlib.Core.Path.{_≡_, refl, ap, _∙_}
+use mathlib.Core.Logic.{_⊎_, inl, inr}
+use mathlib.Core.Bool.{Bool, true, false}
+use mathlib.Core.List.{List}
+use Prim.Native.Nat.{ℕ, _+_, _-_, _*_, _≤_, _<_, zero-le}
+use native.Mathlib.Omega.{arith}
+use native.Mathlib.Nat.{not-suc-le-zero}
+use native.Mathlib.Numerals.{add-one}
+use lib.ListN.{length, getD, set, length-set}
+use lib.Seq.{getD-set-same, getD-set-other}
+use Rattle.counting.specs.Counting.{only, sum}
+use Rattle.counting.proofs.Tests.{true-or-false, less-or-not, same-or-not, clash}
+use Rattle.bits.specs.Bits.{bit}
+use Rattle.sums.specs.Sums.{together, Within, SumsOf, Room, Doubled}
+
+-- ---- writing the new sums
+
+-- the first i of the new sums are written
+pub record Doubling (sums₀ : List ℕ) (count minutes : ℕ) (sums : List ℕ) (i : ℕ) : Type 0 where
+  pub room : Room sums₀ count minutes
+  pub inside : i ≤ count
+  pub size : length sums ≡ 1024
+  pub kept : (k : ℕ) → k < count → getD sums k 0 ≡ getD sums₀ k 0
+  pub more : (k : ℕ) → k < i → getD sums (count + k) 0 ≡ getD sums₀ k 0 + minutes
+
+pub doubling-none : {sums : List ℕ} {count minutes : ℕ} → Room sums count minutes → Doubling sums count minutes sums 0
+doubling-none r = record {
+  room = r;
+  inside = zero-le;
+  size = r .size;
+  kept = λ k l. refl;
+  more = λ k l. absurd (not-suc-le-zero l);
+}
+
+module _ {sums₀ sums : List ℕ} {count minutes i : ℕ} (d : Doubling sums₀ count minutes sums i) where
+  pub doubling-fits : i < count → getD sums i 0 + minutes < 65536
+  doubling-fits l = omega (arith, d .kept i l, d .room .fits i l)
+
+  pub doubling-step : i < count → Doubling sums₀ count minutes (set sums (count + i) (getD sums i 0 + minutes)) (i + 1)
+  doubling-step l = record {
+    room = d .room;
+    inside = omega arith;
+    size = length-set sums (count + i) x ∙ d .size;
+    kept = λ k m. getD-set-other sums (count + i) k x 0 (λ e. omega arith) ∙ d .kept k m;
+    more = λ k m. go k m (same-or-not k i);
+  }
+    where
+      x : ℕ
+      x = getD sums i 0 + minutes
+
+      go : (k : ℕ) → k < i + 1 → (k ≡ i) ⊎ (¬ (k ≡ i)) → getD (set sums (count + i) x) (count + k) 0 ≡ getD sums₀ k 0 + minutes
+      go k m (inl e) =
+          rw e (getD-set-same sums (count + i) x 0 (omega (arith, d .size, d .room .few)) ∙ ap (λ (y : ℕ). y + minutes) (d .kept i l))
+      go k m (inr e) = getD-set-other sums (count + i) (count + k) x 0 (λ q. e (omega arith)) ∙ d .more k (omega arith)
+
+  pub doubling-all : count ≤ i → Doubled sums₀ sums count minutes
+  doubling-all l = record { size = d .size; kept = d .kept; more = λ k m. d .more k (omega arith) }
+
+-- ---- one job more
+
+together-more : (minutes : List ℕ) (j : ℕ) (X : ℕ → Bool)
+    → together minutes (j + 1) X ≡ together minutes j X + only (X j) (getD minutes j 0)
+unfolding sum
+together-more minutes j X = rw add-one
+
+-- of no jobs there is the sum 0
+pub sums-start : (minutes : List ℕ) (chosen : ℕ) (sums : List ℕ) → length sums ≡ 1024 → SumsOf minutes chosen 0 (set sums 0 0) 1
+unfolding sum
+sums-start minutes chosen sums e = record {
+  size = length-set sums 0 0 ∙ e;
+  few = omega arith;
+  short = λ i l. let z : i ≡ 0 = omega arith in rw z (omega (arith, first));
+  each = λ _ X w. (0, omega arith, first);
+}
+  where
+    first : getD (set sums 0 0) 0 0 ≡ 0
+    first = getD-set-same sums 0 0 0 (omega (arith, e))
+
+module _ {minutes : List ℕ} {chosen j : ℕ} {sums : List ℕ} {count : ℕ} (s : SumsOf minutes chosen j sums count) where
+  -- a job that is not in the set adds none
+  pub sums-skip : bit chosen j ≡ false → SumsOf minutes chosen (j + 1) sums count
+  sums-skip out = record {
+    size = s .size;
+    few = s .few;
+    short = λ i l. omega (arith, s .short i l);
+    each = λ some X w. go X w (s .each some X w) (true-or-false (X j));
+  }
+    where
+      go : (X : ℕ → Bool) → Within X chosen → (i : ℕ) × (i < count) × (getD sums i 0 ≡ together minutes j X) → (X j ≡ true) ⊎ (X j ≡ false)
+          → (i : ℕ) × (i < count) × (getD sums i 0 ≡ together minutes (j + 1) X)
+      go X w (i, l, e) (inl y) = clash (bit chosen j) (w j y) out
+      go X w (i, l, e) (inr y) =
+          let none : only (X j) (getD minutes j 0) ≡ 0 = rw y in
+          (i, l, omega (arith, together-more minutes j X))
+
+  -- there are none where they have no room
+  pub sums-none : SumsOf minutes chosen (j + 1) sums 0
+  sums-none = record {
+    size = s .size;
+    few = zero-le;
+    short = λ i l. absurd (not-suc-le-zero l);
+    each = λ some X w. absurd (not-suc-le-zero some);
+  }
+
+  pub sums-room : j < 20 → getD minutes j 0 ≤ 1440 → count ≤ 512 → Room sums count (getD minutes j 0)
+  sums-room a b few = record { size = s .size; few = few; fits = λ i l. omega (arith, s .short i l) }
+
+  -- each choice takes the job or leaves it
+  pub sums-more : {sums′ : List ℕ} → getD minutes j 0 ≤ 1440 → count ≤ 512 → Doubled sums sums′ count (getD minutes j 0)
+      → SumsOf minutes chosen (j + 1) sums′ (2 * count)
+  sums-more {sums′} day few d = record {
+    size = d .size;
+    few = omega arith;
+    short = λ i l. short i l (less-or-not i count);
+    each = λ some X w. go X (s .each (omega arith) X w) (true-or-false (X j));
+  }
+    where
+      short : (i : ℕ) → i < 2 * count → (i < count) ⊎ (count ≤ i) → getD sums′ i 0 ≤ 1440 * (j + 1)
+      short i l (inl m) = omega (arith, d .kept i m, s .short i m)
+      short i l (inr m) =
+          let k = i - count in
+          let e : i ≡ count + k = omega arith in
+          let n : k < count = omega arith in
+          rw e (omega (arith, d .more k n, s .short k n))
+
+      go : (X : ℕ → Bool) → (i : ℕ) × (i < count) × (getD sums i 0 ≡ together minutes j X) → (X j ≡ true) ⊎ (X j ≡ false)
+          → (i : ℕ) × (i < 2 * count) × (getD sums′ i 0 ≡ together minutes (j + 1) X)
+      go X (i, l, e) (inl y) =
+          let one : only (X j) (getD minutes j 0) ≡ getD minutes j 0 = rw y in
+          (count + i, omega arith, omega (arith, together-more minutes j X, d .more i l))
+      go X (i, l, e) (inr y) =
+          let none : only (X j) (getD minutes j 0) ≡ 0 = rw y in
+          (i, omega arith, omega (arith, together-more minutes j X, d .kept i l))

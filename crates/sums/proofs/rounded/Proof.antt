@@ -1,0 +1,42 @@
+-- `sums::rounded` meets its contract.
+use native.Mathlib.Omega.{arith}
+use Rattle.sums.proofs.Halves.{rounded-pair}
+use borrow.Author.Needs.{needs}
+use Rattle.sums.proofs.rounded.Statement.{statement}
+use Rattle.sums.proofs.rounded.Tie as tie
+
+subset-sums-requires : tie.Need-subset-sums-requires
+subset-sums-requires c κs = search needs
+
+subset-sums-requires-2 : tie.Need-subset-sums-requires-2
+subset-sums-requires-2 c κs = search needs
+
+returns : tie.Need-returns
+returns c = search needs
+
+returns-2 : tie.Need-returns-2
+returns-2 c = search needs
+
+longest-pair-requires : tie.Need-longest-pair-requires
+longest-pair-requires c κs = search needs
+
+returns-3 : tie.Need-returns-3
+returns-3 c =
+    let start = c .before .before .before .before .before .before .before .before .before in
+    let low = c .before .before .before .before .before .before .before .subset-sums in
+    let high = c .before .before .before .before .before .subset-sums2 in
+    let if1 = c .before .before .before .before .if1 in
+    let if2 = c .before .before .before .if2 in
+    rw (c .longest-pair .ensures) (rounded-pair (low .ensures) (high .ensures) (start .args .target) (start .pre .few)
+    (omega (arith, if1 .left)) (omega (arith, if2 .left)))
+
+pub rounded-spec : {M : Type 1} → statement M
+rounded-spec =
+    tie.close
+    (tie.spec
+    subset-sums-requires
+    subset-sums-requires-2
+    returns
+    returns-2
+    longest-pair-requires
+    returns-3)
