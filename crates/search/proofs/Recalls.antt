@@ -11,7 +11,8 @@ use Rattle.counting.proofs.Tests.{clash}
 use Rattle.bits.specs.Bits.{bit}
 use Rattle.bits.proofs.Ones.{ones-none}
 use Rattle.schedule.specs.Plan.{Sheet, finish}
-use Rattle.schedule.specs.ListPlan.{partOf}
+use Rattle.schedule.specs.ListPlan.{Order, partOf}
+use Rattle.schedule.specs.TieRule.{endOf}
 use Rattle.schedule.proofs.Places.{CannotBeat}
 use Rattle.schedule.proofs.Cuts.{cannot-beat-less, ahead-cut, NoneBefore}
 use Rattle.tables.specs.Tables.{sheetOf}
@@ -26,6 +27,12 @@ use Rattle.search.specs.Search.{Known, StandsFor, Remembered}
 pub remembered-less : (S : Sheet) (m : List ℕ) (e f : ℕ) → f ≤ e → Remembered S m e → Remembered S m f
 unfolding Remembered
 remembered-less S m e f l h k i p = let v = h k i p in (v .0, v .1, cannot-beat-less S e f (v .0) l (v .2))
+
+-- another minute before which no order ends that does not end before the first
+pub remembered-until : (S : Sheet) (m : List ℕ) (e f : ℕ) → ((o : List ℕ) → Order S o → e ≤ endOf S o → f ≤ endOf S o)
+    → Remembered S m e → Remembered S m f
+unfolding Remembered CannotBeat
+remembered-until S m e f until h k i p = let v = h k i p in (v .0, v .1, λ o d b. until o d (v .2 o d b))
 
 -- a memory that is all zero remembers nothing
 pub remembered-none : (S : Sheet) (m : List ℕ) (n e : ℕ) → m ≡ replicate n 0 → Remembered S m e

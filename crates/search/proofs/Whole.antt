@@ -7,7 +7,7 @@ use Prim.Native.Nat.{ℕ, zero, suc, _+_, _-_, _≤_, _<_}
 use native.Mathlib.Omega.{arith}
 use lib.ListN.{getD, replicate, length-replicate}
 use Rattle.counting.specs.Counting.{only}
-use Rattle.counting.proofs.Tests.{true-or-false, clash}
+use Rattle.counting.proofs.Tests.{true-or-false, clash, less-or-not}
 use Rattle.bits.specs.Bits.{bit}
 use Rattle.bits.proofs.Digits.{bit-none}
 use Rattle.schedule.specs.Plan.{Sheet}
@@ -15,11 +15,13 @@ use Rattle.schedule.specs.ListPlan.{Order}
 use Rattle.schedule.specs.TieRule as tie
 use Rattle.schedule.specs.TieRule.{endOf}
 use Rattle.schedule.proofs.Places.{CannotBeat}
-use Rattle.tables.specs.Tables.{sheetOf}
+use Rattle.schedule.proofs.EndSums.{end-sum}
+use Rattle.tables.specs.Tables.{sheetOf, Fit}
 use Rattle.placement.specs.Part.{wordOf, firstPart}
 use Rattle.search.specs.declared.Found.{Found}
 use Rattle.search.specs.Search.{Remembered, Outcome, noneSettled, SettledSo, Searching}
 use Rattle.search.specs.Search.{OrderOf, keptAs, Lowering, Lowered, Lowest}
+use Rattle.sums.specs.Sums.{Rounded}
 use Rattle.search.proofs.Recalls.{remembered-less}
 use Rattle.search.proofs.Listing.{first-known}
 
@@ -42,9 +44,6 @@ pub first-word : (need minutes : List ℕ) (jobs modules : ℕ) → wordOf (firs
 unfolding firstPart
 first-word need minutes jobs modules = refl
 
-pub one-more : (e : ℕ) → ¬ (e ≡ 0) → suc (e - 1) ≡ e
-one-more e h = omega arith
-
 kept-is : {S : Sheet} {best : Found} → OrderOf S best → OrderOf S (keptAs best)
 kept-is h = record { size = h .size; order = h .order; end = h .end; low = h .low }
 
@@ -52,42 +51,53 @@ module _ (need minutes earlier later tails : List ℕ) (jobs modules : ℕ) wher
   abbrev S : Sheet
   S = sheetOf need minutes earlier jobs modules
 
-  -- an order that is to end before the best
-  pub enter : {best : Found} {memory : List ℕ} → Lowering need minutes earlier later tails jobs modules best memory → ¬ (best .end ≡ 0)
-      → Searching need minutes earlier later tails jobs modules (firstPart need minutes jobs modules) (noneSettled .by)
-      (best .end - 1) memory
-  enter {best} {memory} s z = record {
+  -- an order that is to end by the target
+  pub enter : {best : Found} {memory : List ℕ} (target : ℕ) → Lowering need minutes earlier later tails jobs modules best memory
+      → target < best .end
+      → Searching need minutes earlier later tails jobs modules (firstPart need minutes jobs modules) (noneSettled .by) target memory
+  enter {best} {memory} target s l = record {
     low = omega (arith, s .best-is .low);
     known = first-known need minutes earlier jobs modules (s .fit);
     chains = s .chains;
     laters = s .laters;
-    settled = none-settled S (best .end - 1) _;
-    remembered = subst (λ (e : ℕ). Remembered S memory e) (let e : best .end ≡ suc (best .end - 1) = omega arith in e) (s .remembered);
+    settled = none-settled S target _;
+    remembered = remembered-less S memory (best .end) (suc target) l (s .remembered);
   }
 
-  pub lower-hit : {best r : Found} {memory : List ℕ} (memory′ : List ℕ) {v : List ℕ}
+  pub lower-hit : {best r : Found} {memory : List ℕ} (memory′ : List ℕ) {v : List ℕ} (target : ℕ)
       → Lowering need minutes earlier later tails jobs modules best memory
-      → ¬ (best .end ≡ 0) → Outcome S (best .end - 1) v r → r .hit ≡ true → Remembered S memory′ (suc (best .end - 1))
+      → target < best .end → Outcome S target v r → r .hit ≡ true → Remembered S memory′ (suc target)
       → Lowered S best r × Remembered S memory′ (r .end)
-  lower-hit {best} {r} {memory} memory′ s z o e m =
+  lower-hit {best} {r} {memory} memory′ target s l o e m =
       let f = o .hit e in (
         record {
           is = record { size = o .size; order = f .order; end = f .end; low = omega (arith, f .within, s .best-is .low) };
           hit = λ _. omega (arith, f .within);
           miss = λ h. clash (r .hit) e h;
         },
-        remembered-less S memory′ (suc (best .end - 1)) (r .end) (omega (arith, f .within)) m,
+        remembered-less S memory′ (suc target) (r .end) (omega (arith, f .within)) m,
       )
+
+  -- no order ends between the target and the best
+  pub none-between : (best : Found) (target : ℕ) → Fit need minutes jobs modules → ¬ (best .end ≡ 0)
+      → Rounded minutes jobs (best .end - 1) target → (o : List ℕ) → Order S o → suc target ≤ endOf S o → best .end ≤ endOf S o
+  none-between best target fit z h o d l = go (less-or-not (endOf S o) (best .end))
+    where
+      go : (endOf S o < best .end) ⊎ (best .end ≤ endOf S o) → best .end ≤ endOf S o
+      go (inr x) = x
+      go (inl x) =
+          let e = end-sum S (fit .narrow) (λ j. refl) refl o d in
+          absurd (omega (arith, e .1, h .none-between (e .0) (omega (arith, e .1))))
 
   -- none ends earlier
   pub lower-miss : {best : Found} {memory : List ℕ} → Lowering need minutes earlier later tails jobs modules best memory
       → ((o : List ℕ) → Order S o → best .end ≤ endOf S o) → Lowered S best (keptAs best)
   lower-miss {best} s least = record { is = kept-is (s .best-is); hit = λ x. clash false x refl; miss = λ x. (refl, least) }
 
-  pub none-earlier : (best : Found) {r : Found} {v : List ℕ} → ¬ (best .end ≡ 0) → v ≡ [] → Outcome S (best .end - 1) v r → r .hit ≡ false
-      → (o : List ℕ) → Order S o → best .end ≤ endOf S o
+  pub none-by : {r : Found} {v : List ℕ} (target : ℕ) → v ≡ [] → Outcome S target v r → r .hit ≡ false
+      → (o : List ℕ) → Order S o → suc target ≤ endOf S o
   unfolding CannotBeat
-  none-earlier best {r} {v} z e m h o d = omega (arith, m .miss h o d (o, ap (λ (x : List ℕ). x ++ o) (sym e)))
+  none-by target e m h o d = m .miss h o d (o, ap (λ (x : List ℕ). x ++ o) (sym e))
 
   -- no order ends before minute 0
   pub from-zero : (best : Found) → best .end ≡ 0 → (o : List ℕ) → Order S o → best .end ≤ endOf S o

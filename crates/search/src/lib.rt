@@ -914,6 +914,7 @@ fn lower(
     if best.end == 0 {
         return kept(best);
     }
+    let target = sums::rounded(minutes, jobs, best.end - 1);
     let part = placement::first_part(need, minutes, jobs, modules);
     let settled = none_settled();
     let found = visit(
@@ -926,7 +927,7 @@ fn lower(
         modules,
         part,
         settled,
-        best.end - 1,
+        target,
         memory,
     );
     if found.hit {

@@ -1,7 +1,10 @@
 -- `search::lower` meets its contract.
 use mathlib.Core.Path.{ap, _∙_}
+use Prim.Native.Nat.{suc}
+use native.Mathlib.Omega.{arith}
 use Rattle.placement.specs.Part.{wordOf}
-use Rattle.search.proofs.Whole.{enter, lower-hit, lower-miss, none-earlier, from-zero, first-word, one-more}
+use Rattle.search.proofs.Whole.{enter, lower-hit, none-between, lower-miss, none-by, from-zero, first-word}
+use Rattle.search.proofs.Recalls.{remembered-until}
 use borrow.Author.Needs.{needs}
 use Rattle.search.proofs.lower.Statement.{statement}
 use Rattle.search.proofs.lower.Tie as tie
@@ -20,32 +23,41 @@ returns c =
       start .pre .remembered,
     )
 
+sub-rounded : tie.Need-sub-rounded
+sub-rounded c = search needs
+
+rounded-requires : tie.Need-rounded-requires
+rounded-requires c κs =
+    let fit = c .before .before .before .before .pre .fit in
+    record { few = fit .few; day = fit .short }
+
 first-part-requires : tie.Need-first-part-requires
 first-part-requires c κs = search needs
 
 none-settled-requires : tie.Need-none-settled-requires
 none-settled-requires c κs = search needs
 
-sub-visit : tie.Need-sub-visit
-sub-visit c = search needs
-
 visit-requires : tie.Need-visit-requires
 visit-requires c κs =
-    let start = c .before .before .before .before .before .before .before in
+    let start = c .before .before .before .before .before .before .before .before in
     let a = start .args in
-    rw (c .before .before .before .first-part .ensures, c .before .before .none-settled .ensures) (enter (a .need .now) (a .minutes .now)
-    (a .earlier .now) (a .later .now) (a .tails .now) (a .jobs) (a .modules) (start .pre) (c .before .before .before .before .if1 .left))
+    let target = c .before .before .before .rounded in
+    rw (c .before .before .first-part .ensures, c .before .none-settled .ensures) (enter (a .need .now) (a .minutes .now) (a .earlier .now) (a .later .now)
+    (a .tails .now) (a .jobs) (a .modules) (target .result) (start .pre)
+    (let low = c .before .before .before .before .before .if1 .left in omega (arith, target .ensures .below)))
 
 same-length : tie.Need-same-length
 same-length c = search needs
 
 returns-2 : tie.Need-returns-2
 returns-2 c =
-    let start = c .before .before .before .before .before .before .before .before .before .before .before in
+    let start = c .before .before .before .before .before .before .before .before .before .before .before .before in
     let a = start .args in
     let visit = c .before .before .before .visit in
-    lower-hit (a .need .now) (a .minutes .now) (a .earlier .now) (a .later .now) (a .tails .now) (a .jobs) (a .modules) _ (start .pre)
-    (c .before .before .before .before .before .before .before .before .if1 .left) (visit .ensures .0) (c .if2 .taken) (visit .ensures .1)
+    let target = c .before .before .before .before .before .before .before .rounded in
+    lower-hit (a .need .now) (a .minutes .now) (a .earlier .now) (a .later .now) (a .tails .now) (a .jobs) (a .modules) _
+    (target .result) (start .pre) (let low = c .before .before .before .before .before .before .before .before .before .if1 .left in omega (arith, target .ensures .below)) (visit .ensures .0) (c .if2 .taken)
+    (visit .ensures .1)
 
 kept-requires-2 : tie.Need-kept-requires-2
 kept-requires-2 c κs = search needs
@@ -55,17 +67,19 @@ same-length-2 c = search needs
 
 returns-3 : tie.Need-returns-3
 returns-3 c =
-    let start = c .before .before .before .before .before .before .before .before .before .before .before .before in
+    let start = c .before .before .before .before .before .before .before .before .before .before .before .before .before in
     let a = start .args in
     let visit = c .before .before .before .before .visit in
-    let some = c .before .before .before .before .before .before .before .before .before .if1 .left in
-    let word = ap wordOf (c .before .before .before .before .before .before .before .before .first-part .ensures) ∙ first-word
-    (a .need .now) (a .minutes .now) (a .jobs) (a .modules) in
+    let target = c .before .before .before .before .before .before .before .before .rounded in
+    let word = ap wordOf (c .before .before .before .before .before .before .before .first-part .ensures) ∙ first-word (a .need .now) (a .minutes .now) (a .jobs) (a .modules) in
+    let between = none-between (a .need .now) (a .minutes .now) (a .earlier .now) (a .later .now) (a .tails .now) (a .jobs) (a .modules)
+    (a .best) (target .result) (start .pre .fit) (c .before .before .before .before .before .before .before .before .before .before .if1 .left) (target .ensures) in
+    let none = none-by (a .need .now) (a .minutes .now) (a .earlier .now) (a .later .now) (a .tails .now) (a .jobs) (a .modules)
+    (target .result) word (visit .ensures .0) (c .before .if2 .left) in
     rw (c .kept2 .ensures) (
       lower-miss (a .need .now) (a .minutes .now) (a .earlier .now) (a .later .now) (a .tails .now) (a .jobs) (a .modules) (start .pre)
-          (none-earlier (a .need .now) (a .minutes .now) (a .earlier .now) (a .later .now) (a .tails .now) (a .jobs) (a .modules)
-          (a .best) some word (visit .ensures .0) (c .before .if2 .left)),
-      rw (one-more (a .best .end) some) at (visit .ensures .1),
+          (λ o d. between o d (none o d)),
+      remembered-until _ _ (suc (target .result)) (a .best .end) between (visit .ensures .1),
     )
 
 pub lower-spec : {M : Type 1} → statement M
@@ -74,9 +88,10 @@ lower-spec =
     (tie.spec
     kept-requires
     returns
+    sub-rounded
+    rounded-requires
     first-part-requires
     none-settled-requires
-    sub-visit
     visit-requires
     same-length
     returns-2
