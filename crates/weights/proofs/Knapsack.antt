@@ -1,0 +1,152 @@
+-- The weight of a job, and the most that can stand on so many modules, one job more at a time.
+use mathlib.Core.Path.{_≡_, _∙_}
+use mathlib.Core.Logic.{_⊎_, inl, inr}
+use mathlib.Core.Bool.{true, false}
+use mathlib.Core.List.{List}
+use Prim.Native.Nat.{ℕ, suc, _+_, _-_, _*_, _/_, _%_, _≤_, _<_, zero-le}
+use native.Mathlib.Omega.{arith}
+use native.Mathlib.Nat.{le-trans, mul-le-mul, mul-comm, div-le-of-le-mul, zero-add, not-suc-le-zero}
+use native.Mathlib.Numerals.{add-one}
+use lib.Dec.{eqb, leb}
+use borrow.Author.Tests.{le-leb}
+use lib.ListN.{getD, replicate, length-replicate}
+use Rattle.counting.specs.Counting.{only, sum}
+use Rattle.counting.proofs.Tests.{true-or-false, last-or-below}
+use Rattle.tables.specs.Tables.{Fit}
+use Rattle.weights.specs.Weights.{Weighs, weightIn, mostWith, Put, MostOf, Weighting, WeightedTo}
+use Rattle.weights.proofs.Puts.{zeros}
+
+-- ---- the weight of one job
+
+-- the products that make it up
+pub record Figures (modules q width : ℕ) : Type 0 where
+  pub product : (q + 2) * width ≤ 320
+  pub less : (q + 1) * ((q + 2) * width / modules) ≤ 20
+  pub more : (q + 2) * ((q + 2) * width / modules) ≤ 25
+
+pub figures : (modules q width : ℕ) → modules ≤ 64 → width ≤ modules → q < 4 → Figures modules q width
+figures modules q width m w l =
+    let a : (q + 2) * width ≤ 5 * modules = mul-le-mul (omega arith) w in
+    let whole : (q + 2) * width / modules ≤ 5 = div-le-of-le-mul modules (omega (arith, mul-comm modules 5)) in
+    record {
+      product = omega arith;
+      less = mul-le-mul {n₂ = 4} {m₂ = 5} (omega arith) whole;
+      more = mul-le-mul {n₂ = 5} {m₂ = 5} (omega arith) whole;
+    }
+
+weight-light : (modules q width : ℕ) → modules ≤ 64 → width ≤ modules → q < 4 → weightIn modules q width ≤ 25
+unfolding weightIn
+weight-light modules q width m w l = go (true-or-false (eqb ((q + 2) * width % modules) 0))
+  where
+    go : (eqb ((q + 2) * width % modules) 0 ≡ true) ⊎ (eqb ((q + 2) * width % modules) 0 ≡ false) → weightIn modules q width ≤ 25
+    go (inl e) = rw e (le-trans (figures modules q width m w l .less) (omega arith))
+    go (inr e) = rw e (figures modules q width m w l .more)
+
+-- the weight of one of the sheet's jobs, alone and times its minutes
+module _ {need minutes : List ℕ} {jobs modules : ℕ} (fit : Fit need minutes jobs modules)
+    (q : ℕ) (low : q < 4) (k : ℕ) (l : k < jobs) where
+  pub job-light : weightIn modules q (getD need k 0) ≤ 25
+  job-light = weight-light modules q (getD need k 0) (fit .most) (fit .narrow k l) low
+
+  pub worth-small : getD minutes k 0 * weightIn modules q (getD need k 0) ≤ 36000
+  worth-small = mul-le-mul {n₂ = 1440} {m₂ = 25} (fit .short k l) job-light
+
+-- ---- the table of one weighting
+
+-- a table of the first n jobs, and one that counts one job more
+weighs-more : (need : List ℕ) (n modules : ℕ) (y K K′ : ℕ → ℕ) → Weighs need n modules y K
+    → ((x : ℕ) → x ≤ modules → K x ≤ K′ x) → ((x : ℕ) → x ≤ modules → getD need n 0 ≤ x → y n + K (x - getD need n 0) ≤ K′ x)
+    → Weighs need (suc n) modules y K′
+unfolding sum
+weighs-more need n modules y K K′ h keeps takes X x l fits = go (true-or-false (X n))
+  where
+    go : (X n ≡ true) ⊎ (X n ≡ false) → sum n (λ k. only (X k) (y k)) + only (X n) (y n) ≤ K′ x
+    go (inl e) =
+        let f : sum n (λ k. only (X k) (getD need k 0)) + getD need n 0 ≤ x = rw e at fits in
+        let below = h X (x - getD need n 0) (omega arith) (omega arith) in
+        rw e (omega (arith, takes x l (omega arith)))
+    go (inr e) =
+        let f : sum n (λ k. only (X k) (getD need k 0)) + 0 ≤ x = rw e at fits in
+        rw e (omega (arith, h X x l (omega arith), keeps x l))
+
+most-with-keeps : (old : List ℕ) (width weight x : ℕ) → getD old x 0 ≤ mostWith old width weight x
+unfolding mostWith
+most-with-keeps old width weight x = omega arith
+
+most-with-takes : (old : List ℕ) (width weight x : ℕ) → width ≤ x → weight + getD old (x - width) 0 ≤ mostWith old width weight x
+unfolding mostWith
+most-with-takes old width weight x l = rw (le-leb width x l) (omega arith)
+
+most-with-small : (old : List ℕ) (width weight x b : ℕ) → ((p : ℕ) → getD old p 0 ≤ b) → weight ≤ 25 → mostWith old width weight x ≤ b + 25
+unfolding mostWith
+most-with-small old width weight x b h l = go (true-or-false (leb width x))
+  where
+    go : (leb width x ≡ true) ⊎ (leb width x ≡ false) → mostWith old width weight x ≤ b + 25
+    go (inl e) = rw e (omega (arith, h x, h (x - width)))
+    go (inr e) = rw e (omega (arith, h x))
+
+pub most-none : (need : List ℕ) (modules q : ℕ) → MostOf need 0 modules q (replicate 65 0)
+unfolding sum
+most-none need modules q = record { weighs = λ X x l fits. zero-le; small = zeros 65 }
+
+pub most-more : {need : List ℕ} {n modules q : ℕ} {old new : List ℕ} → MostOf need n modules q old
+    → Put (replicate 65 0) new 0 (modules + 1) (mostWith old (getD need n 0) (weightIn modules q (getD need n 0)))
+    → weightIn modules q (getD need n 0) ≤ 25 → MostOf need (n + 1) modules q new
+most-more {need} {n} {modules} {q} {old} {new} h put light = record {
+  weighs = rw add-one (weighs-more need n modules (λ k. weightIn modules q (getD need k 0)) (λ x. getD old x 0) (λ x. getD new x 0)
+      (h .weighs) (λ x l. omega (arith, at x l, most-with-keeps old width weight x))
+      (λ x l m. omega (arith, at x l, most-with-takes old width weight x m)));
+  small = λ p. le-trans (put .small (25 * n + 25) (λ i. omega (arith, zeros 65 i))
+      (λ x l. most-with-small old width weight x (25 * n) (h .small) light) p) (omega arith);
+}
+  where
+    width : ℕ
+    width = getD need n 0
+
+    weight : ℕ
+    weight = weightIn modules q width
+
+    at : (x : ℕ) → x ≤ modules → getD new x 0 ≡ mostWith old width weight x
+    at x l = rw (zero-add x) at (put .each x (omega arith))
+
+-- ---- the weightings side by side
+
+-- a weighting of which both parts are kept
+weighting-kept : {need minutes : List ℕ} {jobs modules : ℕ} {worth worth′ most most′ : List ℕ} {q : ℕ} → jobs ≤ 20 → modules ≤ 64
+    → ((p : ℕ) → p < (q + 1) * 20 → getD worth′ p 0 ≡ getD worth p 0) → ((p : ℕ) → p < (q + 1) * 65 → getD most′ p 0 ≡ getD most p 0)
+    → Weighting need minutes jobs modules worth most q → Weighting need minutes jobs modules worth′ most′ q
+weighting-kept {q = q} few narrow same same′ h = record {
+  weight = h .weight;
+  worth-is = λ k l. same (q * 20 + k) (omega arith) ∙ h .worth-is k l;
+  weighs = λ X x l fits. omega (arith, same′ (q * 65 + x) (omega arith), h .weighs X x l fits);
+}
+
+pub weighted-none : (need minutes : List ℕ) (jobs modules : ℕ) → WeightedTo need minutes jobs modules (replicate 80 0) (replicate 260 0) 0
+weighted-none need minutes jobs modules = record {
+  worth-length = length-replicate {A = ℕ} 80 0;
+  most-length = length-replicate {A = ℕ} 260 0;
+  worth-small = λ p. omega (arith, zeros 80 p);
+  most-small = λ p. omega (arith, zeros 260 p);
+  each = λ q l. absurd (not-suc-le-zero l);
+}
+
+pub weighted-more : {need minutes : List ℕ} {jobs modules q : ℕ} {worth worth′ most most′ table : List ℕ} → Fit need minutes jobs modules
+    → q < 4 → WeightedTo need minutes jobs modules worth most q → MostOf need jobs modules q table
+    → Put worth worth′ (q * 20) jobs (λ k. getD minutes k 0 * weightIn modules q (getD need k 0))
+    → Put most most′ (q * 65) 65 (λ x. getD table x 0) → WeightedTo need minutes jobs modules worth′ most′ (q + 1)
+weighted-more {need} {minutes} {jobs} {modules} {q} {worth} {worth′} {most} {most′} {table} fit low h table-is put put′ = record {
+  worth-length = put .size ∙ h .worth-length;
+  most-length = put′ .size ∙ h .most-length;
+  worth-small = put .small 36000 (h .worth-small) (worth-small fit q low);
+  most-small = put′ .small 500 (h .most-small) (λ x l. omega (arith, table-is .small x, fit .few));
+  each = λ p l. each p (last-or-below q p (omega arith));
+}
+  where
+    each : (p : ℕ) → (p ≡ q) ⊎ (p < q) → Weighting need minutes jobs modules worth′ most′ p
+    each p (inl e) = rw e (record {
+      weight = λ k. weightIn modules q (getD need k 0);
+      worth-is = put .each;
+      weighs = λ X x l fits. omega (arith, put′ .each x (omega (arith, fit .most)), table-is .weighs X x l fits);
+    })
+    each p (inr l) =
+        weighting-kept (fit .few) (fit .most) (λ i m. put .kept i (omega arith)) (λ i m. put′ .kept i (omega arith)) (h .each p l)

@@ -1,0 +1,165 @@
+-- What can stand on the free modules, walked from one end of a placed job to the next.
+use mathlib.Core.Path.{_≡_, refl, ap, _∙_}
+use mathlib.Core.Logic.{_⊎_, inl, inr}
+use mathlib.Core.List.{List}
+use Prim.Native.Nat.{ℕ, _+_, _-_, _*_, _≤_, _<_, min, max}
+use native.Mathlib.Omega.{arith}
+use native.Mathlib.Nat.{mul-comm, mul-le-mul-right, le-refl}
+use lib.Dec.{leb}
+use lib.ListN.{getD}
+use borrow.Author.Tests.{le-leb, lt-leb, lt-ltb, le-ltb}
+use Rattle.counting.specs.Counting.{only, sum}
+use Rattle.counting.proofs.Tests.{less-or-not, last-or-below}
+use Rattle.counting.proofs.Sums.{sum-same, sum-add, sum-zero}
+use Rattle.counting.proofs.Intervals.{inside, sum-inside}
+use Rattle.placement.specs.Profile.{heldAt, heldFrom, Sorted, Profile}
+use Rattle.placement.proofs.Profiles.{held-from-step, held-at-le, held-from-le}
+use Rattle.bits.specs.Bits.{bit}
+use Rattle.weights.specs.Weights.{Weighting, roomFor, Outweighed}
+
+-- a sum over the numbers from a on, of which those below b have the same value
+sum-from : (T a b c : ℕ) (g : ℕ → ℕ) → a ≤ b → b ≤ T → ((t : ℕ) → a ≤ t → t < b → g t ≡ c)
+    → sum T (λ t. only (leb a t) (g t)) ≡ c * (b - a) + sum T (λ t. only (leb b t) (g t))
+sum-from T a b c g l m h =
+    let all = sum-same T (λ t. only (leb a t) (g t)) (λ t. only (inside a b t) c + only (leb b t) (g t))
+    (λ t x. one t (less-or-not t a) (less-or-not t b))
+    ∙ sum-add T (λ t. only (inside a b t) c) (λ t. only (leb b t) (g t)) in
+    let e : min T b - a ≡ b - a = omega arith in
+    let low : sum T (λ t. only (inside a b t) c) ≡ c * (b - a) =
+    sum-inside T a b c ∙ ap (λ (n : ℕ). n * c) e ∙ mul-comm (b - a) c in
+    omega arith
+  where
+    one : (t : ℕ) → (t < a) ⊎ (a ≤ t) → (t < b) ⊎ (b ≤ t) → only (leb a t) (g t) ≡ only (inside a b t) c + only (leb b t) (g t)
+    one t (inl x) z = rw (lt-leb a t x, lt-leb b t (omega arith)) refl
+    one t (inr x) (inl z) = rw (le-leb a t x, lt-leb b t z, lt-ltb t b z) (omega (arith, h t x z))
+    one t (inr x) (inr z) = rw (le-leb a t x, le-leb b t z, le-ltb t b z) (omega arith)
+
+-- over no numbers
+sum-past : (T : ℕ) (g : ℕ → ℕ) → sum T (λ t. only (leb T t) (g t)) ≡ 0
+sum-past T g = sum-same T _ (λ t. 0) (λ t l. ap (λ b. only b (g t)) (lt-leb T t l)) ∙ sum-zero T
+
+-- so far: the room up to minute `at`, from which on f modules are free until the i-th ends
+pub record Walk (most : ℕ → ℕ) (until held : List ℕ) (placed modules l T room at f i : ℕ) : Type 0 where
+  pub small : (x : ℕ) → most x ≤ 500
+  pub narrow : modules ≤ 64
+  pub sorted : Sorted until placed
+  pub few : placed ≤ 20
+  pub inside : i ≤ placed
+  pub rest : f + heldFrom held placed i ≡ modules
+  pub before : at ≤ T
+  pub ended : (k : ℕ) → k < i → min (getD until k 0) T ≤ at
+  pub low : room ≤ 500 * at
+  pub all : room + roomFor most until held modules placed at T ≡ roomFor most until held modules placed l T
+
+pub walk-start : {most : ℕ → ℕ} {until held : List ℕ} {placed gone free modules l T : ℕ} → ((x : ℕ) → most x ≤ 500)
+    → Profile until held placed gone free modules l → modules ≤ 64 → l ≤ T → Walk most until held placed modules l T 0 l free gone
+walk-start {l = l} small h narrow before = record {
+  small = small;
+  narrow = narrow;
+  sorted = h .sorted;
+  few = h .few;
+  inside = h .inside;
+  rest = h .rest;
+  before = before;
+  ended = λ k m. omega (arith, h .ended k m);
+  low = omega arith;
+  all = omega arith;
+}
+
+-- what a turn of the walk can rely on
+pub record Turn (most : ℕ → ℕ) (until held : List ℕ) (T room at f i : ℕ) : Type 0 where
+  pub fits : f + getD held i 0 ≤ 64
+  pub small : most f ≤ 500
+  pub product : most f * (max at (min (getD until i 0) T) - at) ≤ 500 * T
+  pub total : room + most f * (max at (min (getD until i 0) T) - at) ≤ 500 * T
+
+-- what its end can rely on
+pub record Last (most : ℕ → ℕ) (until held : List ℕ) (placed modules l T room at f : ℕ) : Type 0 where
+  pub small : most f ≤ 500
+  pub product : most f * (T - at) ≤ 500 * T
+  pub total : room + most f * (T - at) ≤ 500 * T
+  pub all : room + most f * (T - at) ≡ roomFor most until held modules placed l T
+
+module _ {most : ℕ → ℕ} {until held : List ℕ} {placed modules l T room at f i : ℕ}
+    (h : Walk most until held placed modules l T room at f i) where
+  -- the modules that are free while the i-th is the next to end
+  free-at : (t : ℕ) → at ≤ t → t < T → ((k : ℕ) → i ≤ k → k < placed → t < getD until k 0) → modules - heldAt until held placed t ≡ f
+  free-at t a b n = omega (
+    arith,
+    h .rest,
+    held-at-le until held placed i t (λ k m. omega (arith, h .ended k m)),
+    held-from-le until held placed i t n,
+  )
+
+  -- the room up to a minute before which none of the others ends
+  room-to : (b : ℕ) → at ≤ b → b ≤ T → ((t k : ℕ) → at ≤ t → t < b → i ≤ k → k < placed → t < getD until k 0)
+      → room + most f * (b - at) + roomFor most until held modules placed b T ≡ roomFor most until held modules placed l T
+  unfolding roomFor
+  room-to b x y n =
+      let s = sum-from T at b (most f) (λ t. most (modules - heldAt until held placed t)) x y
+      (λ t p q. ap most (free-at t p (omega arith) (λ k m o. n t k p q m o))) in
+      omega (arith, h .all)
+
+  room-low : (b : ℕ) → at ≤ b → room + most f * (b - at) ≤ 500 * b
+  room-low b x = omega (arith, h .low, mul-le-mul-right (b - at) (h .small f))
+
+  pub walk-turn : i < placed → Turn most until held T room at f i
+  walk-turn m =
+      let total = room-low (max at (min (getD until i 0) T)) (omega arith) in
+      record {
+        fits = omega (arith, h .rest, h .narrow, held-from-step until held placed i m);
+        small = h .small f;
+        product = omega (arith, h .before);
+        total = omega (arith, h .before);
+      }
+
+  pub walk-step : i < placed → (f′ : ℕ) → f′ ≡ f + getD held i 0 → Walk most until held placed modules l T
+      (room + most f * (max at (min (getD until i 0) T) - at)) (max at (min (getD until i 0) T)) f′ (i + 1)
+  walk-step m f′ e = record {
+    small = h .small;
+    narrow = h .narrow;
+    sorted = h .sorted;
+    few = h .few;
+    inside = omega arith;
+    rest = omega (arith, h .rest, held-from-step until held placed i m);
+    before = omega (arith, h .before);
+    ended = λ k n. ended k (last-or-below i k (omega arith));
+    low = room-low (max at (min (getD until i 0) T)) (omega arith);
+    all = room-to (max at (min (getD until i 0) T)) (omega arith) (omega (arith, h .before))
+        (λ t k x y n o. omega (arith, h .sorted i k n o));
+  }
+    where
+      ended : (k : ℕ) → (k ≡ i) ⊎ (k < i) → min (getD until k 0) T ≤ max at (min (getD until i 0) T)
+      ended k (inl e) = rw e (omega arith)
+      ended k (inr n) = omega (arith, h .ended k n)
+
+  pub walk-done : placed ≤ i → Last most until held placed modules l T room at f
+  unfolding roomFor
+  walk-done m =
+      let total = room-low T (h .before) in
+      let all = room-to T (h .before) (le-refl _) (λ t k x y n o. absurd (omega arith)) in
+      record {
+        small = h .small f;
+        product = omega arith;
+        total = total;
+        all = omega (arith, sum-past T (λ t. most (modules - heldAt until held placed t)));
+      }
+
+-- ---- the weightings' answer
+
+pub outweighs : {need minutes until held : List ℕ} {jobs modules : ℕ} {worth most : List ℕ} {q placed set l T : ℕ}
+    → Weighting need minutes jobs modules worth most q
+    → roomFor (λ x. getD most (q * 65 + x) 0) until held modules placed l T < sum jobs (λ k. only (bit set k) (getD worth (q * 20 + k) 0))
+    → Outweighed need minutes until held jobs modules placed set l T
+unfolding roomFor
+outweighs {minutes = minutes} {jobs = jobs} {worth = worth} {most = most} {q = q} {set = set} w over = record {
+  weight = w .weight;
+  most = λ x. getD most (q * 65 + x) 0;
+  weighs = w .weighs;
+  over = omega (
+    arith,
+    over,
+    sum-same jobs (λ k. only (bit set k) (getD worth (q * 20 + k) 0))
+        (λ k. only (bit set k) (getD minutes k 0 * w .weight k)) (λ k m. ap (λ (x : ℕ). only (bit set k) x) (w .worth-is k m)),
+  );
+}

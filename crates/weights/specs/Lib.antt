@@ -1,0 +1,2 @@
+-- What the weightings of a sheet are.
+pub mod Weights

@@ -1,0 +1,66 @@
+-- Weights of jobs, and the most that can stand on so many modules.
+use mathlib.Core.Path.{_≡_}
+use mathlib.Core.Bool.{Bool, cond}
+use mathlib.Core.List.{List}
+use Prim.Native.Nat.{ℕ, _+_, _-_, _*_, _/_, _%_, _≤_, _<_, max}
+use lib.Dec.{leb, eqb}
+use lib.ListN.{length, getD}
+use Rattle.counting.specs.Counting.{only, sum}
+use Rattle.bits.specs.Bits.{bit}
+use Rattle.placement.specs.Profile.{heldAt}
+
+-- no set of jobs that fits on x modules weighs more than K x
+abbrev pub Weighs : List ℕ → ℕ → ℕ → (ℕ → ℕ) → (ℕ → ℕ) → Type 0
+Weighs need jobs modules y K = (X : ℕ → Bool) (x : ℕ) → x ≤ modules → sum jobs (λ k. only (X k) (getD need k 0)) ≤ x
+    → sum jobs (λ k. only (X k) (y k)) ≤ K x
+
+-- a job that fills j of q + 2 equal parts of the cabinet weighs (q + 1) * j, and one that overruns them (q + 2) * j
+unfoldable pub weightIn : ℕ → ℕ → ℕ → ℕ
+weightIn modules q width = cond (eqb ((q + 2) * width % modules) 0) ((q + 1) * ((q + 2) * width / modules))
+    ((q + 2) * ((q + 2) * width / modules))
+
+-- the most that can stand on x modules with one job more
+unfoldable pub mostWith : List ℕ → ℕ → ℕ → ℕ → ℕ
+mostWith old width weight x = max (getD old x 0) (only (leb width x) (weight + getD old (x - width) 0))
+
+-- n values are put in from place `from` on, and what stands before them is kept
+pub record Put (old new : List ℕ) (from n : ℕ) (value : ℕ → ℕ) : Type 0 where
+  pub size : length new ≡ length old
+  pub kept : (p : ℕ) → p < from → getD new p 0 ≡ getD old p 0
+  pub each : (k : ℕ) → k < n → getD new (from + k) 0 ≡ value k
+  pub small : (b : ℕ) → ((p : ℕ) → getD old p 0 ≤ b) → ((k : ℕ) → k < n → value k ≤ b) → (p : ℕ) → getD new p 0 ≤ b
+
+-- the most of the first n jobs that can stand on each number of modules, in weighting q
+pub record MostOf (need : List ℕ) (n modules q : ℕ) (table : List ℕ) : Type 0 where
+  pub weighs : Weighs need n modules (λ k. weightIn modules q (getD need k 0)) (λ x. getD table x 0)
+  pub small : (p : ℕ) → getD table p 0 ≤ 25 * n
+
+-- place q * 20 + k of `worth` is job k's minutes times its weight, place q * 65 + x of `most` the most that can stand on x modules
+pub record Weighting (need minutes : List ℕ) (jobs modules : ℕ) (worth most : List ℕ) (q : ℕ) : Type 0 where
+  pub weight : ℕ → ℕ
+  pub worth-is : (k : ℕ) → k < jobs → getD worth (q * 20 + k) 0 ≡ getD minutes k 0 * weight k
+  pub weighs : Weighs need jobs modules weight (λ x. getD most (q * 65 + x) 0)
+
+-- so many weightings side by side
+pub record WeightedTo (need minutes : List ℕ) (jobs modules : ℕ) (worth most : List ℕ) (count : ℕ) : Type 0 where
+  pub worth-length : length worth ≡ 80
+  pub most-length : length most ≡ 260
+  pub worth-small : (p : ℕ) → getD worth p 0 ≤ 36000
+  pub most-small : (p : ℕ) → getD most p 0 ≤ 500
+  pub each : (q : ℕ) → q < count → Weighting need minutes jobs modules worth most q
+
+-- all four
+abbrev pub Weighted : List ℕ → List ℕ → ℕ → ℕ → List ℕ → List ℕ → Type 0
+Weighted need minutes jobs modules worth most = WeightedTo need minutes jobs modules worth most 4
+
+-- what can stand, from minute l up to minute T, on the modules that are free
+unfoldable pub roomFor : (ℕ → ℕ) → List ℕ → List ℕ → ℕ → ℕ → ℕ → ℕ → ℕ
+roomFor most until held modules placed l T = sum T (λ t. only (leb l t) (most (modules - heldAt until held placed t)))
+
+-- the jobs of the set outweigh what can stand on the modules that are free from minute l up to minute T
+pub record Outweighed (need minutes until held : List ℕ) (jobs modules placed set l T : ℕ) : Type 0 where
+  pub weight : ℕ → ℕ
+  pub most : ℕ → ℕ
+  pub weighs : Weighs need jobs modules weight most
+  pub over : sum T (λ t. only (leb l t) (most (modules - heldAt until held placed t)))
+      < sum jobs (λ k. only (bit set k) (getD minutes k 0 * weight k))

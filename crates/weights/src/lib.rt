@@ -1,0 +1,265 @@
+// Weights of jobs, and the bound by weights: what the jobs that are left weigh against what the free modules can hold, minute by minute.
+ghost use mathlib.Core.Path.{_≡_};
+ghost use mathlib.Core.Bool.{true};
+ghost use Prim.Native.Nat.{ℕ, _+_, _*_, _<_, _≤_, min};
+ghost use lib.ListN.{length, getD, replicate};
+ghost use Rattle.counting.specs.Counting.{only, sum};
+ghost use Rattle.bits.specs.Bits.{bit};
+ghost use Rattle.tables.specs.Tables.{Fit};
+ghost use Rattle.placement.specs.Profile.{Profile};
+ghost use Rattle.weights.specs.Weights.{weightIn, mostWith, Put, MostOf, WeightedTo, Weighted, roomFor, Outweighed};
+
+// Four weightings side by side: place q * 20 + k of `worth` is job k's minutes times its weight, place q * 65 + x of `most` the most that
+// can stand on x modules.
+pub struct Weights {
+    pub worth: [u32; 80],
+    pub most: [u16; 260],
+}
+
+// The most that can stand on each number of modules.
+pub struct Most {
+    pub at: [u16; 65],
+}
+
+// ---- the weightings of a sheet
+
+// The weight of a job in weighting q.
+fn weight_of(need: u16, q: usize, modules: u16) -> u16
+    requires { ⌜ ((0 < modules) × (modules ≤ 64)) × ((need ≤ modules) × (q < 4)) ⌝ }
+    ensures { λ r. ⌜ r ≡ weightIn modules q need ⌝ }
+{
+    let m = modules as usize;
+    let a = (q + 2) * (need as usize);
+    if a % m == 0 {
+        return ((q + 1) * (a / m)) as u16;
+    }
+    ((q + 2) * (a / m)) as u16
+}
+
+// The most that can stand on x modules with one job more.
+fn most_with(old: &[u16; 65], width: usize, weight: u16, x: usize) -> u16
+    requires { ⌜ ((p : ℕ) → getD (now old) p 0 ≤ 475) × ((weight ≤ 25) × (x < 65)) ⌝ }
+    ensures { λ r. ⌜ r ≡ mostWith (now (old .entry)) width weight x ⌝ }
+{
+    if x < width {
+        return old[x];
+    }
+    let with = weight + old[x - width];
+    if with < old[x] {
+        return old[x];
+    }
+    with
+}
+
+// The same on each number of modules.
+fn with_job(table: Most, width: u16, weight: u16, modules: u16) -> Most
+    requires { ⌜ ((p : ℕ) → getD (table .at) p 0 ≤ 475) × ((weight ≤ 25) × (modules ≤ 64)) ⌝ }
+    ensures { λ r. ⌜ Put (replicate 65 0) (r .at) 0 (modules + 1) (mostWith (table .at) width weight) ⌝ }
+{
+    let mut next = [0u16; 65];
+    let mut x: usize = 0;
+    while x <= modules as usize {
+        next[x] = most_with(&table.at, width as usize, weight, x);
+        x += 1;
+    }
+    Most { at: next }
+}
+
+// The most of all jobs that can stand on each number of modules, in weighting q.
+fn most_of(need: &[u16; 20], minutes: &[u16; 20], jobs: usize, modules: u16, q: usize) -> Most
+    requires { ⌜ (Fit (now need) (now minutes) jobs modules) × (q < 4) ⌝ }
+    ensures { λ r. ⌜ MostOf (now (need .entry)) jobs modules q (r .at) ⌝ }
+{
+    let mut table = Most { at: [0u16; 65] };
+    let mut k: usize = 0;
+    while k < jobs {
+        table = with_job(table, need[k], weight_of(need[k], q, modules), modules);
+        k += 1;
+    }
+    table
+}
+
+// The weightings with the minutes of each job times its weight put in as the q-th.
+fn put_worth(
+    all: Weights,
+    q: usize,
+    need: &[u16; 20],
+    minutes: &[u16; 20],
+    jobs: usize,
+    modules: u16,
+) -> Weights
+    requires { ⌜ ((Fit (now need) (now minutes) jobs modules) × (q < 4)) × (length (all .worth) ≡ 80) ⌝ }
+    ensures { λ r. ⌜ (Put (all .worth) (r .worth) (q * 20) jobs
+        (λ k. getD (now (minutes .entry)) k 0 * weightIn modules q (getD (now (need .entry)) k 0))) × (r .most ≡ all .most) ⌝ }
+{
+    let mut next = all;
+    let mut k: usize = 0;
+    while k < jobs {
+        next.worth[q * 20 + k] = (minutes[k] as u32) * (weight_of(need[k], q, modules) as u32);
+        k += 1;
+    }
+    next
+}
+
+// The weightings with the table put in as the q-th.
+fn put_most(all: Weights, q: usize, table: &[u16; 65]) -> Weights
+    requires { ⌜ (q < 4) × (length (all .most) ≡ 260) ⌝ }
+    ensures { λ r. ⌜ (Put (all .most) (r .most) (q * 65) 65 (λ x. getD (now (table .entry)) x 0)) × (r .worth ≡ all .worth) ⌝ }
+{
+    let mut next = all;
+    let mut x: usize = 0;
+    while x < 65 {
+        next.most[q * 65 + x] = table[x];
+        x += 1;
+    }
+    next
+}
+
+// The weightings with the q-th put in.
+fn with_weighting(
+    all: Weights,
+    q: usize,
+    need: &[u16; 20],
+    minutes: &[u16; 20],
+    jobs: usize,
+    modules: u16,
+) -> Weights
+    requires { ⌜ (Fit (now need) (now minutes) jobs modules)
+        × ((q < 4) × (WeightedTo (now need) (now minutes) jobs modules (all .worth) (all .most) q)) ⌝ }
+    ensures { λ r. ⌜ WeightedTo (now (need .entry)) (now (minutes .entry)) jobs modules (r .worth) (r .most) (q + 1) ⌝ }
+{
+    let table = most_of(need, minutes, jobs, modules, q);
+    let first = put_worth(all, q, need, minutes, jobs, modules);
+    put_most(first, q, &table.at)
+}
+
+// The four weightings of a sheet.
+pub fn weightings(need: &[u16; 20], minutes: &[u16; 20], jobs: usize, modules: u16) -> Weights
+    requires { ⌜ Fit (now need) (now minutes) jobs modules ⌝ }
+    ensures { λ r. ⌜ Weighted (now (need .entry)) (now (minutes .entry)) jobs modules (r .worth) (r .most) ⌝ }
+{
+    let mut all = Weights {
+        worth: [0u32; 80],
+        most: [0u16; 260],
+    };
+    let mut q: usize = 0;
+    while q < 4 {
+        all = with_weighting(all, q, need, minutes, jobs, modules);
+        q += 1;
+    }
+    all
+}
+
+// ---- the test by weights
+
+// What job k weighs where it is in the set.
+fn worth_in(worth: u32, set: u32, k: usize) -> u32
+    requires { ⌜ k < 20 ⌝ }
+    ensures { λ r. ⌜ r ≡ only (bit set k) worth ⌝ }
+{
+    if bits::test32(set, k) {
+        return worth;
+    }
+    0
+}
+
+// What the jobs of the set weigh in weighting q.
+fn set_worth(worth: &[u32; 80], q: usize, set: u32, jobs: usize) -> u32
+    requires { ⌜ ((p : ℕ) → getD (now worth) p 0 ≤ 36000) × ((q < 4) × (jobs ≤ 20)) ⌝ }
+    ensures { λ r. ⌜ r ≡ sum jobs (λ k. only (bit set k) (getD (now (worth .entry)) (q * 20 + k) 0)) ⌝ }
+{
+    let mut total: u32 = 0;
+    let mut k: usize = 0;
+    while k < jobs {
+        total += worth_in(worth[q * 20 + k], set, k);
+        k += 1;
+    }
+    total
+}
+
+// The earlier of two minutes.
+fn sooner(a: u16, b: u16) -> u16
+    ensures { λ r. ⌜ r ≡ min a b ⌝ }
+{
+    if a <= b { a } else { b }
+}
+
+// What can stand, in weighting q, on the modules that are free from minute `least` up to the target.
+fn room_for<'a>(
+    most: &[u16; 260],
+    q: usize,
+    until: &'a [u16; 20],
+    held: &'a [u16; 20],
+    placed: usize,
+    gone: usize,
+    free: u16,
+    modules: u16,
+    least: u16,
+    target: u16,
+) -> u32
+    requires { ⌜ (((p : ℕ) → getD (now most) p 0 ≤ 500) × (Profile (now until) (now held) placed gone free modules least))
+        × ((q < 4) × ((modules ≤ 64) × (least ≤ target))) ⌝ }
+    ensures { λ r. ⌜ r ≡ roomFor (λ x. getD (now (most .entry)) (q * 65 + x) 0) (now (until .entry)) (now (held .entry)) modules placed
+        least target ⌝ }
+{
+    let mut room: u32 = 0;
+    let mut at = least;
+    let mut f = free as usize;
+    let mut i = gone;
+    while i < placed {
+        let to = placement::later(at, sooner(until[i], target));
+        room += (most[q * 65 + f] as u32) * ((to - at) as u32);
+        at = to;
+        f += held[i] as usize;
+        i += 1;
+    }
+    room + (most[q * 65 + f] as u32) * ((target - at) as u32)
+}
+
+// Whether the jobs of the set outweigh, in one of the weightings, what the free modules can hold between minute `least` and the target.
+// `gone` of the placed jobs are known to have ended by then, and the others leave `free` modules.
+pub fn outweighed<'a>(
+    need: &[u16; 20],
+    minutes: &[u16; 20],
+    worth: &[u32; 80],
+    most: &[u16; 260],
+    until: &'a [u16; 20],
+    held: &'a [u16; 20],
+    placed: usize,
+    gone: usize,
+    free: u16,
+    modules: u16,
+    set: u32,
+    jobs: usize,
+    least: u16,
+    target: u16,
+) -> bool
+    requires { ⌜ ((Fit (now need) (now minutes) jobs modules) × (Weighted (now need) (now minutes) jobs modules (now worth) (now most)))
+        × (Profile (now until) (now held) placed gone free modules least) ⌝ }
+    ensures { λ r. ⌜ (r ≡ true → Outweighed (now (need .entry)) (now (minutes .entry)) (now (until .entry)) (now (held .entry)) jobs
+        modules placed set least target) ⌝ }
+{
+    if target < least {
+        return false;
+    }
+    let mut q: usize = 0;
+    while q < 4 {
+        let room = room_for(
+            most,
+            q,
+            until,
+            held,
+            placed,
+            gone,
+            free,
+            modules,
+            least,
+            target,
+        );
+        if room < set_worth(worth, q, set, jobs) {
+            return true;
+        }
+        q += 1;
+    }
+    false
+}
