@@ -12,7 +12,8 @@ use Rattle.counting.proofs.Tests.{true-or-false, clash, same-or-not}
 use Rattle.schedule.specs.Plan.{Sheet}
 use Rattle.schedule.specs.ListPlan.{PartPlan, ready}
 use Rattle.tables.specs.Tables.{sheetOf}
-use Rattle.schedule.proofs.Starts.{start-may}
+use Rattle.schedule.proofs.Starts.{ready-says, start-may}
+use Rattle.schedule.proofs.Cuts.{NoneBefore}
 use Rattle.placement.specs.declared.Part.{Part}
 use Rattle.placement.specs.Part.{wordOf, isReady}
 use Rattle.placement.proofs.Parts.{ready-is, start-is, last-short}
@@ -55,6 +56,13 @@ module _ (need minutes earlier : List ℕ) (jobs modules : ℕ) (part : Part) (k
             let g = start-may S P j (known .fit .narrow j l) in
             omega (arith, h .here e, g .later, known .is .figures .last)
         go (inr e) = omega (arith, h .none e, last-short need minutes earlier jobs modules (known .fit) part (wordOf part) (known .is))
+
+  -- no job that can come next starts before the least
+  pub none-before : (at : List ℕ) (least : ℕ) → JobStarts need minutes earlier jobs modules part at least
+      → NoneBefore S (known .fit .narrow) (wordOf part) (known .is .follows) least
+  none-before at least starts j r =
+      let l = ready-says S (P .placed) j r .job in
+      omega (arith, starts .first j l, starts .each j l .here r)
 
 -- ---- the starts of the first n jobs
 

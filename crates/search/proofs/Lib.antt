@@ -2,6 +2,7 @@
 pub mod Steps
 pub mod Candidates
 pub mod Areas
+pub mod Shortages
 pub mod Recalls
 pub mod Turns
 pub mod Passing

@@ -32,8 +32,8 @@ use Rattle.search.proofs.Candidates.{started}
 subset : (a b : ℕ) → bitAnd a b ≡ a → (k : ℕ) → bit a k ≡ true → bit b k ≡ true
 subset a b e k h = and-right (bit a k) (bit b k) (sym (bit-and a b k) ∙ ap (λ (x : ℕ). bit x k) e ∙ h)
 
-module _ (need minutes earlier later tails : List ℕ) (jobs modules : ℕ) (part : Part) (by : List ℕ) (target : ℕ) (memory at : List ℕ)
-    (tried job : ℕ) (s : Searching need minutes earlier later tails jobs modules part by target memory)
+module _ (need minutes earlier later tails worth most : List ℕ) (jobs modules : ℕ) (part : Part) (by : List ℕ) (target : ℕ) (memory at : List ℕ)
+    (tried job : ℕ) (s : Searching need minutes earlier later tails worth most jobs modules part by target memory)
     (starts : EachStart need minutes earlier jobs modules part at)
     (before : TriedSo need minutes earlier jobs modules part target at tried (getD at job 0)) (l : job < jobs)
     (low : getD at job 0 < 65535) where

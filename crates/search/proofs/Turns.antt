@@ -5,6 +5,7 @@ use mathlib.Core.Bool.{true, false, not}
 use mathlib.Core.List.{List, [], _∷_, _++_, append-nil}
 use Prim.Native.Nat.{ℕ, suc, _+_, _-_, _*_, _≤_, _<_}
 use native.Mathlib.Omega.{arith}
+use native.Mathlib.Numerals.{add-one}
 use lib.Count.{ones}
 use lib.ListN.{length, getD, take, length-append}
 use borrow.Author.Tests.{ltb-true, ltb-false, not-true, not-false}
@@ -23,11 +24,13 @@ use Rattle.tables.specs.Tables.{sheetOf}
 use Rattle.placement.specs.declared.Part.{Part}
 use Rattle.placement.specs.Profile.{heldAfter}
 use Rattle.placement.specs.Part.{wordOf, IsPart, Placeable, Placed}
-use Rattle.placement.proofs.Parts.{after-is, after-small, left-count, all-placed, placeable, fewer, placed-part}
+use Rattle.placement.proofs.Profiles.{profile-later}
+use Rattle.placement.proofs.Parts.{after-is, after-small, left-small, left-count, all-placed, placeable, fewer, placed-part}
 use Rattle.memory.specs.Entries.{Hit, Adds}
-use Rattle.search.proofs.Candidates.{started}
+use Rattle.search.proofs.Candidates.{started, none-before}
+use Rattle.search.proofs.Shortages.{short-cut}
 use Rattle.search.proofs.Recalls.{remembered-adds, hit-cut}
-use Rattle.search.specs.Search.{Tails, Known, theoryPart, JobStart, JobStarts, HeldAfter, SomeTooLong, Hopeless, Remembered}
+use Rattle.search.specs.Search.{Tails, Known, theoryPart, JobStart, JobStarts, SomeTooLong, Hopeless, Bounding, Remembered}
 use Rattle.search.specs.Search.{Fails, Outcome, finishedAs}
 
 module _ (need minutes earlier tails : List ℕ) (jobs modules : ℕ) where
@@ -82,10 +85,8 @@ module _ (need minutes earlier tails : List ℕ) (jobs modules : ℕ) where
     -- ---- cuts
 
     module _ (at : List ℕ) (least : ℕ) (starts : JobStarts need minutes earlier jobs modules part at least) where
-      none-before : NoneBefore S (known .fit .narrow) w (known .is .follows) least
-      none-before j r =
-          let l = ready-says S (P .placed) j r .job in
-          omega (arith, starts .first j l, starts .each j l .here r)
+      none : NoneBefore S (known .fit .narrow) w (known .is .follows) least
+      none = none-before need minutes earlier jobs modules part known at least starts
 
       work-is : work S P least ≡ modules * least + (heldAfter (part .until) (part .held) (part .placed) least + part .left)
       unfolding work
@@ -103,21 +104,27 @@ module _ (need minutes earlier tails : List ℕ) (jobs modules : ℕ) where
           one i (inl e) = rw e (omega arith)
           one i (inr e) = rw e (omega arith)
 
-      -- what the area cut needs of the figures
-      pub held-ready : HeldAfter (part .until) (part .held) (part .gone) (part .placed) least
-      held-ready =
+      -- what the bounds need of the figures
+      pub bounding : {T : ℕ} → T < 65535 → Bounding part modules least T
+      bounding low =
           let q = known .is .figures .profile in
+          let from : part .last ≤ least = omega (arith, known .is .figures .last, starts .low) in
           record {
-            few = q .few;
-            inside = q .inside;
-            ended = λ k l. omega (arith, q .ended k l, known .is .figures .last, starts .low);
-            small = after-small need minutes earlier jobs modules (known .fit) part w (known .is) least;
+            held-after = record {
+              few = q .few;
+              inside = q .inside;
+              ended = λ k l. omega (arith, q .ended k l);
+              small = after-small need minutes earlier jobs modules (known .fit) part w (known .is) least;
+            };
+            profile = profile-later least from q;
+            left = left-small need minutes earlier jobs modules (known .fit) part w (known .is);
+            low = low;
           }
 
       crowded-cut : (e : ℕ) → 0 < ones (part .unplaced)
           → modules * e ≤ modules * least + (heldAfter (part .until) (part .held) (part .placed) least + part .left) → CannotBeat S e w
       crowded-cut e pos h =
-          area-cut S (known .fit .narrow) w (known .is .follows) least e (starts .low) none-before (omega (arith, size)) (known .fit .some)
+          area-cut S (known .fit .narrow) w (known .is .follows) least e (starts .low) none (omega (arith, size)) (known .fit .some)
           (omega (arith, work-is))
 
       long-cut : (e : ℕ) → Tails S tails → SomeTooLong at tails jobs e → CannotBeat S e w
@@ -125,14 +132,15 @@ module _ (need minutes earlier tails : List ℕ) (jobs modules : ℕ) where
           let r = started (starts .each j l) k in
           chain-cut S (known .fit .narrow) w (known .is .follows) jobs j e r (omega (arith, chains j l, starts .each j l .here r))
 
-      pub hopeless-cut : (e : ℕ) → Tails S tails → 0 < ones (part .unplaced) → Hopeless part at tails jobs modules least e
-          → CannotBeat S e w
-      hopeless-cut e chains pos (inl h) = crowded-cut e pos h
-      hopeless-cut e chains pos (inr h) = long-cut e chains h
+      pub hopeless-cut : (T : ℕ) → Tails S tails → 0 < ones (part .unplaced) → Hopeless need minutes tails jobs modules part at least T
+          → Fails S T w
+      hopeless-cut T chains pos (inl h) = crowded-cut (suc T) pos (rw add-one at h)
+      hopeless-cut T chains pos (inr (inl h)) = long-cut (suc T) chains (rw add-one at h)
+      hopeless-cut T chains pos (inr (inr h)) = short-cut need minutes earlier jobs modules part known at least starts T h
 
       pub recall-cut : (e : ℕ) (m : List ℕ) → 0 < ones (part .unplaced) → Remembered S m e
           → Hit m jobs (part .ends) (part .unplaced) least → CannotBeat S e w
-      recall-cut e m pos = hit-cut need minutes earlier jobs modules part known m e least pos none-before
+      recall-cut e m pos = hit-cut need minutes earlier jobs modules part known m e least pos none
 
     -- ---- a child
 

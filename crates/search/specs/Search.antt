@@ -17,8 +17,10 @@ use Rattle.schedule.proofs.Chains.{chain}
 use Rattle.schedule.proofs.Places.{Begins, Before, CannotBeat}
 use Rattle.tables.specs.Tables.{sheetOf, Fit}
 use Rattle.placement.specs.declared.Part.{Part}
-use Rattle.placement.specs.Profile.{heldAfter}
+use Rattle.placement.specs.Profile.{heldAfter, Profile}
 use Rattle.placement.specs.Part.{wordOf, IsPart, StartFor, isReady}
+use Rattle.weights.specs.Weights.{Weighted, Outweighed}
+use Rattle.sums.specs.Sums.{Unserved}
 use Rattle.memory.specs.Entries.{setAt, lastAt, endAt, entryAt}
 use Rattle.search.specs.declared.Found.{Found}
 use Rattle.search.specs.declared.Settled.{Settled}
@@ -81,10 +83,23 @@ pub record HeldAfter (until held : List ℕ) (gone count l : ℕ) : Type 0 where
 abbrev pub SomeTooLong : List ℕ → List ℕ → ℕ → ℕ → Type 0
 SomeTooLong at tails jobs end = (j : ℕ) × (j < jobs) × (getD at j 0 < 65535) × (end ≤ getD at j 0 + getD tails j 0)
 
--- no completion can end before `end`: the modules are taken until then, or some job and the chain behind it last until then
-abbrev pub Hopeless : Part → List ℕ → List ℕ → ℕ → ℕ → ℕ → ℕ → Type 0
-Hopeless p at tails jobs modules l end =
-    (modules * end ≤ modules * l + (heldAfter (p .until) (p .held) (p .placed) l + p .left)) ⊎ SomeTooLong at tails jobs end
+-- the free modules are too few for the jobs of the set by minute T: they outweigh them, or the modules, one by one, cannot serve them
+abbrev pub TooFew : List ℕ → List ℕ → List ℕ → List ℕ → ℕ → ℕ → ℕ → ℕ → ℕ → ℕ → ℕ → Type 0
+TooFew need minutes until held jobs modules placed set left l T =
+    Outweighed need minutes until held jobs modules placed set l T ⊎ Unserved minutes until held jobs modules placed set left l T
+
+-- no completion can end by minute T: the modules are taken, some job and the chain behind it last longer, or the modules are too few
+abbrev pub Hopeless : List ℕ → List ℕ → List ℕ → ℕ → ℕ → Part → List ℕ → ℕ → ℕ → Type 0
+Hopeless need minutes tails jobs modules p at l T =
+    (modules * (T + 1) ≤ modules * l + (heldAfter (p .until) (p .held) (p .placed) l + p .left))
+    ⊎ (SomeTooLong at tails jobs (T + 1) ⊎ TooFew need minutes (p .until) (p .held) jobs modules (p .placed) (p .unplaced) (p .left) l T)
+
+-- what the bounds ask of the figures at minute l
+pub record Bounding (p : Part) (modules l T : ℕ) : Type 0 where
+  pub held-after : HeldAfter (p .until) (p .held) (p .gone) (p .placed) l
+  pub profile : Profile (p .until) (p .held) (p .placed) (p .gone) (p .free) modules l
+  pub left : p .left ≤ 2000000
+  pub low : T < 65535
 
 -- ---- working memory
 
@@ -193,13 +208,14 @@ noneSettled = record { by = replicate 20 0 }
 abbrev pub withSettled : Settled → ℕ → ℕ → Settled
 withSettled s i tried = record { by = set (s .by) i tried }
 
-pub record Searching (need minutes earlier later tails : List ℕ) (jobs modules : ℕ) (part : Part) (by : List ℕ) (target : ℕ)
+pub record Searching (need minutes earlier later tails worth most : List ℕ) (jobs modules : ℕ) (part : Part) (by : List ℕ) (target : ℕ)
     (memory : List ℕ)
     : Type 0 where
   pub low : target < 65535
   pub known : Known need minutes earlier jobs modules part
   pub chains : Tails (sheetOf need minutes earlier jobs modules) tails
   pub laters : Laters earlier jobs later
+  pub weighted : Weighted need minutes jobs modules worth most
   pub settled : SettledSo (sheetOf need minutes earlier jobs modules) target (wordOf part) by
   pub remembered : Remembered (sheetOf need minutes earlier jobs modules) memory (suc target)
 
@@ -244,10 +260,11 @@ abbrev pub keptAs : Found → Found
 keptAs best = record { hit = false; end = best .end; order = best .order }
 
 -- the tables, an order, and what is remembered of orders that end earlier
-pub record Lowering (need minutes earlier later tails : List ℕ) (jobs modules : ℕ) (best : Found) (memory : List ℕ) : Type 0 where
+pub record Lowering (need minutes earlier later tails worth most : List ℕ) (jobs modules : ℕ) (best : Found) (memory : List ℕ) : Type 0 where
   pub fit : Fit need minutes jobs modules
   pub chains : Tails (sheetOf need minutes earlier jobs modules) tails
   pub laters : Laters earlier jobs later
+  pub weighted : Weighted need minutes jobs modules worth most
   pub best-is : OrderOf (sheetOf need minutes earlier jobs modules) best
   pub remembered : Remembered (sheetOf need minutes earlier jobs modules) memory (best .end)
 
@@ -263,11 +280,12 @@ pub record Lowest (S : Sheet) (r : Found) : Type 0 where
   pub least : (o : List ℕ) → Order S o → r .end ≤ endOf S o
 
 -- the same, from a part-plan on
-pub record Going (need minutes earlier later tails : List ℕ) (jobs modules : ℕ) (part : Part) (target : ℕ) (memory : List ℕ) : Type 0 where
+pub record Going (need minutes earlier later tails worth most : List ℕ) (jobs modules : ℕ) (part : Part) (target : ℕ) (memory : List ℕ) : Type 0 where
   pub low : target < 65535
   pub known : Known need minutes earlier jobs modules part
   pub chains : Tails (sheetOf need minutes earlier jobs modules) tails
   pub laters : Laters earlier jobs later
+  pub weighted : Weighted need minutes jobs modules worth most
   pub remembered : Remembered (sheetOf need minutes earlier jobs modules) memory (suc target)
 
 -- an order that ends first and begins with the jobs w, before which nothing ends as early

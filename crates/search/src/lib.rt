@@ -11,7 +11,8 @@ ghost use Rattle.bits.specs.Bits.{bit, withBit};
 ghost use Rattle.placement.specs.Profile.{heldAfter, Profile};
 ghost use Rattle.placement.specs.Part.{wordOf};
 ghost use Rattle.tables.specs.Tables.{sheetOf, Fit};
-ghost use Rattle.search.specs.Search.{Known, NextStart, JobStart, JobStarts, HeldAfter, SomeTooLong, Hopeless, ChainsOf, Laters, LaterOf};
+ghost use Rattle.weights.specs.Weights.{Weighted};
+ghost use Rattle.search.specs.Search.{Known, NextStart, JobStart, JobStarts, HeldAfter, SomeTooLong, TooFew, Bounding, Hopeless, ChainsOf, Laters, LaterOf};
 ghost use Rattle.search.specs.Search.{Alone, ToTry, ComesFirst, TurnsRound, Stands, PassedOver, Outcome, finishedAs, noneFound, withSettled};
 ghost use Rattle.search.specs.Search.{Searching, EachStart, TriedSo, Remembered, Chosen, ChoiceOf, Listed, theoryPart};
 ghost use Rattle.search.specs.Search.{noneSettled, keptAs, Lowering, Lowered, Lowest, Going, Placing, Answer};
@@ -240,20 +241,86 @@ fn last_end(ends: &[u16; 20], jobs: usize) -> u16
     r
 }
 
-// Whether no order that goes on from here can end before `end`, by the area or by a chain.
+// Whether the modules that come free from minute l on are too few for the jobs of the set by the target, by weights or one by one.
+fn too_few<'a>(
+    need: &[u16; 20],
+    minutes: &[u16; 20],
+    worth: &[u32; 80],
+    most: &[u16; 260],
+    until: &'a [u16; 20],
+    held: &'a [u16; 20],
+    placed: usize,
+    gone: usize,
+    free: u16,
+    modules: u16,
+    set: u32,
+    left: u32,
+    jobs: usize,
+    l: u16,
+    target: u16,
+) -> bool
+    requires { ⌜ ((Fit (now need) (now minutes) jobs modules) × (Weighted (now need) (now minutes) jobs modules (now worth) (now most)))
+        × (Profile (now until) (now held) placed gone free modules l) ⌝ }
+    ensures { λ r. ⌜ (r ≡ true → TooFew (now (need .entry)) (now (minutes .entry)) (now (until .entry)) (now (held .entry)) jobs modules
+        placed set left l target) ⌝ }
+{
+    let ended = placement::advance(until, held, placed, gone, free, modules, l);
+    let g = ended.gone;
+    let f = ended.free;
+    if weights::outweighed(
+        need,
+        minutes,
+        worth,
+        most,
+        until,
+        held,
+        placed,
+        g,
+        f,
+        modules,
+        set,
+        jobs,
+        l,
+        target,
+    ) {
+        return true;
+    }
+    sums::unserved(
+        minutes,
+        until,
+        held,
+        placed,
+        g,
+        f,
+        modules,
+        set,
+        left,
+        jobs,
+        l,
+        target,
+    )
+}
+
+// Whether no order that goes on from here can end by the target: by the area, by a chain, or because the free modules are too few.
 fn hopeless<'a>(
+    need: &[u16; 20],
+    minutes: &[u16; 20],
     tails: &'a [u16; 20],
+    worth: &[u32; 80],
+    most: &[u16; 260],
     jobs: usize,
     modules: u16,
     part: Part,
     at: &'a [u16; 20],
     least: u16,
-    end: u16,
+    target: u16,
 ) -> bool
-    requires { ⌜ (HeldAfter (part .until) (part .held) (part .gone) (part .placed) least)
-        × (((part .left ≤ 2000000) × (modules ≤ 64)) × (jobs ≤ 20)) ⌝ }
-    ensures { λ r. ⌜ (r ≡ true → Hopeless part (now (at .entry)) (now (tails .entry)) jobs modules least end) ⌝ }
+    requires { ⌜ ((Fit (now need) (now minutes) jobs modules) × (Weighted (now need) (now minutes) jobs modules (now worth) (now most)))
+        × (Bounding part modules least target) ⌝ }
+    ensures { λ r. ⌜ (r ≡ true → Hopeless (now (need .entry)) (now (minutes .entry)) (now (tails .entry)) jobs modules part
+        (now (at .entry)) least target) ⌝ }
 {
+    let end = target + 1;
     if crowded(
         &part.until,
         &part.held,
@@ -266,7 +333,26 @@ fn hopeless<'a>(
     ) {
         return true;
     }
-    some_too_long(at, tails, jobs, end)
+    if some_too_long(at, tails, jobs, end) {
+        return true;
+    }
+    too_few(
+        need,
+        minutes,
+        worth,
+        most,
+        &part.until,
+        &part.held,
+        part.placed,
+        part.gone,
+        part.free,
+        modules,
+        part.unplaced,
+        part.left,
+        jobs,
+        least,
+        target,
+    )
 }
 
 // The order of a part-plan that has placed every job, where it ends by the target.
@@ -577,6 +663,8 @@ fn visit(
     earlier: &[u32; 20],
     later: &[u32; 20],
     tails: &[u16; 20],
+    worth: &[u32; 80],
+    most: &[u16; 260],
     jobs: usize,
     modules: u16,
     part: Part,
@@ -584,7 +672,7 @@ fn visit(
     target: u16,
     memory: &mut [u8],
 ) -> Found
-    requires { ⌜ Searching (now need) (now minutes) (now earlier) (now later) (now tails) jobs modules part (settled .by) target
+    requires { ⌜ Searching (now need) (now minutes) (now earlier) (now later) (now tails) (now worth) (now most) jobs modules part (settled .by) target
         (now memory) ⌝ }
     ensures outcome { λ r. ⌜ Outcome (sheetOf (now (need .entry)) (now (minutes .entry)) (now (earlier .entry)) jobs modules) target
         (wordOf part) r ⌝ }
@@ -598,7 +686,19 @@ fn visit(
     let starts = ready_starts(need, minutes, earlier, jobs, modules, part);
     let at = starts.at;
     let least = starts.least;
-    if hopeless(tails, jobs, modules, part, &at, least, target + 1) {
+    if hopeless(
+        need,
+        minutes,
+        tails,
+        worth,
+        most,
+        jobs,
+        modules,
+        part,
+        &at,
+        least,
+        target,
+    ) {
         return none_found();
     }
     if memory::recall(memory, &part.ends, jobs, unplaced, least) {
@@ -616,6 +716,8 @@ fn visit(
             earlier,
             later,
             tails,
+            worth,
+            most,
             jobs,
             modules,
             part,
@@ -644,6 +746,8 @@ fn try_children(
     earlier: &[u32; 20],
     later: &[u32; 20],
     tails: &[u16; 20],
+    worth: &[u32; 80],
+    most: &[u16; 260],
     jobs: usize,
     modules: u16,
     part: Part,
@@ -654,7 +758,7 @@ fn try_children(
     job: usize,
     memory: &mut [u8],
 ) -> Found
-    requires { ⌜ Searching (now need) (now minutes) (now earlier) (now later) (now tails) jobs modules part (settled .by) target
+    requires { ⌜ Searching (now need) (now minutes) (now earlier) (now later) (now tails) (now worth) (now most) jobs modules part (settled .by) target
         (now memory) ⌝ }
     requires { ⌜ EachStart (now need) (now minutes) (now earlier) jobs modules part (now at) ⌝ }
     requires { ⌜ (TriedSo (now need) (now minutes) (now earlier) jobs modules part target (now at) tried (getD (now at) job 0))
@@ -686,6 +790,8 @@ fn try_children(
         earlier,
         later,
         tails,
+        worth,
+        most,
         jobs,
         modules,
         child,
@@ -901,12 +1007,14 @@ fn lower(
     earlier: &[u32; 20],
     later: &[u32; 20],
     tails: &[u16; 20],
+    worth: &[u32; 80],
+    most: &[u16; 260],
     jobs: usize,
     modules: u16,
     best: Found,
     memory: &mut [u8],
 ) -> Found
-    requires { ⌜ Lowering (now need) (now minutes) (now earlier) (now later) (now tails) jobs modules best (now memory) ⌝ }
+    requires { ⌜ Lowering (now need) (now minutes) (now earlier) (now later) (now tails) (now worth) (now most) jobs modules best (now memory) ⌝ }
     ensures lowered { λ r. ⌜ Lowered (sheetOf (now (need .entry)) (now (minutes .entry)) (now (earlier .entry)) jobs modules) best r ⌝ }
     ensures remembered { λ r. ⌜ Remembered (sheetOf (now (need .entry)) (now (minutes .entry)) (now (earlier .entry)) jobs modules)
         (now (memory .exit)) (r .end) ⌝ }
@@ -923,6 +1031,8 @@ fn lower(
         earlier,
         later,
         tails,
+        worth,
+        most,
         jobs,
         modules,
         part,
@@ -943,12 +1053,14 @@ fn lowest(
     earlier: &[u32; 20],
     later: &[u32; 20],
     tails: &[u16; 20],
+    worth: &[u32; 80],
+    most: &[u16; 260],
     jobs: usize,
     modules: u16,
     listed: Found,
     memory: &mut [u8],
 ) -> Found
-    requires { ⌜ Lowering (now need) (now minutes) (now earlier) (now later) (now tails) jobs modules listed (now memory) ⌝ }
+    requires { ⌜ Lowering (now need) (now minutes) (now earlier) (now later) (now tails) (now worth) (now most) jobs modules listed (now memory) ⌝ }
     ensures { λ r. ⌜ Lowest (sheetOf (now (need .entry)) (now (minutes .entry)) (now (earlier .entry)) jobs modules) r ⌝ }
 {
     let mut best = lower(
@@ -957,6 +1069,8 @@ fn lowest(
         earlier,
         later,
         tails,
+        worth,
+        most,
         jobs,
         modules,
         listed,
@@ -969,6 +1083,8 @@ fn lowest(
             earlier,
             later,
             tails,
+            worth,
+            most,
             jobs,
             modules,
             best,
@@ -987,6 +1103,8 @@ fn try_place(
     earlier: &[u32; 20],
     later: &[u32; 20],
     tails: &[u16; 20],
+    worth: &[u32; 80],
+    most: &[u16; 260],
     jobs: usize,
     modules: u16,
     part: Part,
@@ -994,7 +1112,7 @@ fn try_place(
     j: usize,
     memory: &mut [u8],
 ) -> Found
-    requires { ⌜ (Going (now need) (now minutes) (now earlier) (now later) (now tails) jobs modules part target (now memory))
+    requires { ⌜ (Going (now need) (now minutes) (now earlier) (now later) (now tails) (now worth) (now most) jobs modules part target (now memory))
         × (j < jobs) ⌝ }
     ensures outcome { λ r. ⌜ Outcome (sheetOf (now (need .entry)) (now (minutes .entry)) (now (earlier .entry)) jobs modules) target
         (wordOf part ++ (j ∷ [])) r ⌝ }
@@ -1013,6 +1131,8 @@ fn try_place(
         earlier,
         later,
         tails,
+        worth,
+        most,
         jobs,
         modules,
         child,
@@ -1036,13 +1156,15 @@ fn settle_place(
     earlier: &[u32; 20],
     later: &[u32; 20],
     tails: &[u16; 20],
+    worth: &[u32; 80],
+    most: &[u16; 260],
     jobs: usize,
     modules: u16,
     part: Part,
     best: Found,
     memory: &mut [u8],
 ) -> Found
-    requires { ⌜ (Going (now need) (now minutes) (now earlier) (now later) (now tails) jobs modules part (best .end) (now memory))
+    requires { ⌜ (Going (now need) (now minutes) (now earlier) (now later) (now tails) (now worth) (now most) jobs modules part (best .end) (now memory))
         × ((Placing (sheetOf (now need) (now minutes) (now earlier) jobs modules) (wordOf part) best) × (part .placed < jobs)) ⌝ }
     ensures placed { λ r. ⌜ Placing (sheetOf (now (need .entry)) (now (minutes .entry)) (now (earlier .entry)) jobs modules)
         (wordOf part ++ (getD (r .order) (part .placed) 0 ∷ [])) r ⌝ }
@@ -1059,6 +1181,8 @@ fn settle_place(
             earlier,
             later,
             tails,
+            worth,
+            most,
             jobs,
             modules,
             part,
@@ -1101,13 +1225,15 @@ fn first_order(
     earlier: &[u32; 20],
     later: &[u32; 20],
     tails: &[u16; 20],
+    worth: &[u32; 80],
+    most: &[u16; 260],
     jobs: usize,
     modules: u16,
     least: Found,
     memory: &mut [u8],
 ) -> Found
     requires { ⌜ (Lowest (sheetOf (now need) (now minutes) (now earlier) jobs modules) least)
-        × (Going (now need) (now minutes) (now earlier) (now later) (now tails) jobs modules
+        × (Going (now need) (now minutes) (now earlier) (now later) (now tails) (now worth) (now most) jobs modules
         (firstPart (now need) (now minutes) jobs modules) (least .end) (now memory)) ⌝ }
     ensures { λ r. ⌜ (tie.Best (sheetOf (now (need .entry)) (now (minutes .entry)) (now (earlier .entry)) jobs modules)
         (take jobs (r .order)))
@@ -1124,6 +1250,8 @@ fn first_order(
             earlier,
             later,
             tails,
+            worth,
+            most,
             jobs,
             modules,
             part,
@@ -1162,6 +1290,9 @@ pub fn run(
     let tails = chains.at;
     let laters = later_jobs(earlier, jobs);
     let later = laters.of;
+    let weights = weights::weightings(need, minutes, jobs, modules);
+    let worth = weights.worth;
+    let most = weights.most;
     let listed = first_listed(need, minutes, earlier, &tails, jobs, modules);
     if listed.end == 65535 {
         return listed;
@@ -1172,6 +1303,8 @@ pub fn run(
         earlier,
         &later,
         &tails,
+        &worth,
+        &most,
         jobs,
         modules,
         listed,
@@ -1184,6 +1317,8 @@ pub fn run(
         earlier,
         &later,
         &tails,
+        &worth,
+        &most,
         jobs,
         modules,
         least,

@@ -3,14 +3,12 @@ use mathlib.Core.Path.{_≡_, refl, _∙_}
 use Prim.Native.Nat.{ℕ, suc, _+_, _*_, _<_}
 use native.Mathlib.Omega.{arith}
 use native.Mathlib.Nat.{pos-of-ne-zero}
-use native.Mathlib.Numerals.{add-one}
 use lib.Count.{ones}
 use lib.ListN.{length, getD}
 use Rattle.tables.specs.Tables.{sheetOf}
 use Rattle.placement.specs.Part.{wordOf}
-use Rattle.placement.proofs.Parts.{left-small}
 use Rattle.search.specs.Search.{Remembered}
-use Rattle.search.proofs.Turns.{visit-leaf, held-ready, hopeless-cut, recall-cut, child-placeable}
+use Rattle.search.proofs.Turns.{visit-leaf, bounding, hopeless-cut, recall-cut, child-placeable}
 use Rattle.search.proofs.Turns.{child-fewer, child-known, child-word, visit-all, visit-remember}
 use Rattle.search.proofs.Steps.{one-less}
 use Rattle.search.proofs.Passing.{passed-cut, settled-more}
@@ -39,29 +37,29 @@ use Rattle.search.proofs.+try_children+visit.Lts-visit as visit-lts
 use Rattle.search.proofs.+try_children+visit.{statement}
 use Rattle.search.proofs.+try_children+visit.Tie.{close}
 
-abbrev μ-try-children : Measures 7 try-children-kinds.ps ℕ
-μ-try-children κs a = ones (a .1 .1 .1 .1 .1 .1 .1 .0 .unplaced) * 2
+abbrev μ-try-children : Measures 9 try-children-kinds.ps ℕ
+μ-try-children κs a = ones (a .1 .1 .1 .1 .1 .1 .1 .1 .1 .0 .unplaced) * 2
 
-abbrev μ-visit : Measures 6 visit-kinds.ps ℕ
-μ-visit κs a = ones (a .1 .1 .1 .1 .1 .1 .1 .0 .unplaced) * 2 + 1
+abbrev μ-visit : Measures 8 visit-kinds.ps ℕ
+μ-visit κs a = ones (a .1 .1 .1 .1 .1 .1 .1 .1 .1 .0 .unplaced) * 2 + 1
 
-abbrev try-children-at : ℕ → In 7 try-children-kinds.ps
+abbrev try-children-at : ℕ → In 9 try-children-kinds.ps
 try-children-at t =
-    and 7 try-children-kinds.ps (is 7 try-children-kinds.ps μ-try-children t) try-children.Pre
+    and 9 try-children-kinds.ps (is 9 try-children-kinds.ps μ-try-children t) try-children.Pre
 
-abbrev try-children-below : ℕ → In 7 try-children-kinds.ps
+abbrev try-children-below : ℕ → In 9 try-children-kinds.ps
 try-children-below t =
     and
-    7
+    9
     try-children-kinds.ps
-    (falls 7 try-children-kinds.ps _<_ μ-try-children t)
+    (falls 9 try-children-kinds.ps _<_ μ-try-children t)
     try-children.Pre
 
-abbrev visit-at : ℕ → In 6 visit-kinds.ps
-visit-at t = and 6 visit-kinds.ps (is 6 visit-kinds.ps μ-visit t) visit.Pre
+abbrev visit-at : ℕ → In 8 visit-kinds.ps
+visit-at t = and 8 visit-kinds.ps (is 8 visit-kinds.ps μ-visit t) visit.Pre
 
-abbrev visit-below : ℕ → In 6 visit-kinds.ps
-visit-below t = and 6 visit-kinds.ps (falls 6 visit-kinds.ps _<_ μ-visit t) visit.Pre
+abbrev visit-below : ℕ → In 8 visit-kinds.ps
+visit-below t = and 8 visit-kinds.ps (falls 8 visit-kinds.ps _<_ μ-visit t) visit.Pre
 
 -- what each member knows of the functions that it calls, at the measure t
 abbrev try-children-claims : ℕ → try-children-lts.Claims
@@ -120,8 +118,8 @@ try-children-returns t c =
     let a = start .args in
     let p = start .pre .1 in
     let known = p .0 .known in
-    let cut = passed-cut (a .need .now) (a .minutes .now) (a .earlier .now) (a .later .now) (a .tails .now) (a .jobs) (a .modules)
-    (a .t8) (a .t9 .by) (a .target) (a .memory .now) (a .at .now) (a .tried) (a .job)
+    let cut = passed-cut (a .need .now) (a .minutes .now) (a .earlier .now) (a .later .now) (a .tails .now) (a .worth .now) (a .most .now) (a .jobs) (a .modules)
+    (a .t10) (a .t11 .by) (a .target) (a .memory .now) (a .at .now) (a .tried) (a .job)
     (p .0) (p .1 .0) (p .1 .1 .0) (p .1 .1 .1 .0) (p .1 .1 .1 .1)
     (c .before .before .passed-over .ensures (c .before .if1 .taken)) in
     (rw (c .none-found .ensures) (none-outcome _ (a .target) _ cut), p .0 .remembered)
@@ -165,7 +163,7 @@ try-children-place-requires t c κs =
     let a = start .args in
     let p = start .pre .1 in
     let known = p .0 .known in
-    child-placeable (a .need .now) (a .minutes .now) (a .earlier .now) (a .tails .now) (a .jobs) (a .modules) (a .t8) known (a .job)
+    child-placeable (a .need .now) (a .minutes .now) (a .earlier .now) (a .tails .now) (a .jobs) (a .modules) (a .t10) known (a .job)
     (p .1 .1 .1 .0) (getD (a .at .now) (a .job) 0)
     (p .1 .0 (a .job) (p .1 .1 .1 .0)) (p .1 .1 .1 .1)
 
@@ -182,22 +180,23 @@ try-children-visit-requires t c κs =
     let p = start .pre .1 in
     let known = p .0 .known in
     let place = c .before .before .place in
-    let less = child-fewer (a .need .now) (a .minutes .now) (a .earlier .now) (a .tails .now) (a .jobs) (a .modules) (a .t8) known
+    let less = child-fewer (a .need .now) (a .minutes .now) (a .earlier .now) (a .tails .now) (a .jobs) (a .modules) (a .t10) known
     (a .job) (p .1 .1 .1 .0) (getD (a .at .now) (a .job) 0)
     (p .1 .0 (a .job) (p .1 .1 .1 .0)) (p .1 .1 .1 .1) (place .result) (place .ensures) in
-    let word = child-word (a .need .now) (a .minutes .now) (a .earlier .now) (a .tails .now) (a .jobs) (a .modules) (a .t8) known
+    let word = child-word (a .need .now) (a .minutes .now) (a .earlier .now) (a .tails .now) (a .jobs) (a .modules) (a .t10) known
     (a .job) (p .1 .1 .1 .0) (getD (a .at .now) (a .job) 0)
     (p .1 .0 (a .job) (p .1 .1 .1 .0)) (p .1 .1 .1 .1) (place .result) (place .ensures) in (
       omega (arith, start .pre .0, less),
       record {
         low = p .0 .low;
-        known = child-known (a .need .now) (a .minutes .now) (a .earlier .now) (a .tails .now) (a .jobs) (a .modules) (a .t8) known
+        known = child-known (a .need .now) (a .minutes .now) (a .earlier .now) (a .tails .now) (a .jobs) (a .modules) (a .t10) known
             (a .job) (p .1 .1 .1 .0) (getD (a .at .now) (a .job) 0)
             (p .1 .0 (a .job) (p .1 .1 .1 .0)) (p .1 .1 .1 .1) (place .result) (place .ensures);
         chains = p .0 .chains;
         laters = p .0 .laters;
+        weighted = p .0 .weighted;
         settled = rw (c .before .with-settled .ensures, word) (settled-more (a .need .now) (a .minutes .now) (a .earlier .now)
-            (a .later .now) (a .tails .now) (a .jobs) (a .modules) (a .t8) (a .t9 .by) (a .target) (a .memory .now) (a .at .now)
+            (a .later .now) (a .tails .now) (a .worth .now) (a .most .now) (a .jobs) (a .modules) (a .t10) (a .t11 .by) (a .target) (a .memory .now) (a .at .now)
             (a .tried) (a .job)
             (p .0) (p .1 .0) (p .1 .1 .0) (p .1 .1 .1 .0) (p .1 .1 .1 .1));
         remembered = p .0 .remembered;
@@ -207,7 +206,7 @@ try-children-visit-requires t c κs =
 try-children-same-length : (t : ℕ) → try-children-lts.Need-same-length (try-children-claims t) (try-children-at t) try-children.Post
 try-children-same-length t c =
     let visit = c .before .before .visit in
-    visit .kept .1 .1 .1 .1 .1 .1 .1 .1 .1 .1 .0
+    visit .kept .1 .1 .1 .1 .1 .1 .1 .1 .1 .1 .1 .1 .0
 
 try-children-returns-2 : (t : ℕ) → try-children-lts.Need-returns-2 (try-children-claims t) (try-children-at t) try-children.Post
 try-children-returns-2 t c =
@@ -216,19 +215,19 @@ try-children-returns-2 t c =
     let p = start .pre .1 in
     let known = p .0 .known in
     let place = c .before .before .before .before .before .place in
-    let word = child-word (a .need .now) (a .minutes .now) (a .earlier .now) (a .tails .now) (a .jobs) (a .modules) (a .t8) known
+    let word = child-word (a .need .now) (a .minutes .now) (a .earlier .now) (a .tails .now) (a .jobs) (a .modules) (a .t10) known
     (a .job) (p .1 .1 .1 .0) (getD (a .at .now) (a .job) 0)
     (p .1 .0 (a .job) (p .1 .1 .1 .0)) (p .1 .1 .1 .1) (place .result) (place .ensures) in
     let visit = c .before .before .visit in
     (rw word at (visit .ensures .0), visit .ensures .1)
 
 abbrev visit-Inv-loop : visit-lts.InvT-loop
-visit-Inv-loop need minutes earlier later tails jobs modules settled target memory₀ part unplaced at least first left₀ tried₀ c₀ memory left tried c =
+visit-Inv-loop need minutes earlier later tails worth most jobs modules settled target memory₀ part unplaced at least first left₀ tried₀ c₀ memory left tried c =
     Sweep need minutes earlier jobs modules part target at first left tried c
     × (Remembered (sheetOf need minutes earlier jobs modules) memory (suc target) × (length memory ≡ length memory₀))
 
 abbrev visit-μ-loop : visit-lts.MeasureT-loop
-visit-μ-loop need minutes earlier later tails jobs modules settled target memory₀ part unplaced at least first left₀ tried₀ c₀ memory left tried c =
+visit-μ-loop need minutes earlier later tails worth most jobs modules settled target memory₀ part unplaced at least first left₀ tried₀ c₀ memory left tried c =
     ones left
 
 visit-finished-requires : (t : ℕ) → visit-lts.Need-finished-requires (visit-claims t) (visit-at t) visit.Post visit-Inv-loop visit-μ-loop
@@ -242,7 +241,7 @@ visit-returns t c =
     let a = start .args in
     let p = start .pre .1 in (
       rw (c .finished .ensures) (visit-leaf (a .need .now) (a .minutes .now) (a .earlier .now) (a .tails .now) (a .jobs) (a .modules)
-          (a .t8) (p .known) (c .before .if1 .taken) (a .target)),
+          (a .t10) (p .known) (c .before .if1 .taken) (a .target)),
       p .remembered,
     )
 
@@ -252,22 +251,15 @@ visit-ready-starts-requires t c κs =
     let p = c .before .before .pre .1 in
     p .known
 
-visit-add-hopeless : (t : ℕ) → visit-lts.Need-add-hopeless (visit-claims t) (visit-at t) visit.Post visit-Inv-loop visit-μ-loop
-visit-add-hopeless t c =
-    let p = c .before .before .before .before .before .pre .1 in
-    record { fits = omega (arith, p .low) }
-
 visit-hopeless-requires : (t : ℕ) → visit-lts.Need-hopeless-requires (visit-claims t) (visit-at t) visit.Post visit-Inv-loop visit-μ-loop
 visit-hopeless-requires t c κs =
     let start = c .before .before .before .before .before in
     let a = start .args in
     let p = start .pre .1 in
-    let r = c .before .before .ready-starts in
-    let small = left-small (a .need .now) (a .minutes .now) (a .earlier .now) (a .jobs) (a .modules) (p .known .fit) (a .t8) (wordOf
-    (a .t8)) (p .known .is) in (
-      held-ready (a .need .now) (a .minutes .now) (a .earlier .now) (a .tails .now) (a .jobs) (a .modules) (a .t8) (p .known)
-          (r .result .at) (r .result .least) (r .ensures),
-      ((small, p .known .fit .most), p .known .fit .few),
+    let r = c .before .before .ready-starts in (
+      (p .known .fit, p .weighted),
+      bounding (a .need .now) (a .minutes .now) (a .earlier .now) (a .tails .now) (a .jobs) (a .modules) (a .t10) (p .known)
+          (r .result .at) (r .result .least) (r .ensures) (p .low),
     )
 
 visit-none-found-requires : (t : ℕ)
@@ -280,11 +272,11 @@ visit-returns-2 t c =
     let a = start .args in
     let p = start .pre .1 in
     let r = c .before .before .before .before .before .ready-starts in
-    let cut = hopeless-cut (a .need .now) (a .minutes .now) (a .earlier .now) (a .tails .now) (a .jobs) (a .modules) (a .t8) (p .known)
-    (r .result .at) (r .result .least) (r .ensures) (a .target + 1) (p .chains)
+    let cut = hopeless-cut (a .need .now) (a .minutes .now) (a .earlier .now) (a .tails .now) (a .jobs) (a .modules) (a .t10) (p .known)
+    (r .result .at) (r .result .least) (r .ensures) (a .target) (p .chains)
     (pos-of-ne-zero (c .before .before .before .before .before .before .if1 .left)) (c .before .before .hopeless .ensures
     (c .before .if2 .taken)) in
-    (rw (c .none-found .ensures) (none-outcome _ (a .target) _ (rw add-one at cut)), p .remembered)
+    (rw (c .none-found .ensures) (none-outcome _ (a .target) _ cut), p .remembered)
 
 visit-recall-requires : (t : ℕ) → visit-lts.Need-recall-requires (visit-claims t) (visit-at t) visit.Post visit-Inv-loop visit-μ-loop
 visit-recall-requires t c κs =
@@ -304,7 +296,7 @@ visit-returns-3 t c =
     let a = start .args in
     let p = start .pre .1 in
     let r = c .before .before .before .before .before .before .before .before .before .before .ready-starts in
-    let cut = recall-cut (a .need .now) (a .minutes .now) (a .earlier .now) (a .tails .now) (a .jobs) (a .modules) (a .t8) (p .known)
+    let cut = recall-cut (a .need .now) (a .minutes .now) (a .earlier .now) (a .tails .now) (a .jobs) (a .modules) (a .t10) (p .known)
     (r .result .at) (r .result .least) (r .ensures) (suc (a .target)) (a .memory .now)
     (pos-of-ne-zero (c .before .before .before .before .before .before .before .before .before .before .before .if1 .left))
     (p .remembered) (c .before .before .recall .ensures (c .before .if3 .taken)) in
@@ -325,7 +317,7 @@ visit-loop-holds t c =
     let a = start .args in
     let p = start .pre .1 in
     let r = c .before .before .before .before .before .before .before .before .before .before .before .before .before .ready-starts in (
-      sweep-first (a .need .now) (a .minutes .now) (a .earlier .now) (a .jobs) (a .modules) (a .t8) (p .known) (a .target) (r .result .at)
+      sweep-first (a .need .now) (a .minutes .now) (a .earlier .now) (a .jobs) (a .modules) (a .t10) (p .known) (a .target) (r .result .at)
           (r .ensures .each) (c .before .before .to-try .result) (c .next-choice .result) (c .next-choice .ensures),
       (p .remembered, refl),
     )
@@ -348,6 +340,7 @@ visit-try-children-requires t c κs =
           known = p .known;
           chains = p .chains;
           laters = p .laters;
+          weighted = p .weighted;
           settled = p .settled;
           remembered = loop .inv .1 .0;
         },
@@ -358,7 +351,7 @@ visit-try-children-requires t c κs =
 visit-same-length-2 : (t : ℕ) → visit-lts.Need-same-length-2 (visit-claims t) (visit-at t) visit.Post visit-Inv-loop visit-μ-loop
 visit-same-length-2 t c =
     let loop = c .before .before .before .before .before .before .before .before .loop in
-    c .before .before .before .try-children .kept .1 .1 .1 .1 .1 .1 .1 .1 .1 .1 .1 .1 .1 .0 ∙ loop .inv .1 .1
+    c .before .before .before .try-children .kept .1 .1 .1 .1 .1 .1 .1 .1 .1 .1 .1 .1 .1 .1 .1 .0 ∙ loop .inv .1 .1
 
 visit-returns-4 : (t : ℕ) → visit-lts.Need-returns-4 (visit-claims t) (visit-at t) visit.Post visit-Inv-loop visit-μ-loop
 visit-returns-4 t c =
@@ -367,7 +360,7 @@ visit-returns-4 t c =
     let p = start .pre .1 in
     let loop = c .before .before .before .before .before .before .before .before .loop in
     let try = c .before .before .before .try-children in
-    (found-below _ (a .target) (wordOf (a .t8)) (loop .c .job) _ (try .ensures .0) (c .if5 .taken), try .ensures .1)
+    (found-below _ (a .target) (wordOf (a .t10)) (loop .c .job) _ (try .ensures .0) (c .if5 .taken), try .ensures .1)
 
 visit-clear32-requires : (t : ℕ) → visit-lts.Need-clear32-requires (visit-claims t) (visit-at t) visit.Post visit-Inv-loop visit-μ-loop
 visit-clear32-requires t c κs =
@@ -404,7 +397,7 @@ visit-loop-less t c =
     let l : loop .c .start < 65535 = omega
     (arith, c .before .before .before .before .before .before .before .before .before .before .if4 .taken, sweep .choice .low) in
     rw (c .before .before .before .clear32 .ensures) (one-less (chosen-in (a .need .now) (a .minutes .now) (a .earlier .now) (a .jobs)
-    (a .modules) (a .t8) (p .known) (a .target) (r .result .at) (r .ensures .each) (first .result) (loop .left) (loop .c) (sweep .choice) l))
+    (a .modules) (a .t10) (p .known) (a .target) (r .result .at) (r .ensures .each) (first .result) (loop .left) (loop .c) (sweep .choice) l))
 
 visit-loop-again : (t : ℕ) → visit-lts.Need-loop-again (visit-claims t) (visit-at t) visit.Post visit-Inv-loop visit-μ-loop
 visit-loop-again t c =
@@ -419,11 +412,11 @@ visit-loop-again t c =
     let l : loop .c .start < 65535 = omega
     (arith, c .before .before .before .before .before .before .before .before .before .before .if4 .taken, sweep .choice .low) in (
       rw (c .before .before .before .clear32 .ensures, c .before .before .set32 .ensures)
-          (sweep-next (a .need .now) (a .minutes .now) (a .earlier .now) (a .jobs) (a .modules) (a .t8) (p .known) (a .target)
+          (sweep-next (a .need .now) (a .minutes .now) (a .earlier .now) (a .jobs) (a .modules) (a .t10) (p .known) (a .target)
           (r .result .at) (r .ensures .each) (first .result) (loop .left) (loop .tried) (loop .c) (c .next-choice2 .result) sweep l
           (try .ensures .0 .miss (c .before .before .before .before .if5 .left)) (rw (c .before .before .before .clear32 .ensures) at
           (c .next-choice2 .ensures))),
-      (try .ensures .1, try .kept .1 .1 .1 .1 .1 .1 .1 .1 .1 .1 .1 .1 .1 .0 ∙ loop .inv .1 .1),
+      (try .ensures .1, try .kept .1 .1 .1 .1 .1 .1 .1 .1 .1 .1 .1 .1 .1 .1 .1 .0 ∙ loop .inv .1 .1),
     )
 
 visit-remember-requires : (t : ℕ) → visit-lts.Need-remember-requires (visit-claims t) (visit-at t) visit.Post visit-Inv-loop visit-μ-loop
@@ -449,16 +442,16 @@ visit-returns-5 t c =
     let first = c .before .before .before .before .before .before .before .before .before .before .before .before .to-try in
     let loop = c .before .before .before .before .before .before .before .before .before .loop in
     let remember = c .before .before .before .remember in
-    let swept = sweep-all (a .need .now) (a .minutes .now) (a .earlier .now) (a .jobs) (a .modules) (a .t8) (p .known) (a .target)
+    let swept = sweep-all (a .need .now) (a .minutes .now) (a .earlier .now) (a .jobs) (a .modules) (a .t10) (p .known) (a .target)
     (r .result .at) (r .ensures .each) (first .result) (loop .left) (loop .tried) (loop .c) (loop .inv .0)
     (c .before .before .before .before .before .before .before .if4 .left) in
-    let all = all-tried (a .need .now) (a .minutes .now) (a .earlier .now) (a .jobs) (a .modules) (a .t8) (p .known) (a .target)
+    let all = all-tried (a .need .now) (a .minutes .now) (a .earlier .now) (a .jobs) (a .modules) (a .t10) (p .known) (a .target)
     (r .result .at) (r .ensures .each) (first .result) (r .result .least) (r .ensures .first) (first .ensures) swept in
-    let cut = visit-all (a .need .now) (a .minutes .now) (a .earlier .now) (a .tails .now) (a .jobs) (a .modules) (a .t8) (p .known)
+    let cut = visit-all (a .need .now) (a .minutes .now) (a .earlier .now) (a .tails .now) (a .jobs) (a .modules) (a .t10) (p .known)
     (a .target) (pos-of-ne-zero
     (c .before .before .before .before .before .before .before .before .before .before .before .before .before .before .before .before .before .before .before .before .before .before .before .before .if1 .left)) all in (
       rw (c .none-found3 .ensures) (none-outcome _ (a .target) _ cut),
-      visit-remember (a .need .now) (a .minutes .now) (a .earlier .now) (a .tails .now) (a .jobs) (a .modules) (a .t8) (p .known)
+      visit-remember (a .need .now) (a .minutes .now) (a .earlier .now) (a .tails .now) (a .jobs) (a .modules) (a .t10) (p .known)
           (a .target) (loop .memory) (remember .last .0) (loop .inv .1 .0) cut (remember .ensures),
     )
 
@@ -522,7 +515,6 @@ pub +try-children+visit-spec : {M : Type 1} → statement M
     (visit-finished-requires t)
     (visit-returns t)
     (visit-ready-starts-requires t)
-    (visit-add-hopeless t)
     (visit-hopeless-requires t)
     (visit-none-found-requires t)
     (visit-returns-2 t)

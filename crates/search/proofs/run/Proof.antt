@@ -17,6 +17,9 @@ chains-requires c κs = search needs
 later-jobs-requires : tie.Need-later-jobs-requires
 later-jobs-requires c κs = search needs
 
+weightings-requires : tie.Need-weightings-requires
+weightings-requires c κs = search needs
+
 first-listed-requires : tie.Need-first-listed-requires
 first-listed-requires c κs = search needs
 
@@ -27,20 +30,21 @@ returns : tie.Need-returns
 returns c = (
   listed-circular (c .before .before .first-listed .ensures)
       (c .if1 .taken),
-  c .before .before .before .before .before .before .before .before .before .before .clear .ensures,
+  c .before .before .before .before .before .before .before .before .before .before .before .before .before .clear .ensures,
 )
 
 lowest-requires : tie.Need-lowest-requires
 lowest-requires c κs =
-    let start = c .before .before .before .before .before .before .before .before .before .before .before .before .before .before .before .before in
+    let start = c .before .before .before .before .before .before .before .before .before .before .before .before .before .before .before .before .before .before .before .before .before in
     let a = start .args in
     record {
       fit = start .pre;
-      chains = c .before .before .before .before .before .before .before .before .before .before .chains .ensures .each;
-      laters = c .before .before .before .before .before .before .before .before .later-jobs .ensures;
-      best-is = listed-order (c .before .before .before .before .before .first-listed .ensures) (c .before .before .before .if1 .left);
+      chains = c .before .before .before .before .before .before .before .before .before .before .before .before .before .before .before .chains .ensures .each;
+      laters = c .before .before .before .before .before .before .before .before .before .before .before .before .before .later-jobs .ensures;
+      weighted = c .before .before .before .before .before .before .before .before .before .before .before .weightings .ensures;
+      best-is = listed-order (c .before .before .before .before .before .before .before .first-listed .ensures) (c .before .before .before .before .before .if1 .left);
       remembered = remembered-none _ _ (length (a .memory .now)) _
-          (c .before .before .before .before .before .before .before .before .before .before .before .before .before .clear .ensures);
+          (c .before .before .before .before .before .before .before .before .before .before .before .before .before .before .before .before .before .before .clear .ensures);
     }
 
 clear-requires-2 : tie.Need-clear-requires-2
@@ -48,18 +52,19 @@ clear-requires-2 c κs = search needs
 
 first-order-requires : tie.Need-first-order-requires
 first-order-requires c κs =
-    let start = c .before .before .before .before .before .before .before .before .before .before .before .before .before .before .before .before .before .before .before .before .before .before .before .before .before .before in
+    let start = c .before .before .before .before .before .before .before .before .before .before .before .before .before .before .before .before .before .before .before .before .before .before .before .before .before .before .before .before .before .before .before .before .before in
     let a = start .args in
-    let lowest = c .before .before .before .before .before .before .before .before .before .lowest .ensures in (
+    let lowest = c .before .before .before .before .before .before .before .before .before .before .before .lowest .ensures in (
       lowest,
       record {
         low = lowest .is .low;
         known = first-known (a .need .now) (a .minutes .now) (a .earlier .now) (a .jobs) (a .modules) (start .pre);
-        chains = c .before .before .before .before .before .before .before .before .before .before .before .before .before .before .before .before .before .before .before .before .chains .ensures .each;
-        laters = c .before .before .before .before .before .before .before .before .before .before .before .before .before .before .before .before .before .before .later-jobs .ensures;
+        chains = c .before .before .before .before .before .before .before .before .before .before .before .before .before .before .before .before .before .before .before .before .before .before .before .before .before .before .before .chains .ensures .each;
+        laters = c .before .before .before .before .before .before .before .before .before .before .before .before .before .before .before .before .before .before .before .before .before .before .before .before .before .later-jobs .ensures;
+        weighted = c .before .before .before .before .before .before .before .before .before .before .before .before .before .before .before .before .before .before .before .before .before .before .before .weightings .ensures;
         remembered = remembered-none _ _ (length
-            (c .before .before .before .before .before .before .before .before .before .lowest .last .1 .1 .1 .1 .1 .1 .1 .1 .0)) _
-            (c .before .before .before .before .before .clear2 .ensures);
+            (c .before .before .before .before .before .before .before .before .before .before .before .lowest .last .1 .1 .1 .1 .1 .1 .1 .1 .1 .1 .0)) _
+            (c .before .before .before .before .before .before .before .clear2 .ensures);
       },
     )
 
@@ -68,10 +73,10 @@ clear-requires-3 c κs = search needs
 
 -- the memory's length, up to the last clearing
 memory-length : (c : tie.After-slice-known6)
-    → length (c .before .before .before .before .before .before .first-order .last .1 .1 .1 .1 .1 .1 .1 .1 .0) ≡ length
-    (c .before .before .before .before .before .before .before .before .before .before .before .before .before .before .before .before .before .before .before .before .before .before .before .before .before .before .before .before .before .before .before .before .before .args .memory .now)
+    → length (c .before .before .before .before .before .before .first-order .last .1 .1 .1 .1 .1 .1 .1 .1 .1 .1 .0) ≡ length
+    (c .before .before .before .before .before .before .before .before .before .before .before .before .before .before .before .before .before .before .before .before .before .before .before .before .before .before .before .before .before .before .before .before .before .before .before .before .before .before .before .before .args .memory .now)
 memory-length c =
-    c .before .before .before .before .before .before .first-order .kept .1 .1 .1 .1 .1 .1 .1 .1 .0 ∙ c .before .before .before .before .before .before .before .before .before .before .before .before .clear2 .kept .0 ∙ c .before .before .before .before .before .before .before .before .before .before .before .before .before .before .before .before .lowest .kept .1 .1 .1 .1 .1 .1 .1 .1 .0 ∙ c .before .before .before .before .before .before .before .before .before .before .before .before .before .before .before .before .before .before .before .before .before .before .before .before .before .before .before .before .before .before .clear .kept .0
+    c .before .before .before .before .before .before .first-order .kept .1 .1 .1 .1 .1 .1 .1 .1 .1 .1 .0 ∙ c .before .before .before .before .before .before .before .before .before .before .before .before .before .before .clear2 .kept .0 ∙ c .before .before .before .before .before .before .before .before .before .before .before .before .before .before .before .before .before .before .lowest .kept .1 .1 .1 .1 .1 .1 .1 .1 .1 .1 .0 ∙ c .before .before .before .before .before .before .before .before .before .before .before .before .before .before .before .before .before .before .before .before .before .before .before .before .before .before .before .before .before .before .before .before .before .before .before .before .before .clear .kept .0
 
 same-length-2 : tie.Need-same-length-2
 same-length-2 c = c .before .before .clear3 .kept .0 ∙ memory-length c
@@ -90,6 +95,7 @@ run-spec =
     clear-requires
     chains-requires
     later-jobs-requires
+    weightings-requires
     first-listed-requires
     same-length
     returns
