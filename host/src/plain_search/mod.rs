@@ -1,10 +1,12 @@
 //! The library's search in plain Rust: the same cuts, the same memory, the same order of work. The benchmark measures by it what
 //! the proved code costs, and counts the part-plans that it visits.
+mod bounds;
 mod memory;
 mod part;
 mod tables;
 
 use crate::MOST_JOBS;
+use bounds::{rounded, unserved, Weights};
 use memory::Memory;
 use part::Part;
 pub use tables::Tables;
@@ -23,6 +25,7 @@ struct Search<'a> {
     tables: &'a Tables,
     tails: [u16; MOST_JOBS],
     later: [u32; MOST_JOBS],
+    weights: Weights,
     memory: Memory<'a>,
     /// For each placed job the jobs that were tried before it was chosen: none of them leads to an order that ends by the target.
     settled: [u32; MOST_JOBS],
@@ -45,8 +48,9 @@ impl Search<'_> {
         if self.hopeless(part, &starts, target) || self.memory.recall(part, starts.least) {
             return None;
         }
+        let first = self.tables.to_try(part.unplaced, &starts);
         let mut tried = 0;
-        while let Some(job) = starts.next(part.unplaced & !tried, &self.tails) {
+        while let Some(job) = starts.next(first & !tried, &self.tails) {
             if !self.passed_over(part, &starts, tried, job) {
                 self.settled[job] = tried;
                 let found = self.visit(&self.tables.place(part, job, starts.at[job]), target);
@@ -60,12 +64,19 @@ impl Search<'_> {
         None
     }
 
-    /// Whether no order that goes on from here can end by the target, by the area or by a chain.
+    /// Whether no order that goes on from here can end by the target: by the area, by a chain, or because the free modules are too few.
     fn hopeless(&self, part: &Part, starts: &Starts, target: u16) -> bool {
         let modules = u32::from(self.tables.modules);
         let taken = modules * u32::from(starts.least) + part.held_after(starts.least) + part.left;
         let too_long = |(start, tail): (&u16, &u16)| *start != NONE && target < start + tail;
-        modules * u32::from(target + 1) <= taken || starts.at.iter().zip(&self.tails).any(too_long)
+        modules * u32::from(target + 1) <= taken
+            || starts.at.iter().zip(&self.tails).any(too_long)
+            || self.too_few(part, starts.least, target)
+    }
+
+    fn too_few(&self, part: &Part, minute: u16, target: u16) -> bool {
+        let free = part.free_at(minute);
+        self.weights.outweighed(part, self.tables.jobs, &free, target) || unserved(self.tables, part, &free, target)
     }
 
     /// Whether some job stands for job j, which need not be tried then.
@@ -102,8 +113,11 @@ impl Search<'_> {
     fn lowest(&mut self, listed: Ordered) -> Ordered {
         let first = Part::first(self.tables);
         let mut best = listed;
-        while let Some(found) = best.end.checked_sub(1).and_then(|target| self.decide(&first, target)) {
-            best = found;
+        while let Some(earlier) = best.end.checked_sub(1) {
+            match self.decide(&first, rounded(self.tables, earlier)) {
+                Some(found) => best = found,
+                None => break,
+            }
         }
         best
     }
@@ -128,7 +142,8 @@ pub fn run(tables: &Tables, memory: &mut [u8]) -> Option<Found> {
     memory.clear();
     let tails = tables.tails();
     let listed = tables.listed(&tails)?;
-    let mut search = Search { tables, tails, later: tables.later(), memory, settled: [0; MOST_JOBS], visited: 0 };
+    let weights = Weights::of(tables);
+    let mut search = Search { tables, tails, later: tables.later(), weights, memory, settled: [0; MOST_JOBS], visited: 0 };
     let least = search.lowest(listed);
     search.memory.clear();
     let Ordered { end, order } = search.first_order(least);

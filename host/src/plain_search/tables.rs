@@ -68,6 +68,13 @@ impl Tables {
         part.with(j, start, self.need[j], self.minutes[j])
     }
 
+    /// All jobs of the set, or one of those that start first, where it can run beside no other.
+    pub fn to_try(&self, set: u32, starts: &Starts) -> u32 {
+        let beside = |i: usize, k: usize| k != i && has(set, k) && self.need[i] + self.need[k] <= self.modules;
+        let alone = |i: &usize| starts.at[*i] == starts.least && !(0..self.jobs).any(|k| beside(*i, k));
+        (0..self.jobs).find(alone).map_or(set, |i| 1 << i)
+    }
+
     /// The part-plan with job j as well, or none where it may not come next.
     pub fn go_on(&self, part: &Part, j: usize) -> Option<Part> {
         self.start(part, j).map(|start| self.place(part, j, start))
