@@ -1,0 +1,55 @@
+//! The picture of a plan: a bar a job on its modules, departures, late jobs, the end line, and a key.
+mod bars;
+mod colours;
+mod frame;
+mod key;
+mod marks;
+mod words;
+
+use crate::markup::escaped;
+use crate::plan_text;
+use crate::planned::Planned;
+use frame::Frame;
+use std::fmt::Write;
+
+pub use colours::{page_rules, DARK, LIGHT};
+
+/// A file of its own.
+pub fn file(plan: &Planned) -> String {
+    let style = format!("<style>{}</style>\n", colours::rules(&LIGHT));
+    picture(plan, &style)
+}
+
+/// A part of a page, which has the colours.
+pub fn part(plan: &Planned) -> String {
+    picture(plan, "")
+}
+
+fn picture(plan: &Planned, style: &str) -> String {
+    let departure_rows = marks::departure_rows(plan);
+    let frame = Frame::of(plan, departure_rows, bars::callout_rows(plan, departure_rows));
+    let (width, height) = (frame::WIDTH, frame.height());
+    let mut svg = format!(
+        "<svg xmlns=\"http://www.w3.org/2000/svg\" class=\"chart\" width=\"{width}\" height=\"{height}\" \
+         viewBox=\"0 0 {width} {height}\" role=\"img\" aria-label=\"{}\">\n{style}",
+        escaped(&format!("{}: {}", plan.name, plan_text::summary(plan).join(" ")))
+    );
+    svg += "<defs><pattern id=\"late\" width=\"6\" height=\"6\" patternUnits=\"userSpaceOnUse\" patternTransform=\"rotate(45)\">\
+            <line class=\"hatch\" x1=\"0\" y1=\"0\" x2=\"0\" y2=\"6\"/></pattern></defs>\n";
+    writeln!(svg, "<rect class=\"paper\" width=\"{width}\" height=\"{height}\"/>").unwrap();
+    svg += &title(plan);
+    svg += &marks::grid(plan, &frame);
+    svg += &bars::draw(plan, &frame);
+    svg += &marks::departures(plan, &frame);
+    svg += &marks::end_line(plan, &frame);
+    svg += &key::draw(plan, &frame);
+    svg + "</svg>\n"
+}
+
+fn title(plan: &Planned) -> String {
+    let mut svg = words::at("title", frame::MARGIN, 34.0, &plan.name);
+    for (place, line) in plan_text::summary(plan).iter().enumerate() {
+        svg += &words::within("lead", frame::MARGIN, 54.0 + 17.0 * place as f64, line, frame::WIDTH - 2.0 * frame::MARGIN);
+    }
+    svg
+}

@@ -1,0 +1,88 @@
+//! The plan for eyes, and the printing program's lines.
+use crate::planned::{lateness_in_words, ranges, Planned, PlannedJob};
+use crate::style::Style;
+use std::fmt::Write;
+
+/// Exactly the printing program's lines.
+pub fn raw(plan: &Planned) -> String {
+    let mut text = format!("plan {} {} {}\n", plan.end, plan.jobs.len(), plan.modules);
+    for job in &plan.jobs {
+        let row = &job.row;
+        writeln!(text, "{} {} {} {} {:016X}", job.label, row.start, row.end, job.lateness(), row.modules).unwrap();
+    }
+    text
+}
+
+/// What is said of the plan in front of its table.
+pub fn summary(plan: &Planned) -> Vec<String> {
+    let mut lines = vec![format!("{}. The last is full at {}.", plan.size(), plan.end_in_words())];
+    if plan.jobs.is_empty() {
+        lines[0] = format!("{}: nothing to plan; the plan ends at minute 0.", plan.size());
+        return lines;
+    }
+    let late: Vec<String> =
+        plan.late().map(|job| format!("{} ({})", job.label, lateness_in_words(job.lateness()))).collect();
+    lines.push(match late.len() {
+        0 => "Every bus is full by its departure.".into(),
+        1 => format!("1 bus is full only after its departure: {}.", late[0]),
+        count => format!("{count} buses are full only after their departures: {}.", late.join(", ")),
+    });
+    lines
+}
+
+/// The columns of the table, a text for each cell; the first row is the header.
+pub fn cells(plan: &Planned) -> Vec<[String; 10]> {
+    let clock = if plan.has_start { "clock" } else { "h:mm" };
+    let header = ["job", "label", "modules", "on", "start", clock, "end", clock, "departure", ""];
+    let mut rows = vec![header.map(String::from)];
+    rows.extend(plan.jobs.iter().enumerate().map(|(number, job)| row(plan, number, job)));
+    rows
+}
+
+fn row(plan: &Planned, number: usize, planned: &PlannedJob) -> [String; 10] {
+    let PlannedJob { label, job, row } = planned;
+    let time = |minute: u16| plan.clock.time(minute.into());
+    [
+        number.to_string(),
+        label.clone(),
+        job.modules.to_string(),
+        ranges(&row.module_numbers()),
+        row.start.to_string(),
+        time(row.start),
+        row.end.to_string(),
+        time(row.end),
+        format!("{} {}", job.departure, time(job.departure)),
+        lateness_in_words(planned.lateness()),
+    ]
+}
+
+/// The column of the lateness.
+pub const LATENESS: usize = 9;
+
+/// The columns whose cells stand at the right.
+pub const RIGHT: [bool; 10] = [true, false, true, false, true, false, true, false, true, true];
+
+/// The plan as a table for people.
+pub fn table(plan: &Planned, style: Style) -> String {
+    let mut text = format!("{}: {}\n", style.bold(&plan.name), summary(plan).join("\n"));
+    if plan.jobs.is_empty() {
+        return text;
+    }
+    let cells = cells(plan);
+    let widths: Vec<usize> = (0..10).map(|column| cells.iter().map(|row| row[column].len()).max().unwrap_or(0)).collect();
+    text.push('\n');
+    for (place, row) in cells.iter().enumerate() {
+        let mut line = String::new();
+        for ((cell, width), right) in row.iter().zip(&widths).zip(RIGHT) {
+            let padded = if right { format!("{cell:>width$}") } else { format!("{cell:<width$}") };
+            write!(line, "  {padded}").unwrap();
+        }
+        let line = line.trim_end();
+        let late = place > 0 && plan.jobs[place - 1].is_late();
+        let line = if place == 0 { style.quiet(line) } else if late { style.bad(line) } else { line.into() };
+        writeln!(text, "{line}").unwrap();
+    }
+    let order: Vec<&str> = plan.order.iter().map(|job| plan.jobs[usize::from(*job)].label.as_str()).collect();
+    writeln!(text, "\nStarting order: {}.\nNo valid plan of this sheet ends earlier.", order.join(", ")).unwrap();
+    text
+}
