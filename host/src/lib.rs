@@ -9,6 +9,7 @@ pub mod ffi;
 mod refusal;
 mod sheet;
 
+pub mod compare;
 pub mod families;
 pub mod guarded;
 pub mod lists;

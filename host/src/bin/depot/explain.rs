@@ -52,7 +52,8 @@ pub fn run(words: &[String]) -> Result<Outcome, Trouble> {
         return say(&if as_json { json::list(all().map(in_json)) + "\n" } else { overview() });
     };
     let found = whole(word).and_then(Refusal::of_number);
-    let refusal = found.ok_or_else(|| Trouble::usage(format!("there is no refusal '{word}': they have the numbers 1 to 18"), "explain"))?;
+    let refusal =
+        found.ok_or_else(|| Trouble::usage(format!("there is no refusal '{word}': they have the numbers 1 to 18"), "explain"))?;
     say(&if as_json { in_json(refusal) + "\n" } else { words_of(refusal) })
 }
 

@@ -55,7 +55,8 @@ pub fn say(text: &str) -> Result<Outcome, Trouble> {
 /// The bytes of a file, or of standard input where the name is `-`.
 pub fn bytes_of(file: &str) -> Result<Vec<u8>, Trouble> {
     let mut bytes = Vec::new();
-    let read = if file == "-" { io::stdin().read_to_end(&mut bytes) } else { fs::read(file).map(|all| bytes.extend(all)).map(|()| 0) };
+    let read =
+        if file == "-" { io::stdin().read_to_end(&mut bytes) } else { fs::read(file).map(|all| bytes.extend(all)).map(|()| 0) };
     read.map(|_| bytes).map_err(|why| Trouble::File(format!("'{file}' cannot be read: {}", plain(&why))))
 }
 

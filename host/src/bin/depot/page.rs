@@ -1,8 +1,8 @@
 //! The plan as a page in one file: the picture and the table, for a screen, light or dark, and for paper.
+use crate::chart;
 use crate::markup::escaped;
 use crate::plan_text::{cells, summary, RIGHT};
 use crate::planned::Planned;
-use crate::{chart, plan_text};
 
 const RULES: &str = "\
 @page{size:A4 landscape;margin:10mm}\
@@ -14,7 +14,7 @@ table{border-collapse:collapse;font-size:14px;font-variant-numeric:tabular-nums}
 th,td{padding:3px 10px;text-align:left;white-space:nowrap}\
 th{font-weight:normal}\
 .right{text-align:right}\
-tr.late .word{font-weight:bold}\
+tr.late td:last-child{font-weight:bold}\
 footer{font-size:13px;margin-top:14px}\
 @media print{body{padding:0;max-width:none}svg{max-height:185mm}.table{break-before:page}}";
 
@@ -43,9 +43,9 @@ fn table(plan: &Planned) -> String {
         let late = place > 0 && plan.jobs[place - 1].is_late();
         let tag = if place == 0 { "th" } else { "td" };
         html += if late { "<tr class=\"late\">" } else { "<tr>" };
-        for (column, (cell, right)) in row.iter().zip(RIGHT).enumerate() {
-            let class = [if right { "right" } else { "" }, if column == plan_text::LATENESS { "word" } else { "" }].join(" ");
-            html += &format!("<{tag} class=\"{}\">{}</{tag}>", class.trim(), escaped(cell));
+        for (cell, right) in row.iter().zip(RIGHT) {
+            let class = if right { " class=\"right\"" } else { "" };
+            html += &format!("<{tag}{class}>{}</{tag}>", escaped(cell));
         }
         html += "</tr>\n";
     }

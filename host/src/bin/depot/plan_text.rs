@@ -13,6 +13,9 @@ pub fn raw(plan: &Planned) -> String {
     text
 }
 
+/// So many late jobs are named in front of the table.
+const NAMED: usize = 6;
+
 /// What is said of the plan in front of its table.
 pub fn summary(plan: &Planned) -> Vec<String> {
     let mut lines = vec![format!("{}. The last is full at {}.", plan.size(), plan.end_in_words())];
@@ -20,9 +23,13 @@ pub fn summary(plan: &Planned) -> Vec<String> {
         lines[0] = format!("{}: nothing to plan; the plan ends at minute 0.", plan.size());
         return lines;
     }
-    let late: Vec<String> =
-        plan.late().map(|job| format!("{} ({})", job.label, lateness_in_words(job.lateness()))).collect();
-    lines.push(match late.len() {
+    let mut late: Vec<String> = plan.late().map(|job| format!("{} ({})", job.label, lateness_in_words(job.lateness()))).collect();
+    let count = late.len();
+    if count > NAMED {
+        late.truncate(NAMED);
+        late.push(format!("and {} more", count - NAMED));
+    }
+    lines.push(match count {
         0 => "Every bus is full by its departure.".into(),
         1 => format!("1 bus is full only after its departure: {}.", late[0]),
         count => format!("{count} buses are full only after their departures: {}.", late.join(", ")),
@@ -31,15 +38,15 @@ pub fn summary(plan: &Planned) -> Vec<String> {
 }
 
 /// The columns of the table, a text for each cell; the first row is the header.
-pub fn cells(plan: &Planned) -> Vec<[String; 10]> {
+pub fn cells(plan: &Planned) -> Vec<[String; COLUMNS]> {
     let clock = if plan.has_start { "clock" } else { "h:mm" };
-    let header = ["job", "label", "modules", "on", "start", clock, "end", clock, "departure", ""];
+    let header = ["job", "label", "modules", "on", "start", clock, "end", clock, "departs", clock, "lateness"];
     let mut rows = vec![header.map(String::from)];
     rows.extend(plan.jobs.iter().enumerate().map(|(number, job)| row(plan, number, job)));
     rows
 }
 
-fn row(plan: &Planned, number: usize, planned: &PlannedJob) -> [String; 10] {
+fn row(plan: &Planned, number: usize, planned: &PlannedJob) -> [String; COLUMNS] {
     let PlannedJob { label, job, row } = planned;
     let time = |minute: u16| plan.clock.time(minute.into());
     [
@@ -51,16 +58,17 @@ fn row(plan: &Planned, number: usize, planned: &PlannedJob) -> [String; 10] {
         time(row.start),
         row.end.to_string(),
         time(row.end),
-        format!("{} {}", job.departure, time(job.departure)),
+        job.departure.to_string(),
+        time(job.departure),
         lateness_in_words(planned.lateness()),
     ]
 }
 
-/// The column of the lateness.
-pub const LATENESS: usize = 9;
+/// How many columns there are; the last is the lateness.
+const COLUMNS: usize = 11;
 
 /// The columns whose cells stand at the right.
-pub const RIGHT: [bool; 10] = [true, false, true, false, true, false, true, false, true, true];
+pub const RIGHT: [bool; COLUMNS] = [true, false, true, false, true, false, true, false, true, false, true];
 
 /// The plan as a table for people.
 pub fn table(plan: &Planned, style: Style) -> String {
@@ -69,7 +77,7 @@ pub fn table(plan: &Planned, style: Style) -> String {
         return text;
     }
     let cells = cells(plan);
-    let widths: Vec<usize> = (0..10).map(|column| cells.iter().map(|row| row[column].len()).max().unwrap_or(0)).collect();
+    let widths: Vec<usize> = (0..COLUMNS).map(|column| cells.iter().map(|row| row[column].len()).max().unwrap_or(0)).collect();
     text.push('\n');
     for (place, row) in cells.iter().enumerate() {
         let mut line = String::new();
@@ -79,7 +87,13 @@ pub fn table(plan: &Planned, style: Style) -> String {
         }
         let line = line.trim_end();
         let late = place > 0 && plan.jobs[place - 1].is_late();
-        let line = if place == 0 { style.quiet(line) } else if late { style.bad(line) } else { line.into() };
+        let line = if place == 0 {
+            style.quiet(line)
+        } else if late {
+            style.bad(line)
+        } else {
+            line.into()
+        };
         writeln!(text, "{line}").unwrap();
     }
     let order: Vec<&str> = plan.order.iter().map(|job| plan.jobs[usize::from(*job)].label.as_str()).collect();

@@ -14,7 +14,8 @@ pub fn lines(yard: &Yard, refusal: Refusal) -> Vec<String> {
         Refusal::OverWide => {
             let modules = reading.modules;
             let wide = (0..labels.len()).filter(|job| u16::from(reading.jobs[*job].modules) > modules);
-            let line = |job: usize| format!("{} needs {} modules; the cabinet has {modules}", name(job), reading.jobs[job].modules);
+            let line =
+                |job: usize| format!("{} needs {} modules; the cabinet has {modules}", name(job), reading.jobs[job].modules);
             wide.map(line).collect()
         }
         Refusal::Circular => {

@@ -7,8 +7,7 @@ use crate::{json, list};
 use depot_host::{read, Reading, Refusal};
 
 const SHEET: Takes = Takes { verb: "sheet", flags: &[], values: &["-o"], plain: &["a list"], needed: 1 };
-const LIST: Takes =
-    Takes { verb: "list", flags: &["--json"], values: &["-o", "--start"], plain: &["a sheet"], needed: 1 };
+const LIST: Takes = Takes { verb: "list", flags: &["--json"], values: &["-o", "--start"], plain: &["a sheet"], needed: 1 };
 
 pub fn sheet(words: &[String]) -> Result<Outcome, Trouble> {
     let arguments = Arguments::read(&SHEET, words)?;

@@ -1,14 +1,12 @@
 //! The bars: a job's modules from its start to its end, the part behind a missed departure hatched, one label each.
-use super::colours::TINTS;
 use super::frame::{self, Frame};
-use super::words::{self, Spot, Word};
+use super::tints::classes;
+use super::words::{self, Side, Word, BOLD};
 use crate::markup::escaped;
 use crate::planned::{lateness_in_words, ranges, runs, Planned, PlannedJob};
 use std::fmt::Write;
 
 const SIZE: f64 = 11.0;
-/// Bold letters are wider.
-const BOLD: f64 = 1.08;
 /// The room that a label leaves at both ends of its bar.
 const INSET: f64 = 5.0;
 const ONE_LINE: f64 = 12.5;
@@ -30,14 +28,6 @@ struct Area {
     y: f64,
     wide: f64,
     high: f64,
-}
-
-/// The classes of a job's bars.
-pub fn classes(number: usize, job: &PlannedJob) -> String {
-    if job.is_late() {
-        return "late".into();
-    }
-    format!("t{}", number % TINTS)
 }
 
 /// The rectangles of a job: one for each run of modules without a gap.
@@ -81,79 +71,81 @@ fn label(plan: &Planned, job: &PlannedJob, area: &Area) -> Label {
     Label::Outside
 }
 
-/// The labels that stand below the bars, and the jobs that they belong to.
-fn outside(plan: &Planned, frame: &Frame) -> Vec<(usize, Word)> {
-    let mut all = Vec::new();
-    for (number, job) in plan.jobs.iter().enumerate() {
+/// The labels that stand below the bars, and where their leaders begin.
+fn outside(plan: &Planned, frame: &Frame) -> (Vec<Word>, Vec<f64>) {
+    let mut all = (Vec::new(), Vec::new());
+    for job in &plan.jobs {
         let areas = areas(plan, frame, job);
         let area = bearer(&areas);
         if matches!(label(plan, job, area), Label::Outside) {
-            all.push((number, Word { at: area.x + area.wide / 2.0, text: job.label.clone() }));
+            all.0.push(Word { at: area.x + area.wide / 2.0, text: job.label.clone(), late: job.is_late() });
+            all.1.push(area.y + area.high / 2.0);
         }
     }
     all
 }
 
-fn spots(callouts: &[(usize, Word)]) -> Vec<Spot> {
-    let words: Vec<Word> = callouts.iter().map(|(_, word)| Word { at: word.at, text: word.text.clone() }).collect();
-    words::spread(&words, SIZE)
-}
-
-/// How many rows of labels stand below the bars: rows make bars lower, so it is looked for until it is enough.
-pub fn callout_rows(plan: &Planned, departure_rows: usize) -> usize {
-    let mut rows = 0;
+/// How much room they need: it makes bars lower, so it is looked for until it is enough.
+pub fn callouts_height(plan: &Planned, departures: f64) -> f64 {
+    let mut height = 0.0;
     loop {
-        let needed = words::rows(&spots(&outside(plan, &Frame::of(plan, departure_rows, rows))));
-        if needed <= rows {
-            return rows;
+        let needed = words::fan_height(&outside(plan, &Frame::of(plan, departures, height)).0);
+        if needed <= height {
+            return height;
         }
-        rows = needed;
+        height = needed;
     }
 }
 
 pub fn draw(plan: &Planned, frame: &Frame) -> String {
     let mut svg = String::new();
-    for (number, job) in plan.jobs.iter().enumerate() {
-        svg += &bar(plan, frame, number, job);
-    }
-    let callouts = outside(plan, frame);
-    for ((number, word), spot) in callouts.iter().zip(spots(&callouts)) {
-        let areas = areas(plan, frame, &plan.jobs[*number]);
+    let classes = classes(plan);
+    let jobs = || plan.jobs.iter().zip(&classes);
+    jobs().for_each(|(job, class)| svg += &bar(plan, frame, job, class));
+    jobs().for_each(|(job, class)| svg += &joins(plan, frame, job, class));
+    let (words, from) = outside(plan, frame);
+    svg += &words::fan(&words, &from, frame.bottom(), Side::Below, frame::WORDS_LEFT, frame::WORDS_RIGHT);
+    jobs().for_each(|(job, class)| {
+        let areas = areas(plan, frame, job);
         let area = bearer(&areas);
-        let y = frame.bottom() + 11.0 + words::ROW * spot.row as f64;
-        let (x, from, to) = (word.at, area.y + area.high / 2.0, y);
-        writeln!(svg, "<line class=\"leader\" x1=\"{x:.1}\" y1=\"{from:.1}\" x2=\"{x:.1}\" y2=\"{to:.1}\"/>").unwrap();
-        svg += &words::at(if plan.jobs[*number].is_late() { "late-word" } else { "" }, spot.left, y, &word.text);
+        svg += &written(&label(plan, job, area), area, class);
+    });
+    svg
+}
+
+/// The rectangles of a job, hatched from a missed departure on.
+fn bar(plan: &Planned, frame: &Frame, job: &PlannedJob, class: &str) -> String {
+    let mut svg = format!("<g><title>{}</title>\n", escaped(&in_words(plan, job)));
+    for Area { x, y, wide, high } in &areas(plan, frame, job) {
+        writeln!(
+            svg,
+            "<rect class=\"bar {class}\" x=\"{x:.1}\" y=\"{y:.1}\" width=\"{wide:.1}\" height=\"{high:.1}\" rx=\"2\"/>"
+        )
+        .unwrap();
+        if job.is_late() {
+            let from = frame::x(plan, job.job.departure.max(job.row.start).into());
+            let late = x + wide - from;
+            writeln!(svg, "<rect class=\"hatched\" x=\"{from:.1}\" y=\"{y:.1}\" width=\"{late:.1}\" height=\"{high:.1}\"/>")
+                .unwrap();
+        }
+    }
+    svg + "</g>\n"
+}
+
+/// Lines between the rectangles of one job.
+fn joins(plan: &Planned, frame: &Frame, job: &PlannedJob, class: &str) -> String {
+    let mut svg = String::new();
+    for pair in areas(plan, frame, job).windows(2) {
+        let (x, from, to) = (pair[0].x + 3.0, pair[0].y + pair[0].high, pair[1].y);
+        writeln!(svg, "<line class=\"join {class}\" x1=\"{x:.1}\" y1=\"{from:.1}\" x2=\"{x:.1}\" y2=\"{to:.1}\"/>").unwrap();
     }
     svg
 }
 
-fn bar(plan: &Planned, frame: &Frame, number: usize, job: &PlannedJob) -> String {
-    let areas = areas(plan, frame, job);
-    let class = classes(number, job);
-    let mut svg = format!("<g><title>{}</title>\n", escaped(&in_words(plan, job)));
-    for pair in areas.windows(2) {
-        let (x, from, to) = (pair[0].x + 3.0, pair[0].y + pair[0].high, pair[1].y);
-        writeln!(svg, "<line class=\"join {class}\" x1=\"{x:.1}\" y1=\"{from:.1}\" x2=\"{x:.1}\" y2=\"{to:.1}\"/>").unwrap();
-    }
-    for Area { x, y, wide, high } in &areas {
-        writeln!(svg, "<rect class=\"bar {class}\" x=\"{x:.1}\" y=\"{y:.1}\" width=\"{wide:.1}\" height=\"{high:.1}\" rx=\"2\"/>")
-            .unwrap();
-        if job.is_late() {
-            let from = frame::x(plan, job.job.departure.max(job.row.start).into());
-            let late = x + wide - from;
-            writeln!(svg, "<rect class=\"hatched\" x=\"{from:.1}\" y=\"{y:.1}\" width=\"{late:.1}\" height=\"{high:.1}\"/>").unwrap();
-        }
-    }
-    let area = bearer(&areas);
-    svg + &written(&label(plan, job, area), area, job.is_late()) + "</g>\n"
-}
-
-fn written(label: &Label, area: &Area, late: bool) -> String {
+fn written(label: &Label, area: &Area, ground: &str) -> String {
     let (x, middle) = (area.x + INSET, area.y + area.high / 2.0);
     let line = |class: &str, size: f64, y: f64, text: &str| {
-        let halo = if late { halo(x, y, words::width(text, size), size) } else { String::new() };
-        halo + &words::at(class, x, y, text)
+        halo(ground, x, y, words::width(text, size), size) + &words::at(class, x, y, text)
     };
     match label {
         Label::One(text) => line("strong", SIZE * BOLD, middle + 4.0, text),
@@ -162,16 +154,19 @@ fn written(label: &Label, area: &Area, late: bool) -> String {
         }
         Label::Turned(text) => {
             let (x, y) = (area.x + area.wide / 2.0 + 4.0, middle);
-            format!("<text class=\"strong\" text-anchor=\"middle\" transform=\"translate({x:.1} {y:.1}) rotate(-90)\">{}</text>\n", escaped(text))
+            format!(
+                "<text class=\"strong\" text-anchor=\"middle\" transform=\"translate({x:.1} {y:.1}) rotate(-90)\">{}</text>\n",
+                escaped(text)
+            )
         }
         Label::Outside => String::new(),
     }
 }
 
-/// Plain ground behind a word on a hatched bar.
-fn halo(x: f64, y: f64, wide: f64, size: f64) -> String {
+/// Plain ground behind a word.
+fn halo(class: &str, x: f64, y: f64, wide: f64, size: f64) -> String {
     let (left, top, wide, high) = (x - 2.0, y - 0.85 * size, wide + 2.0, size * 1.1);
-    format!("<rect class=\"halo\" x=\"{left:.1}\" y=\"{top:.1}\" width=\"{wide:.1}\" height=\"{high:.1}\"/>\n")
+    format!("<rect class=\"{class} ground\" x=\"{left:.1}\" y=\"{top:.1}\" width=\"{wide:.1}\" height=\"{high:.1}\"/>\n")
 }
 
 /// What the bar says, for a pointer that rests on it.

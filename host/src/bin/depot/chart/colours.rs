@@ -57,15 +57,16 @@ pub fn rules(palette: &Palette) -> String {
          .chart .join.late{{stroke:{1}}}\
          .chart .hatch{{stroke:{1};stroke-width:1.6;stroke-opacity:0.55}}\
          .chart .hatched{{fill:url(#late);stroke:none}}\
-         .chart .halo{{fill:{0};stroke:none}}\
          .chart .late-word{{fill:{1};font-weight:bold}}\
          .chart .end{{stroke:{end};stroke-width:2.4}}\
          .chart .end-word{{fill:{end};font-weight:bold;font-size:12px}}",
         late.0, late.1
     );
+    write!(css, ".chart .late.ground{{fill:{}}}", late.0).unwrap();
     for (place, (fill, edge)) in bars.iter().enumerate() {
         write!(css, ".chart .t{place}{{fill:{fill};stroke:{edge}}}.chart .join.t{place}{{fill:none}}").unwrap();
     }
+    css += ".chart .ground{stroke:none}";
     css
 }
 
@@ -74,7 +75,7 @@ pub fn page_rules(palette: &Palette) -> String {
     let Palette { paper, ink, soft, grid, late, .. } = palette;
     format!(
         "body{{background:{paper};color:{ink}}}th,td{{border-bottom:1px solid {grid}}}th,footer{{color:{soft}}}\
-         tr.late td{{background:{}}}tr.late .word{{color:{}}}{}",
+         tr.late td{{background:{}}}tr.late td:last-child{{color:{}}}{}",
         late.0,
         late.1,
         rules(palette)

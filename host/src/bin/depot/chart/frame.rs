@@ -37,13 +37,14 @@ pub fn is_far(plan: &Planned, departure: u16) -> bool {
 /// The right end of the bars.
 pub const RIGHT: f64 = WIDTH - MARGIN - KEY - GAP;
 /// What words beside their places may reach.
-const WORDS_RIGHT: f64 = WIDTH - MARGIN - KEY - 8.0;
+pub const WORDS_LEFT: f64 = LEFT - 4.0;
+pub const WORDS_RIGHT: f64 = WIDTH - MARGIN - KEY - 6.0;
 
 /// The last minute that the picture shows: there is room behind every end and departure for the job's words.
 pub fn last_minute(plan: &Planned) -> f64 {
     let mut last = f64::from(plan.end).max(1.0);
     for job in &plan.jobs {
-        let room = WORDS_RIGHT - LEFT - 2.0 * words::ASIDE - words::width(&format!("{} late", job.label), 11.0);
+        let room = WORDS_RIGHT - LEFT - words::reach(&format!("{} late", job.label));
         let departure = if is_far(plan, job.job.departure) { 0 } else { job.job.departure };
         let minute = f64::from(departure.max(job.row.end));
         last = last.max(minute).max(minute * (RIGHT - LEFT) / room);
@@ -57,10 +58,10 @@ pub fn x(plan: &Planned, minute: f64) -> f64 {
 }
 
 impl Frame {
-    pub fn of(plan: &Planned, departure_rows: usize, callout_rows: usize) -> Frame {
+    /// The frame with so much room for the departures above the bars and for labels below them.
+    pub fn of(plan: &Planned, departures: f64, callouts: f64) -> Frame {
         let modules = f64::from(plan.modules);
-        let top = TOP + 30.0 + words::ROW * departure_rows as f64;
-        let callouts = words::ROW * callout_rows as f64;
+        let top = TOP + 12.0 + departures;
         let room = MOST_HEIGHT - top - callouts - AXIS - END_WORDS - LEGEND;
         let row = (room / modules).min(TALLEST_ROW);
         Frame {

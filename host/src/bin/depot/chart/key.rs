@@ -1,13 +1,13 @@
 //! The key at the right, a line for each job, and the legend below.
-use super::bars::classes;
 use super::frame::{Frame, KEY_ROW, MARGIN};
+use super::tints::classes;
 use super::words;
 use crate::planned::{lateness_in_words, Planned, PlannedJob};
 use std::fmt::Write;
 
 /// Where the columns begin or, for numbers, end: label, modules, start, end, departure, lateness.
-const COLUMNS: [f64; 6] = [20.0, 128.0, 170.0, 220.0, 270.0, 356.0];
-const LABEL_ROOM: f64 = 84.0;
+const COLUMNS: [f64; 6] = [20.0, 122.0, 172.0, 222.0, 272.0, 356.0];
+const LABEL_ROOM: f64 = 82.0;
 
 pub fn draw(plan: &Planned, frame: &Frame) -> String {
     let mut svg = String::new();
@@ -19,19 +19,18 @@ pub fn draw(plan: &Planned, frame: &Frame) -> String {
             svg += &words::anchored("soft", "end", frame.key_left + column, y, head);
         }
     }
-    for (number, job) in plan.jobs.iter().enumerate() {
-        svg += &row(plan, frame, number, job);
+    for (number, (job, class)) in plan.jobs.iter().zip(classes(plan)).enumerate() {
+        svg += &row(plan, frame, number, job, &class);
     }
     svg + &legend(frame)
 }
 
-fn row(plan: &Planned, frame: &Frame, number: usize, planned: &PlannedJob) -> String {
+fn row(plan: &Planned, frame: &Frame, number: usize, planned: &PlannedJob, class: &str) -> String {
     let PlannedJob { label, job, row } = planned;
     let y = frame.key_top() + 10.0 + KEY_ROW * (number as f64 + 1.0);
     let left = frame.key_left;
-    let class = classes(number, planned);
-    let mut svg = swatch(left, y - 9.5, &class);
-    svg += &words::within("strong", left + COLUMNS[0], y, label, LABEL_ROOM);
+    let mut svg = swatch(left, y - 9.5, class);
+    svg += &words::within("strong", 11.0 * words::BOLD, left + COLUMNS[0], y, label, LABEL_ROOM);
     let time = |minute: u16| plan.clock.time(minute.into());
     let cells = [job.modules.to_string(), time(row.start), time(row.end), time(job.departure)];
     for (cell, column) in cells.iter().zip(&COLUMNS[1..]) {
@@ -67,7 +66,9 @@ fn legend(frame: &Frame) -> String {
     entry(&triangle, 14.0, "departure");
     let cross = |x: f64| format!("<path class=\"late-mark\" d=\"M{x:.1} {:.1}l8 8m0 -8l-8 8\"/>\n", y - 8.0);
     entry(&cross, 14.0, "missed departure");
-    let line = |x: f64| format!("<line class=\"end\" x1=\"{:.1}\" y1=\"{:.1}\" x2=\"{0:.1}\" y2=\"{:.1}\"/>\n", x + 3.0, y - 10.0, y + 2.0);
+    let line = |x: f64| {
+        format!("<line class=\"end\" x1=\"{:.1}\" y1=\"{:.1}\" x2=\"{0:.1}\" y2=\"{:.1}\"/>\n", x + 3.0, y - 10.0, y + 2.0)
+    };
     entry(&line, 10.0, "plan's end");
     svg
 }

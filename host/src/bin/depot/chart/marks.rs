@@ -1,10 +1,8 @@
 //! The grid with its two axes, the departures, and the end line.
 use super::frame::{self, Frame};
-use super::words::{self, Spot, Word};
+use super::words::{self, Side, Word};
 use crate::planned::{Planned, PlannedJob};
 use std::fmt::Write;
-
-const SIZE: f64 = 11.0;
 
 /// Steps between two times on the axis, in minutes.
 const STEPS: [u32; 15] = [1, 2, 5, 10, 15, 30, 60, 120, 180, 240, 360, 720, 1440, 2880, 4320];
@@ -42,42 +40,39 @@ fn times(plan: &Planned, frame: &Frame) -> String {
         svg += &words::anchored("", "middle", x, axis + 16.0, &plan.clock.time(minute));
         svg += &words::anchored("soft small", "middle", x, axis + 29.0, &minute.to_string());
     }
-    svg += &words::anchored("soft", "end", frame.left - 18.0, axis + 16.0, if plan.has_start { "time" } else { "h:mm" });
-    svg += &words::anchored("soft small", "end", frame.left - 18.0, axis + 29.0, "minute");
+    svg += &words::anchored("soft", "end", frame.left - 24.0, axis + 16.0, if plan.has_start { "time" } else { "h:mm" });
+    svg += &words::anchored("soft small", "end", frame.left - 24.0, axis + 29.0, "minute");
     svg
 }
 
-/// The jobs whose departures the picture shows, and the words above the bars.
-fn departure_words(plan: &Planned) -> Vec<(&PlannedJob, Word)> {
-    let shown = plan.jobs.iter().filter(|job| !frame::is_far(plan, job.job.departure));
-    let word = |job: &PlannedJob| {
-        let late = if job.is_late() { " late" } else { "" };
-        Word { at: frame::x(plan, job.job.departure.into()), text: format!("{}{late}", job.label) }
+/// The jobs whose departures the picture shows.
+fn shown(plan: &Planned) -> Vec<&PlannedJob> {
+    plan.jobs.iter().filter(|job| !frame::is_far(plan, job.job.departure)).collect()
+}
+
+/// The words above the bars.
+fn departure_words(plan: &Planned) -> Vec<Word> {
+    let word = |job: &&PlannedJob| {
+        let text = format!("{}{}", job.label, if job.is_late() { " late" } else { "" });
+        Word { at: frame::x(plan, job.job.departure.into()), text, late: job.is_late() }
     };
-    shown.map(|job| (job, word(job))).collect()
+    shown(plan).iter().map(word).collect()
 }
 
-fn spots(words: &[(&PlannedJob, Word)]) -> Vec<Spot> {
-    let words: Vec<Word> = words.iter().map(|(_, word)| Word { at: word.at, text: word.text.clone() }).collect();
-    words::spread(&words, SIZE)
-}
-
-pub fn departure_rows(plan: &Planned) -> usize {
-    words::rows(&spots(&departure_words(plan)))
+/// How much room they need.
+pub fn departures_height(plan: &Planned) -> f64 {
+    words::fan_height(&departure_words(plan))
 }
 
 pub fn departures(plan: &Planned, frame: &Frame) -> String {
-    let all = departure_words(plan);
     let line = frame.top;
+    let words = departure_words(plan);
     let mut svg = words::anchored("soft", "end", frame.left - 12.0, line - 4.0, "departs");
-    for ((job, word), spot) in all.iter().zip(spots(&all)) {
-        let x = word.at;
-        let y = line - 12.0 - words::ROW * spot.row as f64;
-        writeln!(svg, "<line class=\"leader\" x1=\"{x:.1}\" y1=\"{:.1}\" x2=\"{x:.1}\" y2=\"{line:.1}\"/>", y - 8.0).unwrap();
-        svg += &mark(x, line, job.is_late());
-        svg += &words::at(if job.is_late() { "late-word" } else { "" }, spot.left, y, &word.text);
+    svg += &words::fan(&words, &vec![line; words.len()], line, Side::Above, frame::WORDS_LEFT, frame::WORDS_RIGHT);
+    for (job, word) in shown(plan).iter().zip(&words) {
+        svg += &mark(word.at, line, job.is_late());
     }
-    let far = plan.jobs.len() - all.len();
+    let far = plan.jobs.len() - words.len();
     if far > 0 {
         let text = format!("{far} later departure{}: see the list", if far == 1 { "" } else { "s" });
         svg += &words::anchored("soft", "end", frame.right, frame.departures_top(), &text);
@@ -90,7 +85,9 @@ fn mark(x: f64, line: f64, late: bool) -> String {
     let (up, down) = (line - 9.0, line - 1.0);
     if late {
         let (left, right) = (x - 4.0, x + 4.0);
-        return format!("<path class=\"late-mark\" d=\"M{left:.1} {up:.1}L{right:.1} {down:.1}M{right:.1} {up:.1}L{left:.1} {down:.1}\"/>\n");
+        return format!(
+            "<path class=\"late-mark\" d=\"M{left:.1} {up:.1}L{right:.1} {down:.1}M{right:.1} {up:.1}L{left:.1} {down:.1}\"/>\n"
+        );
     }
     format!("<path class=\"mark\" d=\"M{:.1} {up:.1}L{:.1} {up:.1}L{x:.1} {down:.1}Z\"/>\n", x - 4.5, x + 4.5)
 }
@@ -107,6 +104,7 @@ pub fn end_line(plan: &Planned, frame: &Frame) -> String {
         x => ("middle", x),
     };
     let mut svg = format!("<line class=\"end\" x1=\"{x:.1}\" y1=\"{top:.1}\" x2=\"{x:.1}\" y2=\"{:.1}\"/>\n", frame.axis() + 4.0);
-    writeln!(svg, "<line class=\"leader\" x1=\"{x:.1}\" y1=\"{:.1}\" x2=\"{x:.1}\" y2=\"{below:.1}\"/>", frame.axis() + 31.0).unwrap();
+    writeln!(svg, "<line class=\"leader\" x1=\"{x:.1}\" y1=\"{:.1}\" x2=\"{x:.1}\" y2=\"{below:.1}\"/>", frame.axis() + 31.0)
+        .unwrap();
     svg + &words::anchored("end-word", anchor, at, y, &text)
 }

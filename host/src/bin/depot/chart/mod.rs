@@ -4,6 +4,7 @@ mod colours;
 mod frame;
 mod key;
 mod marks;
+mod tints;
 mod words;
 
 use crate::markup::escaped;
@@ -26,8 +27,8 @@ pub fn part(plan: &Planned) -> String {
 }
 
 fn picture(plan: &Planned, style: &str) -> String {
-    let departure_rows = marks::departure_rows(plan);
-    let frame = Frame::of(plan, departure_rows, bars::callout_rows(plan, departure_rows));
+    let departures = marks::departures_height(plan);
+    let frame = Frame::of(plan, departures, bars::callouts_height(plan, departures));
     let (width, height) = (frame::WIDTH, frame.height());
     let mut svg = format!(
         "<svg xmlns=\"http://www.w3.org/2000/svg\" class=\"chart\" width=\"{width}\" height=\"{height}\" \
@@ -49,7 +50,7 @@ fn picture(plan: &Planned, style: &str) -> String {
 fn title(plan: &Planned) -> String {
     let mut svg = words::at("title", frame::MARGIN, 34.0, &plan.name);
     for (place, line) in plan_text::summary(plan).iter().enumerate() {
-        svg += &words::within("lead", frame::MARGIN, 54.0 + 17.0 * place as f64, line, frame::WIDTH - 2.0 * frame::MARGIN);
+        svg += &words::within("lead", 13.0, frame::MARGIN, 54.0 + 17.0 * place as f64, line, frame::WIDTH - 2.0 * frame::MARGIN);
     }
     svg
 }

@@ -22,53 +22,101 @@ pub fn anchored(class: &str, anchor: &str, x: f64, y: f64, text: &str) -> String
     format!("<text class=\"{class}\" text-anchor=\"{anchor}\" x=\"{x:.1}\" y=\"{y:.1}\">{}</text>\n", escaped(text))
 }
 
-/// A text that begins here and is pressed together where it would be wider than the room.
-pub fn within(class: &str, x: f64, y: f64, text: &str, room: f64) -> String {
-    let size = if class.contains("lead") { 13.0 } else { 11.0 };
-    let pressed =
-        if width(text, size) > room { format!(" textLength=\"{room:.1}\" lengthAdjust=\"spacingAndGlyphs\"") } else { String::new() };
-    format!("<text class=\"{class}\" x=\"{x:.1}\" y=\"{y:.1}\"{pressed}>{}</text>\n", escaped(text))
+/// A text that begins here, in smaller letters where it would be wider than the room.
+pub fn within(class: &str, size: f64, x: f64, y: f64, text: &str, room: f64) -> String {
+    let wide = width(text, size);
+    let smaller = if wide > room { format!(" style=\"font-size:{:.1}px\"", size * room / wide) } else { String::new() };
+    format!("<text class=\"{class}\" x=\"{x:.1}\" y=\"{y:.1}\"{smaller}>{}</text>\n", escaped(text))
 }
 
 /// A word that belongs to a place on a line.
+#[derive(Clone)]
 pub struct Word {
     pub at: f64,
     pub text: String,
+    pub late: bool,
 }
 
-/// Where a word went: its left end, and its row, 0 for the one nearest to the line.
-#[derive(Clone, Copy)]
-pub struct Spot {
-    pub left: f64,
-    pub row: usize,
+/// On which side of the line the words stand.
+#[derive(Clone, Copy, PartialEq, Eq)]
+pub enum Side {
+    Above,
+    Below,
 }
 
-/// The height of a row of words.
-pub const ROW: f64 = 13.0;
-/// The room between a word's leader and its text.
-pub const ASIDE: f64 = 3.0;
+/// The least room between the feet of two slanting words.
+const APART: f64 = 15.5;
+/// How far the feet of the words are from the line.
+const FOOT: f64 = 22.0;
+/// Sine and cosine of 45 degrees.
+const SLANT: f64 = 0.7072;
 
-/// Puts words into rows, each to the right of its place, so that no word lies on another or on a leader, which runs from the line to
-/// its word's row. From the right to the left: a word's leader is then left of all that are there, and some row is free.
-pub fn spread(words: &[Word], size: f64) -> Vec<Spot> {
-    let mut order: Vec<usize> = (0..words.len()).collect();
-    order.sort_by(|a, b| words[*b].at.total_cmp(&words[*a].at));
-    let mut spots = vec![Spot { left: 0.0, row: 0 }; words.len()];
-    let mut done: Vec<usize> = Vec::new();
-    for place in order {
-        let left = words[place].at + ASIDE;
-        let right = left + width(&words[place].text, size) + ASIDE;
-        let in_the_way = |other: &usize, row: usize| spots[*other].row >= row && words[*other].at <= right;
-        let row = (0..words.len()).find(|row| !done.iter().any(|other| in_the_way(other, *row)));
-        spots[place] = Spot { left, row: row.expect("a row of its own is free") };
-        done.push(place);
+/// How high the words stand, with their leaders.
+pub fn fan_height(words: &[Word]) -> f64 {
+    let highest = words.iter().map(|word| width(&word.text, 11.0 * BOLD)).fold(0.0, f64::max);
+    if words.is_empty() {
+        return 0.0;
     }
-    spots
+    FOOT + SLANT * (highest + 11.0)
 }
 
-/// How many rows are used.
-pub fn rows(spots: &[Spot]) -> usize {
-    spots.iter().map(|spot| spot.row + 1).max().unwrap_or(0)
+/// How far a slanting word reaches to the right of its foot.
+pub fn reach(text: &str) -> f64 {
+    SLANT * width(text, 11.0 * BOLD) + 9.0
+}
+
+/// Bold letters are wider.
+pub const BOLD: f64 = 1.08;
+
+/// The feet of words: as near to their places as may be, apart from each other, and within the bounds.
+pub fn feet(words: &[Word], left: f64, right: f64) -> Vec<f64> {
+    let mut order: Vec<usize> = (0..words.len()).collect();
+    order.sort_by(|a, b| words[*a].at.total_cmp(&words[*b].at));
+    // groups that touch, each with its first foot and how many there are
+    let mut groups: Vec<(f64, usize)> = Vec::new();
+    for word in &order {
+        groups.push((words[*word].at, 1));
+        while let [.., (first, count), (next, more)] = groups[..] {
+            if next >= first + APART * count as f64 {
+                break;
+            }
+            let both = (first * count as f64 + (next - APART * count as f64) * more as f64) / (count + more) as f64;
+            groups.truncate(groups.len() - 2);
+            groups.push((both, count + more));
+        }
+    }
+    let mut sorted: Vec<f64> =
+        groups.iter().flat_map(|(first, count)| (0..*count).map(move |i| first + APART * i as f64)).collect();
+    let mut bound = left;
+    for foot in &mut sorted {
+        *foot = foot.max(bound);
+        bound = *foot + APART;
+    }
+    let mut bound = f64::INFINITY;
+    for (foot, word) in sorted.iter_mut().zip(&order).rev() {
+        *foot = foot.min(bound).min(right - reach(&words[*word].text));
+        bound = *foot - APART;
+    }
+    let mut feet = vec![0.0; words.len()];
+    for (foot, word) in sorted.into_iter().zip(order) {
+        feet[word] = foot;
+    }
+    feet
+}
+
+/// The words, slanting away from the line, each with a leader from its place.
+pub fn fan(words: &[Word], from: &[f64], line: f64, side: Side, left: f64, right: f64) -> String {
+    let mut svg = String::new();
+    let away = if side == Side::Above { -1.0 } else { 1.0 };
+    for ((word, foot), from) in words.iter().zip(feet(words, left, right)).zip(from) {
+        let (x, near, far) = (word.at, line + away * 10.0, line + away * (FOOT - 3.0));
+        svg += &format!("<path class=\"leader\" d=\"M{x:.1} {from:.1}L{x:.1} {near:.1}L{foot:.1} {far:.1}\"/>\n");
+        let (y, turn) = (line + away * FOOT + if side == Side::Above { 0.0 } else { 5.0 }, 45.0 * away);
+        let class = if word.late { "late-word" } else { "" };
+        let text = escaped(&word.text);
+        svg += &format!("<text class=\"{class}\" transform=\"translate({foot:.1} {y:.1}) rotate({turn:.0})\">{text}</text>\n");
+    }
+    svg
 }
 
 #[cfg(test)]
@@ -76,17 +124,20 @@ mod tests {
     use super::*;
 
     #[test]
-    fn words_do_not_lie_on_each_other() {
-        let words: Vec<Word> = (0..20).map(|i| Word { at: 100.0 + 7.0 * f64::from(i % 9), text: format!("BUS{i}") }).collect();
-        let spots = spread(&words, 10.0);
-        for a in 0..words.len() {
-            for b in 0..a {
-                let ends = |i: usize| (spots[i].left, spots[i].left + width(&words[i].text, 10.0));
-                let apart = ends(a).1 < ends(b).0 || ends(b).1 < ends(a).0;
-                assert!(spots[a].row != spots[b].row || apart, "{a} and {b}");
-            }
+    fn words_stand_apart_and_within_the_bounds() {
+        for (first, step) in [(0.0, 0.0), (300.0, 3.0), (600.0, 0.0), (20.0, 40.0)] {
+            let word = |i| Word { at: first + step * f64::from(i), text: format!("BUS{i}"), late: false };
+            let words: Vec<Word> = (0..20).map(word).collect();
+            let mut found = feet(&words, 10.0, 640.0);
+            assert!(found.iter().zip(&words).all(|(foot, word)| *foot >= 10.0 && foot + reach(&word.text) <= 640.1));
+            found.sort_by(f64::total_cmp);
+            assert!(found.windows(2).all(|pair| pair[1] - pair[0] >= APART - 0.1), "{found:?}");
         }
-        assert!(rows(&spots) > 3);
-        assert!(rows(&spread(&words[..1], 10.0)) == 1);
+    }
+
+    #[test]
+    fn a_word_with_room_stands_at_its_place() {
+        let words = [100.0, 200.0].map(|at| Word { at, text: "A".into(), late: false });
+        assert_eq!(feet(&words, 0.0, 640.0), [100.0, 200.0]);
     }
 }

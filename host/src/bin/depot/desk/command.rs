@@ -25,7 +25,9 @@ pub fn read(line: &str, names: &[String]) -> Result<Command, String> {
     match &words[..] {
         ["open", limit, places @ ..] => open(limit, places),
         ["open"] => Err("found 'open' alone; allowed: open LIMIT SHARE/CEILING .., as 'open 10 yard=4/10 workshop=3/10'".into()),
-        ["claim", who, modules] => Ok(Command::Claim { controller: controller(who, names)?, modules: number(modules, "modules")? }),
+        ["claim", who, modules] => {
+            Ok(Command::Claim { controller: controller(who, names)?, modules: number(modules, "modules")? })
+        }
         ["back", who, modules] => Ok(Command::Back { controller: controller(who, names)?, modules: number(modules, "modules")? }),
         ["claim" | "back", ..] => Err(format!("found '{line}'; allowed: {} CONTROLLER MODULES, as '{0} 0 4'", words[0])),
         ["look"] => Ok(Command::Look(None)),

@@ -67,8 +67,7 @@ impl Session {
         let before = *desk;
         let answer = if call == "claim" { desk.claim(controller, modules) } else { desk.hand_back(controller, modules) };
         let after = *desk;
-        let head =
-            [("call", json::text(call)), ("controller", controller.to_string()), ("modules", modules.to_string())];
+        let head = [("call", json::text(call)), ("controller", controller.to_string()), ("modules", modules.to_string())];
         Ok(match answer {
             Ok(()) => {
                 let held = after.held[controller as usize];

@@ -240,11 +240,17 @@ fn number_of(word: &str, labels: &[String]) -> Result<usize, (String, String)> {
         [job] => Ok(job),
         [] => {
             let hint = if whole(word).is_some() { format!("; job number {word} is written #{word}") } else { String::new() };
-            Err((format!("{}, which is no job's label", shown(word)), format!("labels of this list or job numbers, with a space between them{hint}")))
+            Err((
+                format!("{}, which is no job's label", shown(word)),
+                format!("labels of this list or job numbers, with a space between them{hint}"),
+            ))
         }
         _ => {
             let numbers: Vec<String> = borne.iter().map(|job| format!("#{job}")).collect();
-            Err((format!("{}, the label of {} jobs", shown(word), borne.len()), format!("one of them by its number: {}", numbers.join(" or "))))
+            Err((
+                format!("{}, the label of {} jobs", shown(word), borne.len()),
+                format!("one of them by its number: {}", numbers.join(" or ")),
+            ))
         }
     }
 }
