@@ -36,7 +36,7 @@ A list is a text with a line for each job:
              05:30+1 the one on the day after the start's
 
 Up to 20 jobs. Fields are separated by commas; one with a comma or a double quote in it stands in double quotes, with a double
-quote written twice. Lines that begin with # are remarks; a label that begins with # stands in double quotes.
+quote written twice. Lines that begin with # and a space are remarks.
 ";
 
 const PLAN: &str = "\

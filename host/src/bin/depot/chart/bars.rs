@@ -145,7 +145,7 @@ fn joins(plan: &Planned, frame: &Frame, job: &PlannedJob, class: &str) -> String
 fn written(label: &Label, area: &Area, ground: &str) -> String {
     let (x, middle) = (area.x + INSET, area.y + area.high / 2.0);
     let line = |class: &str, size: f64, y: f64, text: &str| {
-        halo(ground, x, y, words::width(text, size), size) + &words::at(class, x, y, text)
+        halo(ground, area, y, words::width(text, size), size) + &words::at(class, x, y, text)
     };
     match label {
         Label::One(text) => line("strong", SIZE * BOLD, middle + 4.0, text),
@@ -163,10 +163,11 @@ fn written(label: &Label, area: &Area, ground: &str) -> String {
     }
 }
 
-/// Plain ground behind a word.
-fn halo(class: &str, x: f64, y: f64, wide: f64, size: f64) -> String {
-    let (left, top, wide, high) = (x - 2.0, y - 0.85 * size, wide + 2.0, size * 1.1);
-    format!("<rect class=\"{class} ground\" x=\"{left:.1}\" y=\"{top:.1}\" width=\"{wide:.1}\" height=\"{high:.1}\"/>\n")
+/// Plain ground behind a word, within its bar.
+fn halo(class: &str, area: &Area, y: f64, wide: f64, size: f64) -> String {
+    let (left, top) = (area.x + INSET - 2.0, (y - 0.85 * size).max(area.y + 1.0));
+    let high = (y + 0.25 * size).min(area.y + area.high - 1.0) - top;
+    format!("<rect class=\"{class} ground\" x=\"{left:.1}\" y=\"{top:.1}\" width=\"{:.1}\" height=\"{high:.1}\"/>\n", wide + 2.0)
 }
 
 /// What the bar says, for a pointer that rests on it.

@@ -15,7 +15,7 @@ pub fn grid(plan: &Planned, frame: &Frame) -> String {
         let y = frame.y(module.into());
         writeln!(svg, "<line class=\"grid\" x1=\"{left:.1}\" y1=\"{y:.1}\" x2=\"{right:.1}\" y2=\"{y:.1}\"/>").unwrap();
     }
-    let every = (1..).find(|every| f64::from(*every) * frame.row >= 11.5).expect("some step is wide enough");
+    let every = [1, 2, 4, 8].into_iter().find(|every| f64::from(*every) * frame.row >= 11.5).unwrap_or(16);
     for module in (0..u32::from(plan.modules)).step_by(every as usize) {
         let y = frame.y(f64::from(module) + 0.5) + 3.8;
         svg += &words::anchored("soft", "end", left - 7.0, y, &module.to_string());

@@ -45,11 +45,13 @@ pub enum Side {
 }
 
 /// The least room between the feet of two slanting words.
-const APART: f64 = 15.5;
+const APART: f64 = 12.8;
 /// How far the feet of the words are from the line.
-const FOOT: f64 = 22.0;
-/// Sine and cosine of 45 degrees.
-const SLANT: f64 = 0.7072;
+const FOOT: f64 = 38.0;
+/// How words slant: by 60 degrees, with its sine and cosine.
+const SLANT: f64 = 60.0;
+const UP: f64 = 0.8661;
+const ALONG: f64 = 0.5;
 
 /// How high the words stand, with their leaders.
 pub fn fan_height(words: &[Word]) -> f64 {
@@ -57,12 +59,12 @@ pub fn fan_height(words: &[Word]) -> f64 {
     if words.is_empty() {
         return 0.0;
     }
-    FOOT + SLANT * (highest + 11.0)
+    FOOT + UP * highest + 8.0
 }
 
 /// How far a slanting word reaches to the right of its foot.
 pub fn reach(text: &str) -> f64 {
-    SLANT * width(text, 11.0 * BOLD) + 9.0
+    ALONG * width(text, 11.0 * BOLD) + 9.0
 }
 
 /// Bold letters are wider.
@@ -111,7 +113,7 @@ pub fn fan(words: &[Word], from: &[f64], line: f64, side: Side, left: f64, right
     for ((word, foot), from) in words.iter().zip(feet(words, left, right)).zip(from) {
         let (x, near, far) = (word.at, line + away * 10.0, line + away * (FOOT - 3.0));
         svg += &format!("<path class=\"leader\" d=\"M{x:.1} {from:.1}L{x:.1} {near:.1}L{foot:.1} {far:.1}\"/>\n");
-        let (y, turn) = (line + away * FOOT + if side == Side::Above { 0.0 } else { 5.0 }, 45.0 * away);
+        let (y, turn) = (line + away * FOOT + if side == Side::Above { 0.0 } else { 5.0 }, SLANT * away);
         let class = if word.late { "late-word" } else { "" };
         let text = escaped(&word.text);
         svg += &format!("<text class=\"{class}\" transform=\"translate({foot:.1} {y:.1}) rotate({turn:.0})\">{text}</text>\n");

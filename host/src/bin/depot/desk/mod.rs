@@ -31,6 +31,8 @@ pub fn run(words: &[String]) -> Result<Outcome, Trouble> {
     if let Some(file) = arguments.plain(0) {
         let bytes = bytes_of(file)?;
         for (place, line) in String::from_utf8_lossy(&bytes).lines().enumerate() {
+            let silent = as_json || line.trim().is_empty();
+            say(&if silent { String::new() } else { format!("> {line}\n") })?;
             if !lines.take(&mut session, line, as_json, &format!("{file}, line {}: ", place + 1))? {
                 break;
             }

@@ -3,6 +3,14 @@ use super::bars::may_claim;
 use super::command::Place;
 use depot_host::{Desk, Refusal};
 
+/// What a look gives, in words.
+pub fn most_in_words(name: &str, most: u32) -> String {
+    if most == 0 {
+        return format!("{name} may claim nothing now");
+    }
+    format!("{name} may claim up to {most} now")
+}
+
 /// Why an opening was refused.
 pub fn of_opening(limit: u32, places: &[Place], refusal: Refusal) -> Vec<String> {
     match refusal {
@@ -41,7 +49,7 @@ pub fn of_call(desk: &Desk, names: &[String], controller: u32, modules: u32, ref
     let held = desk.held[own];
     let sum = u64::from(held) + u64::from(modules);
     let claim = format!("{name}: {held} held + {modules} claimed = {sum}");
-    let most = format!("{name} may claim up to {} now", may_claim(desk, own));
+    let most = most_in_words(name, may_claim(desk, own));
     match refusal {
         Refusal::PassesCeiling => vec![format!("{claim}; its ceiling is {}", desk.ceiling[own]), most],
         Refusal::DoesNotFit => {

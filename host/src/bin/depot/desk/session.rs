@@ -89,7 +89,7 @@ impl Session {
         for controller in asked {
             match desk.look(controller) {
                 Ok(most) => {
-                    text += &format!("{} may claim up to {most}\n", self.names[controller as usize]);
+                    text += &(reasons::most_in_words(&self.names[controller as usize], most) + "\n");
                     objects.push(json::object(&[head(controller), vec![("modules", most.to_string())]].concat()));
                 }
                 Err(refusal) => {

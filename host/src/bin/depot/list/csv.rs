@@ -60,12 +60,9 @@ pub fn written(field: &str) -> String {
     field.into()
 }
 
-/// The first field of a line as it is written: a line that begins with '#' would be a remark.
-pub fn written_first(field: &str) -> String {
-    if field.starts_with('#') && !field.contains([',', '"']) {
-        return format!("\"{field}\"");
-    }
-    written(field)
+/// Whether a line is a remark: `#` alone, or with a space behind it, so that no label and no job number begins one.
+pub fn is_remark(line: &str) -> bool {
+    line.strip_prefix('#').is_some_and(|rest| rest.is_empty() || rest.starts_with(char::is_whitespace))
 }
 
 #[cfg(test)]
@@ -84,11 +81,17 @@ mod tests {
     }
 
     #[test]
+    fn remarks() {
+        assert!(is_remark("#") && is_remark("# 1,2") && is_remark("#\tx"));
+        assert!(!is_remark("#0,25") && !is_remark("#,1") && !is_remark("x # y") && !is_remark(""));
+    }
+
+    #[test]
     fn every_field_is_read_as_it_was_written() {
-        for field in ["", "a", "#1", "a,b", "\"", "\"\"", "a b", "'", ";", "x\"", ","] {
-            let line = format!("{},{}", written_first(field), written(field));
+        for field in ["", "a", "#", "#1", "a,b", "\"", "\"\"", "a b", "'", ";", "x\"", ","] {
+            let line = format!("{},{}", written(field), written(field));
             assert_eq!(fields(&line).unwrap(), [field, field]);
-            assert!(!line.starts_with('#'));
+            assert!(!is_remark(&line));
         }
     }
 }

@@ -47,7 +47,7 @@ pub fn read(file: &str, bytes: &[u8]) -> Result<List, Trouble> {
 
 impl Reader {
     fn line(&mut self, number: usize, line: &str) {
-        if line.is_empty() || line.starts_with('#') {
+        if line.is_empty() || csv::is_remark(line) {
             return;
         }
         let mut fields = match csv::fields(line) {

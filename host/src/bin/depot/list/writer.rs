@@ -15,13 +15,8 @@ pub fn text(reading: &Reading, labels: &[String], clock: Option<Clock>) -> Strin
         let earlier = (0..labels.len()).filter(|i| job.earlier >> i & 1 == 1);
         let after: Vec<String> = earlier.map(|i| name(labels, i)).collect();
         let departure = clock.map_or(job.departure.to_string(), |clock| clock.time(job.departure.into()));
-        let fields = [
-            csv::written_first(label),
-            job.modules.to_string(),
-            job.minutes.to_string(),
-            csv::written(&after.join(" ")),
-            departure,
-        ];
+        let fields =
+            [csv::written(label), job.modules.to_string(), job.minutes.to_string(), csv::written(&after.join(" ")), departure];
         writeln!(text, "{}", fields.join(",")).unwrap();
     }
     text
