@@ -101,9 +101,9 @@ fn plans_in_other_forms() {
         golden(&format!("plan-{name}.json"), &["plan", &list, "--json"], 0);
         golden(&format!("plan-{name}.raw"), &["plan", &list, "--raw"], 0);
         golden(&format!("plan-{name}.raw"), &["plan", &list, "--raw", "--memory", "0"], 0);
-        golden(&format!("plan-{name}.raw"), &["plan", &list, "--raw", "--memory=64K", "--start", "06:00"], 0);
+        golden(&format!("plan-{name}.raw"), &["plan", &list, "--raw", "--memory=64K"], 0);
     }
-    golden("plan-other-start.txt", &["plan", "examples/small-depot.csv", "--start", "06:00"], 0);
+    golden("plan-other-start.txt", &["plan", "examples/small-depot.csv", "--start", "22:30"], 0);
     let sheet = file("no-start.sheet", b"");
     assert_eq!(depot(&["sheet", "examples/small-depot.csv", "-o", &sheet], b"").status, 0);
     let from_input = depot(&["plan", "-"], &fs::read(&sheet).unwrap());
@@ -213,6 +213,9 @@ fn lists_as_people_write_them() {
         "cabinet,4\nstart,21:00\nlabel,modules,minutes,after,departure\nA,1,10,,21:30\nB,2,20, A ,21:25",
         "start,23:50\ncabinet,4\nlabel,modules,minutes,departure,after\nA,1,10,0:20+1\nB,2,20,25,A\n",
     ];
+    let late = "cabinet,4\nstart,09:00\nlabel,modules,minutes,after,departure\nA,1,10,,21:30\nB,2,20,A,25\n";
+    let words = ["sheet", &file("late.csv", late.as_bytes()), "-o", "-", "--start", "21:00"];
+    assert_eq!(depot(&words, b"").output, expected.output);
     for (place, text) in others.iter().enumerate() {
         let ran = depot(&["sheet", &file(&format!("other-{place}.csv"), text.as_bytes()), "-o", "-"], b"");
         assert_eq!((ran.status, ran.errors.as_str()), (0, ""));
@@ -230,7 +233,7 @@ fn desk() {
     let answers: Vec<&str> = shown.lines().filter(|line| !line.starts_with('>')).collect();
     assert_eq!(typed.text().lines().collect::<Vec<_>>(), answers);
     let calm = depot(&["desk"], b"open 10 4/10 3/10\nclaim 0 7\nback 0 7\nquit\nclaim 0 99\n");
-    assert_eq!((calm.status, calm.text().lines().last()), (0, Some("done: hands back 7; 0 now holds 0")));
+    assert_eq!((calm.status, calm.text().lines().last()), (0, Some("done: hands back 7; controller 0 now holds 0")));
 }
 
 /// Each refusal of the desk, with its sums.

@@ -45,7 +45,7 @@ usage: depot plan LIST.csv|SHEET [OPTION..]
 Shows the plan that ends first of all valid plans, by the tie rule. A name that ends in .csv is a list, every other a job sheet;
 - is a sheet on standard input. Departures do not steer the plan; they tell who is late.
 
-  --start HH:MM    the plan's start as a time of day, in place of the list's
+  --start HH:MM    the plan's start as a time of day, in place of the list's; the list's times of day count from it
   --raw            exactly the printing program's lines
   --json           for programs
   --svg OUT        a picture of the plan too
@@ -55,9 +55,11 @@ Shows the plan that ends first of all valid plans, by the tie rule. A name that 
 ";
 
 const SHEET: &str = "\
-usage: depot sheet LIST.csv -o FILE
+usage: depot sheet LIST.csv -o FILE [--start HH:MM]
 
-Writes the job sheet of a list: the bytes that a cabinet takes. FILE may be - for standard output, LIST.csv for standard input.
+Writes the job sheet of a list: the bytes that a cabinet takes. FILE may be - for standard output, LIST.csv - for standard input.
+
+  --start HH:MM    the plan's start as a time of day, in place of the list's; the list's times of day count from it
 ";
 
 const LIST: &str = "\

@@ -8,20 +8,20 @@ use depot_host::{label, read, Card, Job, Reading, Refusal, Row};
 pub struct Yard {
     pub name: String,
     pub sheet: Vec<u8>,
-    /// The start's time of day, where the list has it.
+    /// The start's time of day, where it is known.
     pub clock: Option<Clock>,
     /// The line of each job, where there is a list.
     pub lines: Vec<usize>,
 }
 
 impl Yard {
-    /// The yard of a list, where the name ends in `.csv`, or of a sheet.
-    pub fn open(file: &str) -> Result<Yard, Trouble> {
+    /// The yard of a list, where the name ends in `.csv`, or of a sheet; a given start stands in place of the list's.
+    pub fn open(file: &str, start: Option<Clock>) -> Result<Yard, Trouble> {
         let bytes = bytes_of(file)?;
         if !is_list(file) {
-            return Ok(Yard { name: file.into(), sheet: bytes, clock: None, lines: Vec::new() });
+            return Ok(Yard { name: file.into(), sheet: bytes, clock: start, lines: Vec::new() });
         }
-        let list = list::read(file, &bytes)?;
+        let list = list::read(file, &bytes, start)?;
         let refused = |refusal: Refusal| Trouble::List(format!("{file}: refused {}: {refusal}\n", refusal.number()));
         Ok(Yard { name: file.into(), sheet: list.sheet().map_err(refused)?, clock: list.clock, lines: list.lines })
     }
@@ -68,10 +68,9 @@ pub struct Planned {
 }
 
 impl Planned {
-    pub fn new(yard: &Yard, card: Card, start: Option<Clock>) -> Planned {
+    pub fn new(yard: &Yard, card: Card) -> Planned {
         let reading = read(&yard.sheet).expect("a sheet with a plan reads");
         let labels = labels(&yard.sheet, &reading);
-        let start = start.or(yard.clock);
         let parts = labels.into_iter().zip(reading.jobs).zip(card.rows);
         Planned {
             name: yard.name.rsplit('/').next().unwrap_or(&yard.name).into(),
@@ -79,8 +78,8 @@ impl Planned {
             jobs: parts.map(|((label, job), row)| PlannedJob { label, job, row }).collect(),
             order: card.order,
             end: card.end,
-            clock: start.unwrap_or(Clock::FROM_ZERO),
-            has_start: start.is_some(),
+            clock: yard.clock.unwrap_or(Clock::FROM_ZERO),
+            has_start: yard.clock.is_some(),
         }
     }
 

@@ -6,7 +6,7 @@ use crate::planned::labels;
 use crate::{json, list};
 use depot_host::{read, Reading, Refusal};
 
-const SHEET: Takes = Takes { verb: "sheet", flags: &[], values: &["-o"], plain: &["a list"], needed: 1 };
+const SHEET: Takes = Takes { verb: "sheet", flags: &[], values: &["-o", "--start"], plain: &["a list"], needed: 1 };
 const LIST: Takes = Takes { verb: "list", flags: &["--json"], values: &["-o", "--start"], plain: &["a sheet"], needed: 1 };
 
 pub fn sheet(words: &[String]) -> Result<Outcome, Trouble> {
@@ -14,8 +14,9 @@ pub fn sheet(words: &[String]) -> Result<Outcome, Trouble> {
     let Some(target) = arguments.value("-o") else {
         return Err(Trouble::usage("-o FILE is missing", "sheet"));
     };
+    let start = arguments.read_value("--start", Clock::starting, START_ALLOWED)?;
     let file = arguments.plain(0).expect("a list is needed");
-    let list = list::read(file, &bytes_of(file)?)?;
+    let list = list::read(file, &bytes_of(file)?, start)?;
     match list.sheet() {
         Ok(sheet) => put(target, &sheet).map(|()| Outcome::Answered),
         Err(refusal) => refused(file, refusal),

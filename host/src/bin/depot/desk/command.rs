@@ -48,9 +48,15 @@ fn number(word: &str, what: &str) -> Result<u32, String> {
 fn controller(word: &str, names: &[String]) -> Result<u32, String> {
     let named = names.iter().position(|name| name == word).map(|place| place as u32);
     named.or_else(|| whole(word)).ok_or_else(|| {
-        let known = if names.is_empty() { String::new() } else { format!(" or one of the names {}", names.join(", ")) };
+        let given: Vec<&str> = given_names(names).collect();
+        let known = if given.is_empty() { String::new() } else { format!(" or one of the names {}", given.join(", ")) };
         format!("found '{word}'; allowed: a controller's number{known}")
     })
+}
+
+/// The names that an opening gave; no other name is one word.
+pub fn given_names(names: &[String]) -> impl Iterator<Item = &str> {
+    names.iter().map(String::as_str).filter(|name| !name.contains(' '))
 }
 
 fn open(limit: &str, words: &[&str]) -> Result<Command, String> {
@@ -72,7 +78,7 @@ fn place(number: usize, word: &str) -> Result<Place, String> {
     let (name, figures) = match word.split_once('=') {
         Some((name, _)) if name.is_empty() || whole(name).is_some() => return Err(wrong()),
         Some((name, figures)) => (name.to_string(), figures),
-        None => (number.to_string(), word),
+        None => (format!("controller {number}"), word),
     };
     let (assured, ceiling) = figures.split_once('/').ok_or_else(wrong)?;
     Ok(Place { name, assured: whole(assured).ok_or_else(wrong)?, ceiling: whole(ceiling).ok_or_else(wrong)? })

@@ -1,6 +1,6 @@
 //! The sums behind a refusal, in plain words: document 01's, from the desk's fields. The number itself is the library's.
 use super::bars::may_claim;
-use super::command::Place;
+use super::command::{given_names, Place};
 use depot_host::{Desk, Refusal};
 
 /// What a look gives, in words.
@@ -43,7 +43,9 @@ pub fn of_opening(limit: u32, places: &[Place], refusal: Refusal) -> Vec<String>
 pub fn of_call(desk: &Desk, names: &[String], controller: u32, modules: u32, refusal: Refusal) -> Vec<String> {
     let own = controller as usize;
     if refusal == Refusal::NoSuchNumber {
-        return vec![format!("this desk has the controllers 0 to {}: {}", desk.count.saturating_sub(1), names.join(", "))];
+        let given: Vec<&str> = given_names(names).collect();
+        let known = if given.is_empty() { String::new() } else { format!(": {}", given.join(", ")) };
+        return vec![format!("this desk has the controllers 0 to {}{known}", desk.count.saturating_sub(1))];
     }
     let name = &names[own];
     let held = desk.held[own];

@@ -26,13 +26,16 @@ struct Reader {
     faults: Faults,
     modules: Option<u16>,
     clock: Option<Clock>,
+    /// Whether the clock stands in place of the list's.
+    given: bool,
     header: Option<Header>,
     entries: Vec<Entry>,
 }
 
-/// The list that these bytes say.
-pub fn read(file: &str, bytes: &[u8]) -> Result<List, Trouble> {
-    let mut reader = Reader { faults: Faults::default(), modules: None, clock: None, header: None, entries: Vec::new() };
+/// The list that these bytes say; a given start stands in place of the list's.
+pub fn read(file: &str, bytes: &[u8], start: Option<Clock>) -> Result<List, Trouble> {
+    let given = start.is_some();
+    let mut reader = Reader { faults: Faults::default(), modules: None, clock: start, given, header: None, entries: Vec::new() };
     let mut last = 1;
     let bytes = bytes.strip_prefix(b"\xEF\xBB\xBF").unwrap_or(bytes);
     for (place, line) in bytes.split(|byte| *byte == b'\n').enumerate() {
@@ -93,6 +96,7 @@ impl Reader {
     fn start(&mut self, line: usize, values: &[String]) {
         let read = if let [word] = values { Clock::starting(word) } else { None };
         match read {
+            Some(_) if self.given => {}
             Some(clock) if self.clock.is_none() => self.clock = Some(clock),
             Some(_) => self.faults.put(line, None, "a second line 'start'", "one such line"),
             None => self.faults.put(line, Some((2, "start time")), shown(&values.join(",")), START_ALLOWED),
