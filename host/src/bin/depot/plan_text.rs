@@ -18,23 +18,26 @@ const NAMED: usize = 6;
 
 /// What is said of the plan in front of its table.
 pub fn summary(plan: &Planned) -> Vec<String> {
-    let mut lines = vec![format!("{}. The last is full at {}.", plan.size(), plan.end_in_words())];
     if plan.jobs.is_empty() {
-        lines[0] = format!("{}: nothing to plan; the plan ends at minute 0.", plan.size());
-        return lines;
+        return vec![format!("{}: nothing to plan; the plan ends at minute 0.", plan.size())];
     }
-    let mut late: Vec<String> = plan.late().map(|job| format!("{} ({})", job.label, lateness_in_words(job.lateness()))).collect();
-    let count = late.len();
-    if count > NAMED {
-        late.truncate(NAMED);
-        late.push(format!("and {} more", count - NAMED));
+    vec![format!("{}. The last is full at {}.", plan.size(), plan.end_in_words()), late_in_words(plan, NAMED)]
+}
+
+/// How many jobs are late, and which; so many of them are named.
+pub fn late_in_words(plan: &Planned, named: usize) -> String {
+    let late: Vec<_> = plan.late().collect();
+    let count = match late.len() {
+        0 => return "Every bus is full by its departure.".into(),
+        1 => "1 bus is full only after its departure".into(),
+        count => format!("{count} buses are full only after their departures"),
+    };
+    let mut names: Vec<String> =
+        late.iter().take(named).map(|job| format!("{} ({})", job.label, lateness_in_words(job.lateness()))).collect();
+    if late.len() > named && named > 0 {
+        names.push(format!("and {} more", late.len() - named));
     }
-    lines.push(match count {
-        0 => "Every bus is full by its departure.".into(),
-        1 => format!("1 bus is full only after its departure: {}.", late[0]),
-        count => format!("{count} buses are full only after their departures: {}.", late.join(", ")),
-    });
-    lines
+    format!("{count}{}{}.", if names.is_empty() { "" } else { ": " }, names.join(", "))
 }
 
 /// The columns of the table, a text for each cell; the first row is the header.

@@ -48,9 +48,15 @@ fn picture(plan: &Planned, style: &str) -> String {
 }
 
 fn title(plan: &Planned) -> String {
-    let mut svg = words::at("title", frame::MARGIN, 34.0, &plan.name);
-    for (place, line) in plan_text::summary(plan).iter().enumerate() {
-        svg += &words::within("lead", 13.0, frame::MARGIN, 54.0 + 17.0 * place as f64, line, frame::WIDTH - 2.0 * frame::MARGIN);
+    const SIZE: f64 = 13.0;
+    let room = frame::WIDTH - 2.0 * frame::MARGIN;
+    let mut lines = plan_text::summary(plan);
+    if let Some(late) = lines.get_mut(1).filter(|late| words::width(late, SIZE) > 1.1 * room) {
+        *late = plan_text::late_in_words(plan, 0);
+    }
+    let mut svg = words::within("title", 19.0 * words::BOLD, frame::MARGIN, 34.0, &plan.name, room);
+    for (place, line) in lines.iter().enumerate() {
+        svg += &words::within("lead", SIZE, frame::MARGIN, 54.0 + 17.0 * place as f64, line, room);
     }
     svg
 }
