@@ -2,6 +2,7 @@
 mod csv;
 mod fault;
 mod reader;
+mod words;
 mod writer;
 
 use crate::clock::Clock;
