@@ -156,7 +156,7 @@ fn over_wide_and_circular() {
         assert_eq!(depot(&["sheet", &list, "-o", "-"], b"").status, 0);
     };
     refused(
-        "A,4,10,,30\nB,17,10,,30\nC,20,10,,30\n",
+        "A,16,10,,30\nB,17,10,,30\nC,20,10,,30\n",
         8,
         &["  B (line 4) needs 17 modules; the cabinet has 16", "  C (line 5) needs 20 modules; the cabinet has 16"],
     );

@@ -191,6 +191,13 @@ fn every_sheet_comes_back() {
         for (place, byte) in sheet.labels.iter_mut().enumerate() {
             *byte = if place % 2 == 0 { random.pick(b"#\",;0123'") } else { *byte };
         }
+        if turn % 5 == 4 {
+            // labels that name several jobs, or look like numbers of jobs
+            let label = random.pick(&[*b"B7", *b"#1", *b"12"]);
+            sheet.jobs.iter_mut().for_each(|job| job.label_len = 2);
+            sheet.labels = label.repeat(sheet.jobs.len());
+            sheet.offset = sheet.labels.len() as u32;
+        }
         let bytes = sheet.bytes();
         let words =
             if turn % 3 == 0 { vec!["list", "-", "-o", &list, "--start", "23:10"] } else { vec!["list", "-", "-o", &list] };

@@ -78,10 +78,11 @@ pub struct Answers {
 
 impl Answers {
     /// The library's answer and desk are the reference's; refused, the desk is as before.
-    fn same(&mut self, kind: usize, answer: u32, desk: &Desk, before: &Desk, expected: Result<Desk, u32>) {
+    fn same(&mut self, kind: usize, answer: u32, desks: (&Desk, &Desk), expected: Result<Desk, u32>, call: &dyn Fn() -> String) {
+        let (before, desk) = desks;
         let number = expected.err().unwrap_or(0);
-        assert_eq!(answer, number, "kind {kind} on {before:?}");
-        assert_eq!(*desk, expected.unwrap_or(*before), "kind {kind} on {before:?}");
+        assert_eq!(answer, number, "{} on {before:?}", call());
+        assert_eq!(*desk, expected.unwrap_or(*before), "{} on {before:?}", call());
         self.by[kind][number as usize] += 1;
     }
 
@@ -91,7 +92,8 @@ impl Answers {
         // SAFETY: live slices and a live desk.
         let answer =
             unsafe { ffi::depot_desk_open(desk, limit, assured.as_ptr(), assured.len(), ceilings.as_ptr(), ceilings.len()) };
-        self.same(0, answer, desk, &before, reference::open(limit, &assured, &ceilings));
+        let expected = reference::open(limit, &assured, &ceilings);
+        self.same(0, answer, (&before, desk), expected, &|| format!("open {limit} {assured:?} {ceilings:?}"));
     }
 
     fn claim(&mut self, random: &mut Random, desk: &mut Desk, controller: u32) {
@@ -100,7 +102,8 @@ impl Answers {
         let before = *desk;
         // SAFETY: a live desk.
         let answer = unsafe { ffi::depot_desk_claim(desk, controller, modules) };
-        self.same(1, answer, desk, &before, reference::claim(&before, controller, modules));
+        let expected = reference::claim(&before, controller, modules);
+        self.same(1, answer, (&before, desk), expected, &|| format!("claim {controller} {modules}"));
     }
 
     fn hand_back(&mut self, random: &mut Random, desk: &mut Desk, controller: u32) {
@@ -109,7 +112,8 @@ impl Answers {
         let before = *desk;
         // SAFETY: a live desk.
         let answer = unsafe { ffi::depot_desk_hand_back(desk, controller, modules) };
-        self.same(2, answer, desk, &before, reference::hand_back(&before, controller, modules));
+        let expected = reference::hand_back(&before, controller, modules);
+        self.same(2, answer, (&before, desk), expected, &|| format!("hand back {controller} {modules}"));
     }
 
     fn look(&mut self, random: &mut Random, desk: &mut Desk, controller: u32) {
@@ -119,8 +123,8 @@ impl Answers {
         // SAFETY: a live desk and a live number.
         let answer = unsafe { ffi::depot_desk_look(desk, controller, &mut shown) };
         let expected = reference::look(&before, controller);
-        assert_eq!(shown, expected.unwrap_or(shown_before), "look on {before:?}");
-        self.same(3, answer, desk, &before, expected.map(|_| before));
+        assert_eq!(shown, expected.unwrap_or(shown_before), "look {controller} on {before:?}");
+        self.same(3, answer, (&before, desk), expected.map(|_| before), &|| format!("look {controller}"));
     }
 
     /// Opens a desk, changes its figures now and then, and makes calls on it.
