@@ -188,6 +188,17 @@ fn sheets_that_do_not_read() {
     }
 }
 
+/// A list by another name is taken for a sheet; what is said helps.
+#[test]
+fn a_list_taken_for_a_sheet() {
+    for verb in ["plan", "list"] {
+        let ran = depot(&[verb, "-"], format!("{HEAD}A,1,10,,30\n").as_bytes());
+        assert_eq!(ran.status, 1);
+        let help = "  this looks like a list: 'depot plan' and 'depot sheet' take it by a name that ends in .csv";
+        assert_eq!(ran.errors.lines().nth(1), Some(help), "{}", ran.errors);
+    }
+}
+
 /// A wrong command line: status 2, nothing on standard output, and what to read.
 #[test]
 fn words() {

@@ -61,9 +61,7 @@ fn refused(yard: &Yard, refusal: Refusal, form: Form) -> Result<Outcome, Trouble
         Form::Raw => say(&format!("refused {}\n", refusal.number()))?,
         Form::Json => say(&(json::refusal(refusal) + "\n"))?,
         Form::Table => {
-            eprintln!("{}: refused {}: {refusal}", yard.name, refusal.number());
-            pointer::lines(yard, refusal).iter().for_each(|line| eprintln!("  {line}"));
-            eprintln!("  'depot explain {}' says what to do", refusal.number());
+            pointer::tell(&yard.name, refusal, &pointer::lines(yard, refusal));
             Outcome::Refused
         }
     };

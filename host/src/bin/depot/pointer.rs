@@ -2,9 +2,17 @@
 use crate::planned::{labels, Yard};
 use depot_host::{read, Job, Refusal};
 
-/// Lines that point at jobs of the sheet.
+/// Says on standard error that a file was refused, with what may help.
+pub fn tell(file: &str, refusal: Refusal, help: &[String]) {
+    let number = refusal.number();
+    eprintln!("{file}: refused {number}: {refusal}");
+    help.iter().for_each(|line| eprintln!("  {line}"));
+    eprintln!("  'depot explain {number}' says what to do");
+}
+
+/// Lines that point at jobs of the sheet, or at what the file seems to be.
 pub fn lines(yard: &Yard, refusal: Refusal) -> Vec<String> {
-    let Ok(reading) = read(&yard.sheet) else { return Vec::new() };
+    let Ok(reading) = read(&yard.sheet) else { return of_file(&yard.sheet) };
     let labels = labels(&yard.sheet, &reading);
     let name = |job: usize| match yard.lines.get(job) {
         Some(line) => format!("{} (line {line})", labels[job]),
@@ -28,6 +36,15 @@ pub fn lines(yard: &Yard, refusal: Refusal) -> Vec<String> {
         }
         _ => Vec::new(),
     }
+}
+
+/// A list that was taken for a sheet.
+pub fn of_file(bytes: &[u8]) -> Vec<String> {
+    let text = String::from_utf8_lossy(bytes).to_ascii_lowercase();
+    if text.contains("cabinet,") || text.contains("label,") || text.contains(",label") {
+        return vec!["this looks like a list: 'depot plan' and 'depot sheet' take it by a name that ends in .csv".into()];
+    }
+    Vec::new()
 }
 
 /// Jobs of which each waits for the next and the last for the first; none where there is no such circle.

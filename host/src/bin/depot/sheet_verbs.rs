@@ -3,7 +3,7 @@ use crate::arguments::{Arguments, Takes};
 use crate::clock::{Clock, START_ALLOWED};
 use crate::outcome::{bytes_of, put, say, Outcome, Trouble};
 use crate::planned::labels;
-use crate::{json, list};
+use crate::{json, list, pointer};
 use depot_host::{read, Reading, Refusal};
 
 const SHEET: Takes = Takes { verb: "sheet", flags: &[], values: &["-o", "--start"], plain: &["a list"], needed: 1 };
@@ -19,7 +19,7 @@ pub fn sheet(words: &[String]) -> Result<Outcome, Trouble> {
     let list = list::read(file, &bytes_of(file)?, start)?;
     match list.sheet() {
         Ok(sheet) => put(target, &sheet).map(|()| Outcome::Answered),
-        Err(refusal) => refused(file, refusal),
+        Err(refusal) => refused(file, refusal, &[]),
     }
 }
 
@@ -36,7 +36,7 @@ pub fn list(words: &[String]) -> Result<Outcome, Trouble> {
             say(&(json::refusal(refusal) + "\n"))?;
             return Ok(Outcome::Refused);
         }
-        Err(refusal) => return refused(file, refusal),
+        Err(refusal) => return refused(file, refusal, &pointer::of_file(&sheet)),
     };
     match arguments.value("-o") {
         Some(target) => put(target, text.as_bytes()).map(|()| Outcome::Answered),
@@ -44,9 +44,8 @@ pub fn list(words: &[String]) -> Result<Outcome, Trouble> {
     }
 }
 
-fn refused(file: &str, refusal: Refusal) -> Result<Outcome, Trouble> {
-    let number = refusal.number();
-    eprintln!("{file}: refused {number}: {refusal}\n  'depot explain {number}' says what to do");
+fn refused(file: &str, refusal: Refusal, help: &[String]) -> Result<Outcome, Trouble> {
+    pointer::tell(file, refusal, help);
     Ok(Outcome::Refused)
 }
 
