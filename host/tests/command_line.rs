@@ -62,11 +62,8 @@ fn plans_and_pictures() {
         let [svg, html, card] = ["svg", "html", "card"].map(|kind| file(&format!("{name}.{kind}"), b""));
         let ran = depot(&["plan", &list, "--svg", &svg, "--html", &html, "--card", &card], b"");
         assert_eq!(ran.status, 0, "{}", ran.errors);
-        assert!(
-            ran.errors.lines().all(|line| name == HARD && line.starts_with("searching for the earliest end: ")),
-            "{}",
-            ran.errors
-        );
+        let progress = |line: &str| line.starts_with("searching for the earliest end: ") || line.starts_with("searched for ");
+        assert!(ran.errors.lines().all(|line| name == HARD && progress(line)), "{}", ran.errors);
         same(&format!("host/tests/golden/plan-{name}.txt"), &ran.output);
         let drawn = fs::read(&svg).unwrap();
         same(&picture, &drawn);

@@ -28,12 +28,12 @@ pub fn text(plan: &Planned) -> String {
          <meta name=\"viewport\" content=\"width=device-width, initial-scale=1\">\n<meta name=\"color-scheme\" content=\"light dark\">\n\
          <title>{title}</title>\n<style>{RULES}{light}@media screen and (prefers-color-scheme:dark){{{dark}}}</style>\n</head>\n<body>\n\
          <main>\n{}<section class=\"table\">\n<h2>{title}</h2>\n<p>{}</p>\n{}</section>\n</main>\n\
-         <footer><p>Starting order: {}.</p><p>No valid plan of this sheet ends earlier: start, end and modules of every job are those \
+         <footer>{}<p>No valid plan of this sheet ends earlier: start, end and modules of every job are those \
          of the proved planner's card.</p></footer>\n</body>\n</html>\n",
         chart::part(plan),
         escaped(&summary(plan).join(" ")),
         table(plan),
-        escaped(&order.join(", "))
+        if order.is_empty() { String::new() } else { format!("<p>Starting order: {}.</p>", escaped(&order.join(", "))) }
     )
 }
 

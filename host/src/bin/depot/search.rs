@@ -36,8 +36,9 @@ fn wait<T>(receive: &mpsc::Receiver<T>) -> T {
     loop {
         match receive.recv_timeout(pause) {
             Ok(answer) => {
-                if said && terminal {
-                    eprint!("\r\x1b[K");
+                if said {
+                    let clear = if terminal { "\r\x1b[K" } else { "" };
+                    eprintln!("{clear}searched for {}", took(start.elapsed().as_secs()));
                 }
                 return answer;
             }
