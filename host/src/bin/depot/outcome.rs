@@ -14,8 +14,8 @@ pub enum Outcome {
 pub enum Trouble {
     /// The command line is wrong; the verb whose help is to be read, if any.
     Usage { why: String, verb: String },
-    /// A file cannot be read or written.
-    File(String),
+    /// A file cannot be read or written, or has lines that are no commands.
+    Input(String),
     /// The list has faults, a line for each.
     List(String),
 }
@@ -28,7 +28,7 @@ impl Trouble {
     pub fn status(&self) -> i32 {
         match self {
             Trouble::List(_) => 1,
-            Trouble::Usage { .. } | Trouble::File(_) => 2,
+            Trouble::Usage { .. } | Trouble::Input(_) => 2,
         }
     }
 
@@ -37,7 +37,7 @@ impl Trouble {
         match self {
             Trouble::Usage { why, verb } if verb.is_empty() => eprintln!("depot: {why}; 'depot --help' names the verbs"),
             Trouble::Usage { why, verb } => eprintln!("depot {verb}: {why}; 'depot {verb} --help' shows what it takes"),
-            Trouble::File(why) => eprintln!("depot: {why}"),
+            Trouble::Input(why) => eprintln!("depot: {why}"),
             Trouble::List(faults) => eprint!("{faults}"),
         }
     }
@@ -47,23 +47,21 @@ impl Trouble {
 pub fn say(text: &str) -> Result<Outcome, Trouble> {
     let mut output = io::stdout().lock();
     match output.write_all(text.as_bytes()).and_then(|()| output.flush()) {
-        Err(why) if why.kind() != io::ErrorKind::BrokenPipe => Err(Trouble::File(format!("standard output: {why}"))),
+        Err(why) if why.kind() != io::ErrorKind::BrokenPipe => Err(Trouble::Input(format!("standard output: {why}"))),
         _ => Ok(Outcome::Answered),
     }
 }
 
 /// The bytes of a file, or of standard input where the name is `-`.
 pub fn bytes_of(file: &str) -> Result<Vec<u8>, Trouble> {
-    let mut bytes = Vec::new();
-    let read =
-        if file == "-" { io::stdin().read_to_end(&mut bytes) } else { fs::read(file).map(|all| bytes.extend(all)).map(|()| 0) };
-    read.map(|_| bytes).map_err(|why| Trouble::File(format!("'{file}' cannot be read: {}", plain(&why))))
+    let read = if file == "-" { io::stdin().lock().bytes().collect() } else { fs::read(file) };
+    read.map_err(|why| Trouble::Input(format!("'{file}' cannot be read: {}", plain(&why))))
 }
 
 /// Writes a file, or standard output where the name is `-`.
 pub fn put(file: &str, bytes: &[u8]) -> Result<(), Trouble> {
     let written = if file == "-" { io::stdout().lock().write_all(bytes) } else { fs::write(file, bytes) };
-    written.map_err(|why| Trouble::File(format!("'{file}' cannot be written: {}", plain(&why))))
+    written.map_err(|why| Trouble::Input(format!("'{file}' cannot be written: {}", plain(&why))))
 }
 
 fn plain(why: &io::Error) -> String {

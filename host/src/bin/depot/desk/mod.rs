@@ -43,7 +43,9 @@ pub fn run(words: &[String]) -> Result<Outcome, Trouble> {
     match lines {
         Lines { wrong: 0, refused: 0 } => Ok(Outcome::Answered),
         Lines { wrong: 0, .. } => Ok(Outcome::Refused),
-        Lines { wrong, .. } => Err(Trouble::File(format!("{wrong} line{} no command", if wrong == 1 { " is" } else { "s are" }))),
+        Lines { wrong, .. } => {
+            Err(Trouble::Input(format!("{wrong} line{} no command", if wrong == 1 { " is" } else { "s are" })))
+        }
     }
 }
 
@@ -55,7 +57,7 @@ fn from_keyboard(session: &mut Session, lines: &mut Lines, as_json: bool) -> Res
     }
     prompt()?;
     for line in io::stdin().lock().lines() {
-        let line = line.map_err(|why| Trouble::File(format!("standard input: {why}")))?;
+        let line = line.map_err(|why| Trouble::Input(format!("standard input: {why}")))?;
         if !lines.take(session, &line, as_json, "")? {
             return Ok(());
         }

@@ -25,11 +25,16 @@ impl Faults {
         self.0.push(Fault { line, column, found: found.into(), allowed: allowed.into() });
     }
 
-    /// The list where nothing is wrong; else every fault, in the order of the lines.
-    pub fn or<T>(mut self, file: &str, list: T) -> Result<T, Trouble> {
+    /// The list where nothing is wrong; else every fault.
+    pub fn or<T>(self, file: &str, list: T) -> Result<T, Trouble> {
         if self.0.is_empty() {
             return Ok(list);
         }
+        Err(self.told(file))
+    }
+
+    /// Every fault, in the order of the lines.
+    pub fn told(mut self, file: &str) -> Trouble {
         self.0.sort_by_key(|fault| fault.line);
         let mut text = String::new();
         for fault in self.0.iter().take(SHOWN) {
@@ -39,6 +44,6 @@ impl Faults {
         if self.0.len() > SHOWN {
             writeln!(text, "{file}: and {} more", self.0.len() - SHOWN).unwrap();
         }
-        Err(Trouble::List(text))
+        Trouble::List(text)
     }
 }

@@ -193,7 +193,7 @@ impl Reader {
         }
         if let Some(entry) = self.entries.get(MOST_JOBS) {
             self.faults.put(entry.line, None, format!("job {} of {}", MOST_JOBS + 1, self.entries.len()), "up to 20 jobs");
-            return self.faults.or(file, unreachable_list());
+            return Err(self.faults.told(file));
         }
         let column = self.header.as_ref().and_then(|header| header.columns[3]).map(|place| (place + 1, COLUMNS[3]));
         let labels: Vec<String> = self.entries.iter().map(|entry| entry.label.clone()).collect();
@@ -214,9 +214,4 @@ impl Reader {
         };
         self.faults.or(file, list)
     }
-}
-
-/// A list that no caller sees: there is a fault already.
-fn unreachable_list() -> List {
-    List { modules: 1, clock: None, jobs: Vec::new(), labels: Vec::new(), lines: Vec::new() }
 }
