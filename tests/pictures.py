@@ -9,6 +9,7 @@ import pathlib
 import shutil
 import subprocess
 import sys
+import xml.dom.minidom
 
 ROOT = pathlib.Path(__file__).parent.parent
 DEPOT = ROOT / 'host/target/release/depot'
@@ -65,6 +66,7 @@ def looked_at(name, source):
     run = subprocess.run([DEPOT, 'plan', source, '--html', page, '--svg', SEEN / f'{name}.svg'], capture_output=True, text=True)
     if run.returncode != 0:
         return f'depot plan: {run.stderr}'
+    xml.dom.minidom.parse(str(SEEN / f'{name}.svg'))
     for mode, words in {'light': [], 'dark': ['--blink-settings=preferredColorScheme=0']}.items():
         picture = SEEN / f'{name}-{mode}.png'
         picture.unlink(missing_ok=True)

@@ -109,8 +109,9 @@ fn columns() {
     }
     let twice = faults(b"cabinet,4\nlabel,modules,minutes,departure,Label\n");
     assert_eq!(twice, ["line 2, column 5 (Label): found a column that stands twice; allowed: each column once"]);
-    let semicolons = faults(b"cabinet,4\nlabel;modules;minutes;departure\n");
-    assert!(semicolons[0].ends_with(&format!("found 'label;modules;minutes;departure'; allowed: {all}, separated by commas")));
+    let no_header = faults(b"cabinet,4\nA,1,10,,30\nB,1,10,,30\n");
+    let header = "line 2: found 'A,1,10,,30'; allowed: a header line before the jobs, as label,modules,minutes,after,departure";
+    assert_eq!(no_header, [header]);
     row("A,1,10,,30,extra", "line 3, column 6 (no column): found 'extra' behind the last column; allowed: 5 fields");
     let quotes = "a field as it is, or all of it in double quotes, with a double quote inside written twice";
     row("A,1,10,\"B,30", &format!("line 3, column 4 (after): found a double quote that nothing closes; allowed: {quotes}"));

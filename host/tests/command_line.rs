@@ -215,6 +215,7 @@ fn lists_as_people_write_them() {
         "\u{feff}cabinet,4\r\nlabel,modules,minutes,after,departure\r\nA,1,10,,30\r\nB,2,20,A,25\r\n",
         "# a remark\n\nCabinet , 4,,,\n\nAfter,Departure,Label,Minutes,Modules\n,30,A,10,1\n#0,25,\"B\",20,2\n,,,,\n",
         "cabinet,4\nstart,21:00\nlabel,modules,minutes,after,departure\nA,1,10,,21:30\nB,2,20, A ,21:25",
+        "cabinet;4;;;\r\nlabel;modules;minutes;after;departure\r\nA;1;10;;30\r\nB;2;20;A;25\r\n",
         "start,23:50\ncabinet,4\nlabel,modules,minutes,departure,after\nA,1,10,0:20+1\nB,2,20,25,A\n",
     ];
     let late = "cabinet,4\nstart,09:00\nlabel,modules,minutes,after,departure\nA,1,10,,21:30\nB,2,20,A,25\n";

@@ -35,8 +35,8 @@ A list is a text with a line for each job:
   departure  a minute counted from the start, 0 to 2880; with a line 'start' also a time: 05:30 is the first from the start on,
              05:30+1 the one on the day after the start's
 
-Up to 20 jobs. Fields are separated by commas; one with a comma or a double quote in it stands in double quotes, with a double
-quote written twice. Lines that begin with # and a space are remarks.
+Up to 20 jobs. Fields are separated by commas, or all by semicolons; one with such a sign or a double quote in it stands in double
+quotes, with a double quote written twice. Lines that begin with # and a space are remarks.
 ";
 
 const PLAN: &str = "\

@@ -29,6 +29,8 @@ struct Reader {
     clock: Option<Clock>,
     /// Whether the clock stands in place of the list's.
     given: bool,
+    /// What separates fields, once the first line has been read.
+    separator: Option<char>,
     header: Option<Header>,
     entries: Vec<Entry>,
 }
@@ -36,7 +38,15 @@ struct Reader {
 /// The list that these bytes say; a given start stands in place of the list's.
 pub fn read(file: &str, bytes: &[u8], start: Option<Clock>) -> Result<List, Trouble> {
     let given = start.is_some();
-    let mut reader = Reader { faults: Faults::default(), modules: None, clock: start, given, header: None, entries: Vec::new() };
+    let mut reader = Reader {
+        faults: Faults::default(),
+        modules: None,
+        clock: start,
+        given,
+        separator: None,
+        header: None,
+        entries: Vec::new(),
+    };
     let mut last = 1;
     let bytes = bytes.strip_prefix(b"\xEF\xBB\xBF").unwrap_or(bytes);
     for (place, line) in bytes.split(|byte| *byte == b'\n').enumerate() {
@@ -54,7 +64,8 @@ impl Reader {
         if line.is_empty() || csv::is_remark(line) {
             return;
         }
-        let mut fields = match csv::fields(line) {
+        let separator = *self.separator.get_or_insert_with(|| csv::separator(line));
+        let mut fields = match csv::fields(line, separator) {
             Ok(fields) => fields,
             Err((column, why)) => {
                 let name = self.name_of(column).unwrap_or("text");
@@ -107,14 +118,19 @@ impl Reader {
     fn header(&mut self, line: usize, fields: &[String]) {
         let place = |name: &str| fields.iter().position(|field| field.eq_ignore_ascii_case(name));
         let columns: Vec<Option<usize>> = COLUMNS.iter().map(|name| place(name)).collect();
+        if columns.iter().all(Option::is_none) {
+            let allowed = format!("a header line before the jobs, as {}", COLUMNS.join(","));
+            self.faults.put(line, None, shown(&fields.join(",")), allowed);
+            self.header = Some(Header { columns, line });
+            return;
+        }
         for (number, field) in fields.iter().enumerate() {
             let known = columns.contains(&Some(number));
             let again = COLUMNS.iter().any(|name| field.eq_ignore_ascii_case(name));
             if !known && again {
                 self.faults.put(line, Some((number + 1, field)), "a column that stands twice", "each column once");
             } else if !known {
-                let hint = if field.contains(';') { ", separated by commas" } else { "" };
-                let allowed = format!("the columns {}{hint}", COLUMNS.join(", "));
+                let allowed = format!("the columns {}", COLUMNS.join(", "));
                 self.faults.put(line, Some((number + 1, "header")), shown(field), allowed);
             }
         }
