@@ -1,11 +1,16 @@
 #!/usr/bin/env python3
-"""Runs target/bin/print_plan on sheets and compares what it prints with the lines of document 01, written out here."""
+"""Runs target/bin/print_plan on sheets and compares what it prints with the lines of document 01, written out here.
+
+'depot plan --raw' is held to the same cases, which stand in host/tests/golden/printed.txt: --write writes that file, and without
+it the file is compared."""
 import pathlib
 import struct
 import subprocess
 import sys
 
-PROGRAM = pathlib.Path(__file__).parent.parent / 'target/bin/print_plan'
+ROOT = pathlib.Path(__file__).parent.parent
+PROGRAM = ROOT / 'target/bin/print_plan'
+CASES = ROOT / 'host/tests/golden/printed.txt'
 
 
 def record(label=1, modules=1, minutes=10, earlier=0, departure=30):
@@ -78,15 +83,25 @@ REFUSED = [
 ]
 
 
+def cases_text(cases):
+    """Every case of a sheet that is not too long to be kept: its name, the sheet in hexadecimal, the lines."""
+    return ''.join(f'case {name}\nsheet {s.hex()}\n{lines}' for name, s, lines in cases if len(s) < 1000)
+
+
 def main():
     cases = PLANS + [(f'refusal {k}: {name}', s, f'refused {k}\n') for k, name, s in REFUSED]
+    if '--write' in sys.argv[1:]:
+        CASES.write_text(cases_text(cases))
     failed = 0
+    if CASES.read_text() != cases_text(cases):
+        failed += 1
+        print(f'{CASES.relative_to(ROOT)} has other cases: write it with --write')
     for name, s, lines in cases:
         run = subprocess.run([PROGRAM], input=s, capture_output=True)
         if (run.returncode, run.stdout, run.stderr) != (0, lines.encode(), b''):
             failed += 1
             print(f'{name}: expected {lines!r}, got {run.stdout!r}, status {run.returncode}, errors {run.stderr!r}')
-    print(f'{len(cases) - failed} passed, {failed} failed')
+    print(f'{len(cases) + 1 - failed} passed, {failed} failed')
     sys.exit(1 if failed else 0)
 
 

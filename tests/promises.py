@@ -1,11 +1,13 @@
 #!/usr/bin/env python3
-"""Whether docs/PROMISES.md cites what there is: every file that it names exists, and has the names that stand behind it."""
+"""Whether the documents cite what there is: every file that their tables name exists, and has the names that stand behind it."""
 import pathlib
 import re
 import sys
 
 ROOT = pathlib.Path(__file__).parent.parent
 CRATES = ROOT / 'crates'
+# the documents, and how many rows each has at least
+DOCUMENTS = {'docs/PROMISES.md': 50, 'docs/PAGE-TWELVE.md': 30}
 
 
 def tokens(path):
@@ -35,17 +37,29 @@ def missing(cell, everywhere):
             yield cited
 
 
+def rows_of(document):
+    """The rows of its tables, without the heads."""
+    lines = (ROOT / document).read_text().split('\n')
+    is_head = [following.startswith('|---') for following in lines[1:] + ['']]
+    return [line for line, head in zip(lines, is_head) if line.startswith('| ') and not head]
+
+
 def main():
-    text = (ROOT / 'docs/PROMISES.md').read_text()
     everywhere = {crate.name for crate in CRATES.iterdir()} | {edit.stem for edit in CRATES.glob('*/must-fail/*.edit')}
     for kind in ('antt', 'rt'):
         for path in CRATES.rglob('*.' + kind):
             everywhere |= tokens(path)
-    rows = [line for line in text.split('\n') if line.startswith('| ') and not line.startswith('| sentence')]
-    wrong = [(name, row) for row in rows for name in missing(row.rsplit(' | ', 1)[1], everywhere)]
-    for name, row in wrong:
-        print(f'{name}: not where this row says: {row[:90]}')
-    if wrong or len(rows) < 50:
+    failed = False
+    for document, least in DOCUMENTS.items():
+        rows = rows_of(document)
+        for row in rows:
+            for name in missing(row.rsplit(' | ', 1)[1], everywhere):
+                failed = True
+                print(f'{document}: {name}: not where this row says: {row[:90]}')
+        if len(rows) < least:
+            failed = True
+            print(f'{document}: {len(rows)} rows, and there were {least} or more')
+    if failed:
         sys.exit(1)
 
 

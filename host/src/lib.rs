@@ -1,12 +1,15 @@
 //! The depot's planner and share desk for Rust programs: a safe wrapper of the proved static library.
 //!
-//! [`plan`], [`read`], [`label`], [`write()`], [`Desk`] and [`Refusal`] are the product. The other modules test it and measure it.
+//! [`plan`], [`Card`], [`read`], [`label`], [`write()`], [`Desk`] and [`Refusal`] are the product. The other modules test it and
+//! measure it.
 
+mod card;
 mod desk;
 pub mod ffi;
 mod refusal;
 mod sheet;
 
+pub mod compare;
 pub mod families;
 pub mod guarded;
 pub mod lists;
@@ -15,8 +18,10 @@ pub mod random;
 pub mod raw_sheet;
 pub mod reference;
 pub mod stack;
+pub mod units;
 
-pub use desk::Desk;
+pub use card::{Card, Row};
+pub use desk::{Desk, MOST_CONTROLLERS};
 pub use refusal::Refusal;
 pub use sheet::{label, read, write, Job, Reading};
 

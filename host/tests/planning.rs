@@ -1,160 +1,26 @@
-//! The planning call against a reading of document 01 that tries every order: answers, cards, working memory, and no other byte.
-mod sheets;
-
-use depot_host::guarded::{Against, Guarded};
-use depot_host::random::Random;
-use depot_host::{card_length, reference, Refusal, MOST_JOBS};
+//! The planning call on many sheets: `compare/planning.rs` says what is compared.
+use depot_host::compare::planning::Planning;
 
 const SEED: u64 = 20_160;
 const GOOD: usize = 14_000;
 const DAMAGED: usize = 1_000;
 const SCRAMBLED: usize = 2_000;
-/// Every so many sheets are planned with the largest working memory too.
-const LARGEST_EVERY: usize = 2;
-const WORK_LENGTHS: [usize; 5] = [0, 1, 47, 4096, 1 << 20];
-const LARGEST: usize = WORK_LENGTHS[4];
-
-/// Lent memory between guard pages, and noise to fill it with.
-struct Comparison {
-    random: Random,
-    noise: Vec<u8>,
-    sheet: Guarded,
-    card: Guarded,
-    work: Vec<Guarded>,
-    compared: usize,
-    /// How often each number was answered.
-    answers: [usize; 11],
-}
-
-impl Comparison {
-    fn new() -> Comparison {
-        let mut random = Random::new(SEED);
-        let mut noise = vec![0; 2 * LARGEST];
-        random.fill(&mut noise);
-        Comparison {
-            random,
-            noise,
-            sheet: Guarded::new(1024),
-            card: Guarded::new(1024),
-            work: WORK_LENGTHS.map(Guarded::new).into(),
-            compared: 0,
-            answers: [0; 11],
-        }
-    }
-
-    fn noise(&mut self, length: usize) -> Vec<u8> {
-        let from = self.random.place(self.noise.len() - length);
-        self.noise[from..from + length].to_vec()
-    }
-
-    /// Plans the sheet with every working memory, against the end guards, and with one of them against the front guards.
-    fn compare(&mut self, sheet: &[u8], room: usize) {
-        let expected = reference::planning::plan(sheet, room);
-        self.answers[expected.as_ref().err().copied().unwrap_or(0) as usize] += 1;
-        let with_largest = self.compared.is_multiple_of(LARGEST_EVERY);
-        let works = if with_largest { 5 } else { 4 };
-        for work in 0..works {
-            self.call(sheet, room, work, Against::End, &expected);
-        }
-        let work = self.random.place(works);
-        self.call(sheet, room, work, Against::Front, &expected);
-        self.compared += 1;
-    }
-
-    fn call(&mut self, sheet: &[u8], room: usize, work: usize, against: Against, expected: &Result<Vec<u8>, u32>) {
-        let card_before = self.noise(room);
-        let mut work_before = self.noise(WORK_LENGTHS[work]);
-        if self.random.percent(50) {
-            remember_all(&mut work_before);
-        }
-        let lent_sheet = self.sheet.lend(against, sheet);
-        let lent_card = self.card.lend(against, &card_before);
-        let lent_work = self.work[work].lend(against, &work_before);
-        let answer = depot_host::plan(lent_sheet, lent_card, lent_work);
-
-        let about = || format!("sheet {sheet:02x?}, card {room}, work {}, {against:?}", WORK_LENGTHS[work]);
-        let card_left = self.card.left();
-        let work_left = self.work[work].left();
-        match expected {
-            Ok(card) => {
-                assert_eq!(answer, Ok(()), "{}", about());
-                assert_eq!(card_left[..card.len()], card[..], "{}", about());
-                assert_eq!(card_left[card.len()..], card_before[card.len()..], "{}", about());
-                assert!(work_left.iter().all(|byte| *byte == 0), "{}", about());
-            }
-            Err(number) => {
-                assert_eq!(answer.map_err(Refusal::number), Err(*number), "{}", about());
-                assert_eq!(card_left, card_before, "{}", about());
-                assert!(work_left == work_before, "{}", about());
-            }
-        }
-        assert_eq!(self.sheet.left(), sheet);
-        for lent in [&self.sheet, &self.card, &self.work[work]] {
-            assert!(lent.rest_untouched(), "{}", about());
-        }
-    }
-
-    /// Room for the card of so many jobs, or more.
-    fn enough(&mut self, jobs: usize) -> usize {
-        card_length(jobs) + self.random.pick(&[0, 0, 1, 30, 500])
-    }
-}
-
-/// Puts part-plans into working memory, laid out as the search lays them out, that would cut every other: one for each set of up
-/// to 7 jobs, all of them ended at minute 0.
-fn remember_all(work: &mut [u8]) {
-    const ENTRY: usize = 46;
-    const WAYS: usize = 16;
-    let groups = work.len() / (WAYS * ENTRY);
-    for set in (1..128).take_while(|_| groups > 0) {
-        let at = (set % groups * WAYS + set / groups % WAYS) * ENTRY;
-        work[at..at + ENTRY].fill(0);
-        work[at] = set as u8;
-    }
-}
 
 #[test]
 fn planning_is_what_document_01_says() {
-    let mut comparison = Comparison::new();
-    for _ in 0..GOOD {
-        let sheet = sheets::good(&mut comparison.random);
-        let room = comparison.enough(sheet.jobs.len());
-        comparison.compare(&sheet.bytes(), room);
-    }
-    for check in 1..=9 {
-        for _ in 0..DAMAGED {
-            let sheet = sheets::good(&mut comparison.random);
-            let room = if comparison.random.percent(90) { comparison.enough(MOST_JOBS) } else { comparison.random.place(100) };
-            let mut checks = vec![check];
-            if comparison.random.percent(40) {
-                checks.push(comparison.random.between(1, 9));
-            }
-            let bytes = sheets::damaged(&mut comparison.random, sheet, &checks);
-            comparison.compare(&bytes, room);
-        }
-    }
-    for _ in 0..DAMAGED {
-        let sheet = sheets::good(&mut comparison.random);
-        let room = comparison.random.place(card_length(sheet.jobs.len()));
-        comparison.compare(&sheet.bytes(), room);
-    }
-    for _ in 0..SCRAMBLED {
-        let sheet = sheets::good(&mut comparison.random);
-        let room = comparison.enough(MOST_JOBS);
-        let bytes = sheets::scrambled(&mut comparison.random, sheet);
-        comparison.compare(&bytes, room);
-    }
-    println!("{} sheets, answers 0 to 10: {:?}", comparison.compared, comparison.answers);
-    assert!(comparison.answers[0] >= GOOD);
-    assert!(comparison.answers[1..].iter().all(|times| *times >= DAMAGED / 2), "{:?}", comparison.answers);
+    let mut planning = Planning::new(SEED);
+    planning.good(GOOD);
+    (1..=9).for_each(|check| planning.damaged(check, DAMAGED));
+    planning.short_cards(DAMAGED);
+    planning.scrambled(SCRAMBLED);
+    println!("{} sheets, answers 0 to 10: {:?}", planning.compared, planning.answers);
+    assert!(planning.answers[0] >= GOOD);
+    assert!(planning.answers[1..].iter().all(|times| *times >= DAMAGED / 2), "{:?}", planning.answers);
 }
 
 #[test]
 fn bytes_of_no_sheet_are_refused() {
-    let mut comparison = Comparison::new();
-    for length in 0..=460 {
-        let bytes = comparison.noise(length);
-        let room = comparison.enough(MOST_JOBS);
-        comparison.compare(&bytes, room);
-    }
+    let mut planning = Planning::new(SEED);
+    (0..=460).for_each(|length| planning.noisy(length));
+    assert_eq!(planning.compared, 461);
 }

@@ -1,5 +1,5 @@
 //! What the command line asks for.
-use depot_host::{families, lists, lists::List};
+use depot_host::{families, lists, lists::List, units};
 use std::fs;
 use std::time::Duration;
 
@@ -75,7 +75,7 @@ impl Options {
                 "--family" => asked.family = value()?.clone(),
                 "--seed" => asked.seed = value()?.parse().map_err(|_| "--seed takes a number")?,
                 "--lists" => asked.file = Some(value()?.clone()),
-                "--memory" => options.memory = numbers(value()?, bytes)?,
+                "--memory" => options.memory = numbers(value()?, units::bytes)?,
                 "--cutoff" => options.cutoff = seconds(value()?).ok_or("--cutoff takes seconds above 0")?,
                 "--each" => options.each = true,
                 "--help" | "-h" => return Ok(None),
@@ -120,15 +120,6 @@ fn numbers(words: &str, one: fn(&str) -> Option<usize>) -> Result<Vec<usize>, St
 
 fn size(word: &str) -> Option<usize> {
     word.parse().ok().filter(|n| (1..=depot_host::MOST_JOBS).contains(n))
-}
-
-fn bytes(word: &str) -> Option<usize> {
-    let (digits, unit) = match word.as_bytes().last()? {
-        b'K' => (&word[..word.len() - 1], 1 << 10),
-        b'M' => (&word[..word.len() - 1], 1 << 20),
-        _ => (word, 1),
-    };
-    digits.parse::<usize>().ok()?.checked_mul(unit)
 }
 
 fn seconds(word: &str) -> Option<Duration> {

@@ -1,7 +1,7 @@
 //! Random job sheets, good ones and damaged ones.
-use depot_host::random::Random;
-use depot_host::raw_sheet::{mark_earlier, Sheet};
-use depot_host::Job;
+use crate::random::Random;
+use crate::raw_sheet::{mark_earlier, Sheet};
+use crate::Job;
 
 /// A sheet that reads, of up to 7 jobs: no job is too wide and none waits for itself.
 pub fn good(random: &mut Random) -> Sheet {

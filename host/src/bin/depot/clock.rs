@@ -1,0 +1,94 @@
+//! The yard's clock: minutes counted from the plan's start as times of day.
+
+const DAY: u32 = 24 * 60;
+
+/// A clock that shows the time of day, from that of minute 0 on, or the hours since minute 0.
+#[derive(Clone, Copy, Debug, PartialEq, Eq)]
+pub struct Clock {
+    /// The time of day at minute 0, in minutes after midnight.
+    start: Option<u32>,
+}
+
+/// What a start time may look like.
+pub const START_ALLOWED: &str = "a time of day, 00:00 to 23:59";
+
+impl Clock {
+    /// A clock that shows hours and minutes since the start.
+    pub const FROM_ZERO: Clock = Clock { start: None };
+
+    /// The clock of a plan that starts at this time of day.
+    pub fn starting(word: &str) -> Option<Clock> {
+        time_of_day(word).map(|start| Clock { start: Some(start) })
+    }
+
+    /// `21:05`; past the start's day `05:20+1`, with the days since then. Without a start the hours run on: `26:30`.
+    pub fn time(self, minute: u32) -> String {
+        let Some(start) = self.start else {
+            return format!("{}:{:02}", minute / 60, minute % 60);
+        };
+        let all = start + minute;
+        let days = all / DAY;
+        let marked = if days == 0 { String::new() } else { format!("+{days}") };
+        format!("{}{marked}", hours(all % DAY))
+    }
+
+    /// The minute of a time: of `05:20` the first from the start on; of `05:20+1` the one on the day after the start's.
+    pub fn minute(self, word: &str) -> Option<u32> {
+        let start = self.start?;
+        let Some((time, days)) = word.split_once('+') else {
+            return Some((time_of_day(word)? + DAY - start) % DAY);
+        };
+        let days = whole(days).filter(|days| *days <= 99)?;
+        (time_of_day(time)? + DAY * days).checked_sub(start)
+    }
+}
+
+fn hours(minutes: u32) -> String {
+    format!("{:02}:{:02}", minutes / 60, minutes % 60)
+}
+
+fn time_of_day(word: &str) -> Option<u32> {
+    let (hour, minute) = word.split_once(':')?;
+    if hour.is_empty() || hour.len() > 2 || minute.len() != 2 {
+        return None;
+    }
+    let (hour, minute) = (whole(hour)?, whole(minute)?);
+    (hour < 24 && minute < 60).then_some(60 * hour + minute)
+}
+
+/// A number written in digits alone.
+pub fn whole(word: &str) -> Option<u32> {
+    word.bytes().all(|byte| byte.is_ascii_digit()).then(|| word.parse().ok())?
+}
+
+#[cfg(test)]
+mod tests {
+    use super::*;
+
+    #[test]
+    fn times_of_a_night() {
+        let clock = Clock::starting("21:30").unwrap();
+        let shown = [(0, "21:30"), (149, "23:59"), (150, "00:00+1"), (1440, "21:30+1"), (28_800, "21:30+20")];
+        for (minute, time) in shown {
+            assert_eq!(clock.time(minute), time);
+            assert_eq!(clock.minute(time), Some(minute));
+        }
+        assert_eq!(clock.minute("05:20"), Some(470));
+        assert_eq!(clock.minute("21:29"), Some(1439));
+        assert_eq!(clock.minute("9:05"), Some(695));
+        assert_eq!([0, 90, 1590].map(|minute| Clock::FROM_ZERO.time(minute)), ["0:00", "1:30", "26:30"]);
+    }
+
+    #[test]
+    fn what_is_no_time() {
+        let clock = Clock::starting("21:30").unwrap();
+        for word in
+            ["", ":", "24:00", "12:60", "1:5", "12:5", "123:00", "-1:00", "12:00+", "12:00+x", "12:00+100", "a:00", "20:00+0"]
+        {
+            assert_eq!(clock.minute(word), None, "{word}");
+        }
+        for word in ["", "24:00", "7", "07:00+1", "07.00"] {
+            assert_eq!(Clock::starting(word), None, "{word}");
+        }
+    }
+}

@@ -1,0 +1,85 @@
+//! A line's command.
+use crate::clock::whole;
+
+/// A controller's figures in an opening.
+pub struct Place {
+    pub name: String,
+    pub assured: u32,
+    pub ceiling: u32,
+}
+
+pub enum Command {
+    Open { limit: u32, places: Vec<Place> },
+    Claim { controller: u32, modules: u32 },
+    Back { controller: u32, modules: u32 },
+    Look(Option<u32>),
+    Show,
+    Explain(u32),
+    Help,
+    Quit,
+}
+
+/// The command of a line, or why it is none; `names` are the controllers'.
+pub fn read(line: &str, names: &[String]) -> Result<Command, String> {
+    let words: Vec<&str> = line.split_whitespace().collect();
+    match &words[..] {
+        ["open", limit, places @ ..] => open(limit, places),
+        ["open"] => Err("found 'open' alone; allowed: open LIMIT SHARE/CEILING .., as 'open 10 yard=4/10 workshop=3/10'".into()),
+        ["claim", who, modules] => {
+            Ok(Command::Claim { controller: controller(who, names)?, modules: number(modules, "modules")? })
+        }
+        ["back", who, modules] => Ok(Command::Back { controller: controller(who, names)?, modules: number(modules, "modules")? }),
+        ["claim" | "back", ..] => Err(format!("found '{line}'; allowed: {} CONTROLLER MODULES, as '{0} 0 4'", words[0])),
+        ["look"] => Ok(Command::Look(None)),
+        ["look", who] => Ok(Command::Look(Some(controller(who, names)?))),
+        ["look", ..] => Err(format!("found '{line}'; allowed: look, or look CONTROLLER")),
+        ["show"] => Ok(Command::Show),
+        ["explain", word] => Ok(Command::Explain(number(word, "refusals, 1 to 18")?)),
+        ["help"] => Ok(Command::Help),
+        ["quit" | "exit"] => Ok(Command::Quit),
+        _ => Err(format!("found '{line}'; allowed: open, claim, back, look, show, explain, help, quit")),
+    }
+}
+
+fn number(word: &str, what: &str) -> Result<u32, String> {
+    whole(word).ok_or(format!("found '{word}'; allowed: a whole number of {what}"))
+}
+
+fn controller(word: &str, names: &[String]) -> Result<u32, String> {
+    let named = names.iter().position(|name| name == word).map(|place| place as u32);
+    named.or_else(|| whole(word)).ok_or_else(|| {
+        let given: Vec<&str> = given_names(names).collect();
+        let known = if given.is_empty() { String::new() } else { format!(" or one of the names {}", given.join(", ")) };
+        format!("found '{word}'; allowed: a controller's number{known}")
+    })
+}
+
+/// The names that an opening gave; no other name is one word.
+pub fn given_names(names: &[String]) -> impl Iterator<Item = &str> {
+    names.iter().map(String::as_str).filter(|name| !name.contains(' '))
+}
+
+fn open(limit: &str, words: &[&str]) -> Result<Command, String> {
+    let limit = number(limit, "modules as the limit")?;
+    let mut places: Vec<Place> = Vec::new();
+    for (number, word) in words.iter().enumerate() {
+        let place = place(number, word)?;
+        if places.iter().any(|other| other.name == place.name) {
+            return Err(format!("found the name '{}' twice; allowed: a name for each controller", place.name));
+        }
+        places.push(place);
+    }
+    Ok(Command::Open { limit, places })
+}
+
+/// `SHARE/CEILING` or `NAME=SHARE/CEILING`
+fn place(number: usize, word: &str) -> Result<Place, String> {
+    let wrong = || format!("found '{word}'; allowed: SHARE/CEILING or NAME=SHARE/CEILING, as 4/10 or yard=4/10");
+    let (name, figures) = match word.split_once('=') {
+        Some((name, _)) if name.is_empty() || whole(name).is_some() => return Err(wrong()),
+        Some((name, figures)) => (name.to_string(), figures),
+        None => (format!("controller {number}"), word),
+    };
+    let (assured, ceiling) = figures.split_once('/').ok_or_else(wrong)?;
+    Ok(Place { name, assured: whole(assured).ok_or_else(wrong)?, ceiling: whole(ceiling).ok_or_else(wrong)? })
+}

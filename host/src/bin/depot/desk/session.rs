@@ -1,0 +1,132 @@
+//! The desk between two lines: each command is one call of the library, or shows what the desk's fields say.
+use super::bars;
+use super::command::{Command, Place};
+use super::reasons;
+use crate::{explain, json};
+use depot_host::{Desk, Refusal};
+
+#[derive(Default)]
+pub struct Session {
+    desk: Option<Desk>,
+    names: Vec<String>,
+}
+
+/// What a command gives.
+pub enum Answer {
+    Said { text: String, json: String, refused: bool },
+    Help,
+    Quit,
+}
+
+impl Session {
+    /// The controllers' names.
+    pub fn names(&self) -> &[String] {
+        &self.names
+    }
+
+    pub fn call(&mut self, command: Command) -> Result<Answer, String> {
+        match command {
+            Command::Open { limit, places } => Ok(self.open(limit, places)),
+            Command::Claim { controller, modules } => self.book("claim", controller, modules),
+            Command::Back { controller, modules } => self.book("back", controller, modules),
+            Command::Look(controller) => self.look(controller),
+            Command::Show => self.show(),
+            Command::Explain(number) => {
+                let refusal = Refusal::of_number(number).ok_or(format!("found '{number}'; allowed: refusals 1 to 18"))?;
+                let text = explain::words_of(refusal);
+                Ok(Answer::Said { json: json::object(&[("explain", json::text(&text))]), text, refused: false })
+            }
+            Command::Help => Ok(Answer::Help),
+            Command::Quit => Ok(Answer::Quit),
+        }
+    }
+
+    fn desk(&mut self) -> Result<&mut Desk, String> {
+        self.desk.as_mut().ok_or("there is no desk yet; open one first, as 'open 10 yard=4/10 workshop=3/10'".into())
+    }
+
+    fn open(&mut self, limit: u32, places: Vec<Place>) -> Answer {
+        let assured: Vec<u32> = places.iter().map(|place| place.assured).collect();
+        let ceilings: Vec<u32> = places.iter().map(|place| place.ceiling).collect();
+        let head = [("call", json::text("open")), ("limit", limit.to_string())];
+        match Desk::open(limit, &assured, &ceilings) {
+            Ok(desk) => {
+                self.desk = Some(desk);
+                self.names = places.into_iter().map(|place| place.name).collect();
+                let text = format!("opened\n{}", bars::text(&desk, &self.names));
+                let json = json::object(&[&head[..], &self.figures(&desk)].concat());
+                Answer::Said { text, json, refused: false }
+            }
+            Err(refusal) => refused(&head, refusal, reasons::of_opening(limit, &places, refusal)),
+        }
+    }
+
+    /// A claim or a hand-back.
+    fn book(&mut self, call: &str, controller: u32, modules: u32) -> Result<Answer, String> {
+        let desk = self.desk()?;
+        let before = *desk;
+        let answer = if call == "claim" { desk.claim(controller, modules) } else { desk.hand_back(controller, modules) };
+        let after = *desk;
+        let head = [("call", json::text(call)), ("controller", controller.to_string()), ("modules", modules.to_string())];
+        Ok(match answer {
+            Ok(()) => {
+                let held = after.held[controller as usize];
+                let did = if call == "claim" { "granted: claims" } else { "done: hands back" };
+                let text = format!("{did} {modules}; {} now holds {held}\n", self.names[controller as usize]);
+                let json = json::object(&[&head[..], &[("held", held.to_string())]].concat());
+                Answer::Said { text, json, refused: false }
+            }
+            Err(refusal) => refused(&head, refusal, reasons::of_call(&before, &self.names, controller, modules, refusal)),
+        })
+    }
+
+    fn look(&mut self, controller: Option<u32>) -> Result<Answer, String> {
+        let desk = *self.desk()?;
+        let head = |controller: u32| vec![("call", json::text("look")), ("controller", controller.to_string())];
+        let asked: Vec<u32> = controller.map_or((0..desk.count).collect(), |one| vec![one]);
+        let mut text = String::new();
+        let mut objects = Vec::new();
+        for controller in asked {
+            match desk.look(controller) {
+                Ok(most) => {
+                    text += &(reasons::most_in_words(&self.names[controller as usize], most) + "\n");
+                    objects.push(json::object(&[head(controller), vec![("modules", most.to_string())]].concat()));
+                }
+                Err(refusal) => {
+                    let why = reasons::of_call(&desk, &self.names, controller, 0, refusal);
+                    return Ok(refused(&head(controller), refusal, why));
+                }
+            }
+        }
+        Ok(Answer::Said { text, json: objects.join("\n"), refused: false })
+    }
+
+    fn show(&mut self) -> Result<Answer, String> {
+        let desk = *self.desk()?;
+        let head = [("call", json::text("show")), ("limit", desk.limit.to_string())];
+        let json = json::object(&[&head[..], &self.figures(&desk)].concat());
+        Ok(Answer::Said { text: bars::text(&desk, &self.names), json, refused: false })
+    }
+
+    fn figures(&self, desk: &Desk) -> Vec<(&'static str, String)> {
+        let of = |i: usize| {
+            json::object(&[
+                ("name", json::text(&self.names[i])),
+                ("held", desk.held[i].to_string()),
+                ("assured", desk.assured[i].to_string()),
+                ("ceiling", desk.ceiling[i].to_string()),
+                ("look", bars::may_claim(desk, i).to_string()),
+            ])
+        };
+        vec![("controllers", json::list((0..desk.count as usize).map(of)))]
+    }
+}
+
+fn refused(head: &[(&str, String)], refusal: Refusal, why: Vec<String>) -> Answer {
+    let number = refusal.number();
+    let mut text = format!("refused {number}: {refusal}\n");
+    why.iter().for_each(|line| text += &format!("  {line}\n"));
+    let sums = json::list(why.iter().map(|line| json::text(line)));
+    let members = [("refused", number.to_string()), ("why", json::text(&refusal.to_string())), ("sums", sums)];
+    Answer::Said { text, json: json::object(&[head, &members].concat()), refused: true }
+}

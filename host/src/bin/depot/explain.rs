@@ -1,0 +1,86 @@
+//! `depot explain`: what a refusal means and what to do.
+use crate::arguments::{Arguments, Takes};
+use crate::clock::whole;
+use crate::json;
+use crate::outcome::{say, Outcome, Trouble};
+use depot_host::Refusal;
+use std::fmt::Write;
+
+const TAKES: Takes = Takes { verb: "explain", flags: &["--json"], values: &[], plain: &["a refusal's number"], needed: 0 };
+
+const READING: &str = "reading, labels, planning";
+const READING_AND_WRITING: &str = "reading, labels, planning, writing";
+
+/// Which calls refuse with each number, and what to do, in the order of the numbers.
+const TO_DO: [(&str, &str); 18] = [
+    (READING, "The file is no job sheet, or it was cut off or joined with another. Make it again: 'depot sheet LIST.csv -o FILE'."),
+    (READING_AND_WRITING, "Split the list: a cabinet plans up to 20 charges at a time."),
+    (READING_AND_WRITING, "Put the number of the cabinet's modules, 1 to 64, into the line 'cabinet,N' of the list."),
+    (READING, "The file was damaged, or is no job sheet. Make it again from the list."),
+    (
+        READING_AND_WRITING,
+        "Correct the job: label of 1 to 12 characters, modules 1 to 255, minutes 1 to 1440, departure 0 to 2880, and only jobs of the \
+         same list in 'after'. 'depot sheet' names the line and the column.",
+    ),
+    (READING_AND_WRITING, "The file was damaged, or a program wrote wrong label lengths. Make it again from the list."),
+    (READING_AND_WRITING, "Write labels in plain letters, digits and signs, without spaces or accents."),
+    ("planning", "Give the job fewer modules, or plan it on a larger cabinet: as it stands it has no plan. 'depot plan' names the job."),
+    ("planning", "Take one 'after' out of the circle: as it stands no job of it can start. 'depot plan' names a circle."),
+    ("planning, writing", "A fault of the calling program: lend 13 bytes for each job and 8 for a card, 448 for every sheet."),
+    ("opening", "Give 2 to 8 controllers, each with a share and a ceiling."),
+    ("opening", "Choose a limit of 1 to 4096 modules, ceilings within it, and for each controller a share within its ceiling."),
+    ("opening", "Lower the shares until they add up to the limit or less: what is assured must fit on the feeder at once."),
+    (
+        "labels, claims, hand-backs, looks",
+        "Use a number below the count: the first job or controller is 0. If the number is right, the desk's figures were altered by \
+         something other than its calls: open it anew once nobody holds a module.",
+    ),
+    ("claims, hand-backs", "Name 1 module or more."),
+    ("claims", "Claim less, or hand back first: the ceiling is this controller's own bound, whatever the others hold. Look for the figure."),
+    (
+        "claims",
+        "Claim less, or wait until another controller hands back: what others hold, and what is assured to them, is not given away. \
+         Look for the figure.",
+    ),
+    ("hand-backs", "Hand back no more than the controller holds: 'show' has the figure."),
+];
+
+pub fn run(words: &[String]) -> Result<Outcome, Trouble> {
+    let arguments = Arguments::read(&TAKES, words)?;
+    let as_json = arguments.has("--json");
+    let Some(word) = arguments.plain(0) else {
+        return say(&if as_json { json::list(all().map(in_json)) + "\n" } else { overview() });
+    };
+    let found = whole(word).and_then(Refusal::of_number);
+    let refusal =
+        found.ok_or_else(|| Trouble::usage(format!("there is no refusal '{word}': they have the numbers 1 to 18"), "explain"))?;
+    say(&if as_json { in_json(refusal) + "\n" } else { words_of(refusal) })
+}
+
+/// What a refusal means and what to do, in words.
+pub fn words_of(refusal: Refusal) -> String {
+    let (calls, to_do) = TO_DO[refusal.number() as usize - 1];
+    format!("Refusal {}: {refusal}.\nCalls that refuse with it: {calls}.\nWhat to do: {to_do}\n", refusal.number())
+}
+
+fn all() -> impl Iterator<Item = Refusal> {
+    (1..).map_while(Refusal::of_number)
+}
+
+fn overview() -> String {
+    let mut text = String::new();
+    for refusal in all() {
+        writeln!(text, "{:>2}  {refusal}", refusal.number()).unwrap();
+    }
+    text + "\n'depot explain N' says what to do.\n"
+}
+
+fn in_json(refusal: Refusal) -> String {
+    let (calls, to_do) = TO_DO[refusal.number() as usize - 1];
+    json::object(&[
+        ("refusal", refusal.number().to_string()),
+        ("means", json::text(&refusal.to_string())),
+        ("calls", json::text(calls)),
+        ("to_do", json::text(to_do)),
+    ])
+}

@@ -1,0 +1,126 @@
+//! What `--help` prints.
+use crate::outcome::{say, Outcome, Trouble};
+
+pub const TOP: &str = "\
+depot: plans the charging of buses on one cabinet, and keeps the share desk of a feeder.
+The plans, ends and grants come from the proved library; this tool reads lists and draws.
+
+usage: depot VERB ..
+
+  depot plan LIST.csv            the plan that ends first, as a table
+  depot plan LIST.csv --svg OUT  and as a picture; --html OUT for a page
+  depot sheet LIST.csv -o FILE   a list to a job sheet, the bytes that a cabinet takes
+  depot list FILE                a job sheet back to a list
+  depot desk                     an interactive share desk: open, claim, back, look, show
+  depot explain N                what refusal N means and what to do
+  depot VERB --help              the options of a verb, and the list's format
+
+Exit status: 0 answered; 1 refused, or the list has faults; 2 wrong usage, or a file cannot be read or written.
+";
+
+const LIST_FORMAT: &str = "
+A list is a text with a line for each job:
+
+  cabinet,16                              the modules in the cabinet, 1 to 64
+  start,21:00                             the plan's start as a time of day; may be left out
+  label,modules,minutes,after,departure   the header; the columns may stand in any order
+  B101,4,120,,05:30                       a job
+  B102,2,90,B101 #3,510                   a job that waits for the job B101 and for job 3
+
+  label      1 to 12 letters, digits or signs without spaces; two jobs may bear one label
+  modules    that the job needs, 1 to 255
+  minutes    that it takes, 1 to 1440
+  after      labels of jobs that must have ended first, or their numbers (#0 is the first job), with a space between them;
+             the column may be left out
+  departure  a minute counted from the start, 0 to 2880; with a line 'start' also a time: 05:30 is the first from the start on,
+             05:30+1 the one on the day after the start's
+
+Up to 20 jobs. Fields are separated by commas, or all by semicolons; one with such a sign or a double quote in it stands in double
+quotes, with a double quote written twice. Lines that begin with # and a space are remarks.
+";
+
+const PLAN: &str = "\
+usage: depot plan LIST.csv|SHEET [OPTION..]
+
+Shows the plan that ends first of all valid plans, by the tie rule. A name that ends in .csv is a list, every other a job sheet;
+- is a sheet on standard input. Departures do not steer the plan; they tell who is late.
+
+  --start HH:MM    the plan's start as a time of day, in place of the list's; the list's times of day count from it
+  --raw            exactly the printing program's lines
+  --json           for programs
+  --svg OUT        a picture of the plan too
+  --html OUT       a page with the picture and the table too
+  --card OUT       the plan card's bytes too
+  --memory BYTES   working memory of the search, with K or M (16M); 0 is allowed, and no length changes the answer
+";
+
+const SHEET: &str = "\
+usage: depot sheet LIST.csv -o FILE [--start HH:MM]
+
+Writes the job sheet of a list: the bytes that a cabinet takes. FILE may be - for standard output, LIST.csv - for standard input.
+
+  --start HH:MM    the plan's start as a time of day, in place of the list's; the list's times of day count from it
+";
+
+const LIST: &str = "\
+usage: depot list SHEET [--start HH:MM] [-o FILE] [--json]
+
+Shows a job sheet as a list, which 'depot sheet' takes back. - is standard input.
+
+  --start HH:MM    departures as times of day, counted from this start
+  -o FILE          to a file
+  --json           for programs; 'after' has job numbers
+";
+
+const DESK: &str = "\
+usage: depot desk [SCRIPT] [--json]
+
+A share desk that takes a command from each line of standard input, or of a script file:
+
+  open LIMIT SHARE/CEILING ..   opens a desk for 2 to 8 controllers; NAME=SHARE/CEILING gives one a name
+  claim CONTROLLER MODULES      claims modules
+  back CONTROLLER MODULES       hands modules back
+  look [CONTROLLER]             the largest claim that would be granted now
+  show                          a bar for each controller
+  explain N                     what refusal N means
+  help, quit
+
+A controller is named by its number, from 0, or by its name. Lines that begin with # are remarks.
+
+  --json           an object for each command, for programs
+
+Exit status: 0 every call was answered; 1 some call was refused; 2 some line is no command.
+";
+
+const EXPLAIN: &str = "\
+usage: depot explain [N] [--json]
+
+What refusal N, 1 to 18, means, which calls refuse with it, and what to do. Without N, all of them in a line each.
+";
+
+/// Whether help is asked for among these words.
+pub fn asked_for(words: &[String]) -> bool {
+    words.iter().any(|word| word == "--help" || word == "-h")
+}
+
+/// The help of a verb; with the list's format where it takes a list.
+pub fn of_verb(verb: &str) -> Option<String> {
+    Some(match verb {
+        "plan" => format!("{PLAN}{LIST_FORMAT}"),
+        "sheet" => format!("{SHEET}{LIST_FORMAT}"),
+        "list" => LIST.into(),
+        "desk" => DESK.into(),
+        "explain" => EXPLAIN.into(),
+        "help" => TOP.into(),
+        _ => return None,
+    })
+}
+
+/// `depot help [VERB]`
+pub fn run(words: &[String]) -> Result<Outcome, Trouble> {
+    let verb = words.first().map_or("help", String::as_str);
+    match of_verb(verb) {
+        Some(text) => say(&text),
+        None => Err(Trouble::usage(format!("there is no verb '{verb}'"), "")),
+    }
+}

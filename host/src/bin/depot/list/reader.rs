@@ -1,0 +1,233 @@
+//! Reading a list: every fault is found, with its line and its column.
+use super::csv;
+use super::fault::Faults;
+use super::words::{label_fault, number_of, shown};
+use super::{List, COLUMNS};
+use crate::clock::{whole, Clock, START_ALLOWED};
+use crate::outcome::Trouble;
+use depot_host::{Job, MOST_JOBS};
+
+const OPTIONAL: &str = "after";
+
+/// The column of each field, and where each column stands.
+struct Header {
+    columns: Vec<Option<usize>>,
+    line: usize,
+}
+
+/// A job's line before the jobs that it waits for are looked up.
+struct Entry {
+    line: usize,
+    label: String,
+    job: Job,
+    after: String,
+}
+
+struct Reader {
+    faults: Faults,
+    modules: Option<u16>,
+    clock: Option<Clock>,
+    /// Whether the clock stands in place of the list's.
+    given: bool,
+    /// What separates fields, once the first line has been read.
+    separator: Option<char>,
+    header: Option<Header>,
+    entries: Vec<Entry>,
+}
+
+/// The list that these bytes say; a given start stands in place of the list's.
+pub fn read(file: &str, bytes: &[u8], start: Option<Clock>) -> Result<List, Trouble> {
+    let given = start.is_some();
+    let mut reader = Reader {
+        faults: Faults::default(),
+        modules: None,
+        clock: start,
+        given,
+        separator: None,
+        header: None,
+        entries: Vec::new(),
+    };
+    let mut last = 1;
+    let bytes = bytes.strip_prefix(b"\xEF\xBB\xBF").unwrap_or(bytes);
+    for (place, line) in bytes.split(|byte| *byte == b'\n').enumerate() {
+        last = if line.is_empty() { last } else { place + 1 };
+        match std::str::from_utf8(line) {
+            Ok(line) => reader.line(place + 1, line.trim()),
+            Err(_) => reader.faults.put(place + 1, None, "bytes that are no text", "text in UTF-8"),
+        }
+    }
+    reader.finish(file, last)
+}
+
+impl Reader {
+    fn line(&mut self, number: usize, line: &str) {
+        if line.is_empty() || csv::is_remark(line) {
+            return;
+        }
+        let separator = *self.separator.get_or_insert_with(|| csv::separator(line));
+        let mut fields = match csv::fields(line, separator) {
+            Ok(fields) => fields,
+            Err((column, why)) => {
+                let name = self.name_of(column).unwrap_or("text");
+                let allowed = "a field as it is, or all of it in double quotes, with a double quote inside written twice";
+                return self.faults.put(number, Some((column, name)), why, allowed);
+            }
+        };
+        while fields.len() > 1 && fields.last().is_some_and(String::is_empty) {
+            fields.pop();
+        }
+        if fields.iter().all(String::is_empty) {
+            return;
+        }
+        match (fields[0].to_ascii_lowercase().as_str(), &self.header) {
+            ("cabinet", None) => self.cabinet(number, &fields[1..]),
+            ("start", None) => self.start(number, &fields[1..]),
+            (_, None) => self.header(number, &fields),
+            (_, Some(_)) => self.row(number, &fields),
+        }
+    }
+
+    fn name_of(&self, column: usize) -> Option<&'static str> {
+        let header = self.header.as_ref()?;
+        COLUMNS.into_iter().zip(&header.columns).find(|(_, place)| **place == Some(column - 1)).map(|(name, _)| name)
+    }
+
+    fn cabinet(&mut self, line: usize, values: &[String]) {
+        let allowed = "a line 'cabinet,N' once, N a whole number from 1 to 64";
+        let found = shown(&values.join(","));
+        match values {
+            [word] if self.modules.is_none() => match whole(word).filter(|n| (1..=64).contains(n)) {
+                Some(n) => self.modules = Some(n as u16),
+                None => self.faults.put(line, Some((2, "modules of the cabinet")), found, "a whole number from 1 to 64"),
+            },
+            [_] => self.faults.put(line, None, "a second line 'cabinet'", allowed),
+            _ => self.faults.put(line, Some((2, "modules of the cabinet")), found, allowed),
+        }
+    }
+
+    fn start(&mut self, line: usize, values: &[String]) {
+        let read = if let [word] = values { Clock::starting(word) } else { None };
+        match read {
+            Some(_) if self.given => {}
+            Some(clock) if self.clock.is_none() => self.clock = Some(clock),
+            Some(_) => self.faults.put(line, None, "a second line 'start'", "one such line"),
+            None => self.faults.put(line, Some((2, "start time")), shown(&values.join(",")), START_ALLOWED),
+        }
+    }
+
+    fn header(&mut self, line: usize, fields: &[String]) {
+        let place = |name: &str| fields.iter().position(|field| field.eq_ignore_ascii_case(name));
+        let columns: Vec<Option<usize>> = COLUMNS.iter().map(|name| place(name)).collect();
+        if columns.iter().all(Option::is_none) {
+            let allowed = format!("a header line before the jobs, as {}", COLUMNS.join(","));
+            self.faults.put(line, None, shown(&fields.join(",")), allowed);
+            self.header = Some(Header { columns, line });
+            return;
+        }
+        for (number, field) in fields.iter().enumerate() {
+            let known = columns.contains(&Some(number));
+            let again = COLUMNS.iter().any(|name| field.eq_ignore_ascii_case(name));
+            if !known && again {
+                self.faults.put(line, Some((number + 1, field)), "a column that stands twice", "each column once");
+            } else if !known {
+                let allowed = format!("the columns {}", COLUMNS.join(", "));
+                self.faults.put(line, Some((number + 1, "header")), shown(field), allowed);
+            }
+        }
+        for (name, place) in COLUMNS.iter().zip(&columns) {
+            if place.is_none() && *name != OPTIONAL {
+                let allowed = "a header line with label, modules, minutes, departure and, where jobs wait for others, after";
+                self.faults.put(line, None, format!("no column '{name}'"), allowed);
+            }
+        }
+        self.header = Some(Header { columns, line });
+    }
+
+    fn row(&mut self, line: usize, fields: &[String]) {
+        let header = self.header.as_ref().expect("a row stands behind the header");
+        let columns = header.columns.clone();
+        let width = columns.iter().flatten().max().map_or(0, |last| last + 1);
+        if columns.iter().zip(COLUMNS).any(|(place, name)| place.is_none() && name != OPTIONAL) {
+            return;
+        }
+        if fields.len() > width {
+            let found = format!("{} behind the last column", shown(&fields[width..].join(",")));
+            self.faults.put(line, Some((width + 1, "no column")), found, format!("{width} fields"));
+        }
+        let field = |column: usize| columns[column].and_then(|place| fields.get(place)).map_or("", String::as_str);
+        let at = |column: usize| columns[column].map(|place| (place + 1, COLUMNS[column]));
+        let label = field(0);
+        if let Some((found, allowed)) = label_fault(label) {
+            self.faults.put(line, at(0), found, allowed);
+        }
+        let modules = self.number(line, at(1), field(1), 1, 255);
+        let minutes = self.number(line, at(2), field(2), 1, 1440);
+        let departure = self.departure(line, at(4), field(4));
+        let job = Job {
+            label_len: label.len().min(255) as u8,
+            modules: modules as u8,
+            minutes: minutes as u16,
+            earlier: 0,
+            departure: departure as u16,
+        };
+        self.entries.push(Entry { line, label: label.into(), job, after: field(3).into() });
+    }
+
+    /// The number in a field; where it is out of range, a fault and the least number.
+    fn number(&mut self, line: usize, column: Option<(usize, &str)>, word: &str, low: u32, high: u32) -> u32 {
+        let read = whole(word).filter(|number| (low..=high).contains(number));
+        read.unwrap_or_else(|| {
+            self.faults.put(line, column, shown(word), format!("a whole number from {low} to {high}"));
+            low
+        })
+    }
+
+    /// A minute counted from the start, or a time of day where the list has its start.
+    fn departure(&mut self, line: usize, column: Option<(usize, &str)>, word: &str) -> u32 {
+        if !word.contains(':') {
+            return self.number(line, column, word, 0, 2880);
+        }
+        let read = self.clock.and_then(|clock| clock.minute(word)).filter(|minute| *minute <= 2880);
+        read.unwrap_or_else(|| {
+            let allowed = match self.clock {
+                None => "a minute from 0 to 2880; a time of day only behind a line 'start,hh:mm'",
+                Some(_) => "a minute from 0 to 2880, or a time hh:mm (hh:mm+1 on the next day) within 48 hours from the start",
+            };
+            self.faults.put(line, column, shown(word), allowed);
+            0
+        })
+    }
+
+    fn finish(mut self, file: &str, last: usize) -> Result<List, Trouble> {
+        if self.header.is_none() {
+            self.faults.put(last, None, "no header line", format!("a line with the columns {}", COLUMNS.join(",")));
+        }
+        if self.modules.is_none() {
+            let line = self.header.as_ref().map_or(last, |header| header.line);
+            let found = "no line 'cabinet' with a number of modules before the header";
+            self.faults.put(line, None, found, "'cabinet,N', N from 1 to 64");
+        }
+        if let Some(entry) = self.entries.get(MOST_JOBS) {
+            self.faults.put(entry.line, None, format!("job {} of {}", MOST_JOBS + 1, self.entries.len()), "up to 20 jobs");
+            return Err(self.faults.told(file));
+        }
+        let column = self.header.as_ref().and_then(|header| header.columns[3]).map(|place| (place + 1, COLUMNS[3]));
+        let labels: Vec<String> = self.entries.iter().map(|entry| entry.label.clone()).collect();
+        for entry in &mut self.entries {
+            for word in entry.after.split_whitespace() {
+                match number_of(word, &labels) {
+                    Ok(number) => entry.job.earlier |= 1 << number,
+                    Err((found, allowed)) => self.faults.put(entry.line, column, found, allowed),
+                }
+            }
+        }
+        let list = List {
+            modules: self.modules.unwrap_or(1),
+            clock: self.clock,
+            jobs: self.entries.iter().map(|entry| entry.job).collect(),
+            labels: labels.concat().into_bytes(),
+            lines: self.entries.iter().map(|entry| entry.line).collect(),
+        };
+        self.faults.or(file, list)
+    }
+}

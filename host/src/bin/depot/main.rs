@@ -1,0 +1,57 @@
+//! `depot`: the planner and the share desk for people at the yard. Every answer is the proved library's; the tool reads and draws.
+mod arguments;
+mod chart;
+mod clock;
+mod desk;
+mod explain;
+mod help;
+mod json;
+mod list;
+mod markup;
+mod outcome;
+mod page;
+mod plan_json;
+mod plan_text;
+mod plan_verb;
+mod planned;
+mod pointer;
+mod search;
+mod sheet_verbs;
+mod style;
+
+use outcome::{Outcome, Trouble};
+use std::{env, process};
+
+fn main() {
+    let words: Vec<String> = env::args_os().skip(1).map(|word| word.to_string_lossy().into_owned()).collect();
+    process::exit(match run(&words) {
+        Ok(Outcome::Answered) => 0,
+        Ok(Outcome::Refused) => 1,
+        Err(trouble) => {
+            trouble.tell();
+            trouble.status()
+        }
+    })
+}
+
+fn run(words: &[String]) -> Result<Outcome, Trouble> {
+    let Some((verb, rest)) = words.split_first() else {
+        return Err(Trouble::usage("a verb is missing", ""));
+    };
+    if help::asked_for(rest) {
+        if let Some(text) = help::of_verb(verb) {
+            return outcome::say(&text);
+        }
+    }
+    match verb.as_str() {
+        "sheet" => sheet_verbs::sheet(rest),
+        "list" => sheet_verbs::list(rest),
+        "plan" => plan_verb::run(rest),
+        "desk" => desk::run(rest),
+        "explain" => explain::run(rest),
+        "help" => help::run(rest),
+        "--help" | "-h" => outcome::say(help::TOP),
+        "--version" | "-V" => outcome::say(concat!("depot ", env!("CARGO_PKG_VERSION"), "\n")),
+        _ => Err(Trouble::usage(format!("there is no verb '{verb}'"), "")),
+    }
+}

@@ -1,0 +1,22 @@
+//! Text in SVG and HTML.
+
+/// The text with the signs that markup uses written as entities.
+pub fn escaped(text: &str) -> String {
+    let mut safe = String::with_capacity(text.len());
+    for c in text.chars() {
+        match c {
+            '&' => safe.push_str("&amp;"),
+            '<' => safe.push_str("&lt;"),
+            '>' => safe.push_str("&gt;"),
+            '"' => safe.push_str("&quot;"),
+            '\'' => safe.push_str("&#39;"),
+            c => safe.push(c),
+        }
+    }
+    safe
+}
+
+#[test]
+fn no_sign_of_markup_is_left() {
+    assert_eq!(escaped("<a href='x'>&\"b"), "&lt;a href=&#39;x&#39;&gt;&amp;&quot;b");
+}

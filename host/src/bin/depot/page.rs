@@ -1,0 +1,53 @@
+//! The plan as a page in one file: the picture and the table, for a screen, light or dark, and for paper.
+use crate::chart;
+use crate::markup::escaped;
+use crate::plan_text::{cells, summary, RIGHT};
+use crate::planned::Planned;
+
+const RULES: &str = "\
+@page{size:A4 landscape;margin:10mm}\
+body{margin:0 auto;max-width:1160px;padding:16px 20px;font:15px/1.45 Arial,Helvetica,\"Liberation Sans\",\"DejaVu Sans\",sans-serif}\
+svg{display:block;width:100%;height:auto}\
+h2{font-size:17px;margin:22px 0 6px}\
+.scroll{overflow-x:auto}\
+table{border-collapse:collapse;font-size:14px;font-variant-numeric:tabular-nums}\
+th,td{padding:3px 10px;text-align:left;white-space:nowrap}\
+th{font-weight:normal}\
+.right{text-align:right}\
+tr.late td:last-child{font-weight:bold}\
+footer{font-size:13px;margin-top:14px}\
+@media print{body{padding:0;max-width:none}svg{max-height:185mm}.table{break-before:page}}";
+
+pub fn text(plan: &Planned) -> String {
+    let title = escaped(&format!("{}: charging plan", plan.name));
+    let light = chart::page_rules(&chart::LIGHT);
+    let dark = chart::page_rules(&chart::DARK);
+    let order: Vec<&str> = plan.order.iter().map(|job| plan.jobs[usize::from(*job)].label.as_str()).collect();
+    format!(
+        "<!DOCTYPE html>\n<html lang=\"en\">\n<head>\n<meta charset=\"utf-8\">\n\
+         <meta name=\"viewport\" content=\"width=device-width, initial-scale=1\">\n<meta name=\"color-scheme\" content=\"light dark\">\n\
+         <title>{title}</title>\n<style>{RULES}{light}@media screen and (prefers-color-scheme:dark){{{dark}}}</style>\n</head>\n<body>\n\
+         <main>\n{}<section class=\"table\">\n<h2>{title}</h2>\n<p>{}</p>\n{}</section>\n</main>\n\
+         <footer>{}<p>No valid plan of this sheet ends earlier: start, end and modules of every job are those \
+         of the proved planner's card.</p></footer>\n</body>\n</html>\n",
+        chart::part(plan),
+        escaped(&summary(plan).join(" ")),
+        table(plan),
+        if order.is_empty() { String::new() } else { format!("<p>Starting order: {}.</p>", escaped(&order.join(", "))) }
+    )
+}
+
+fn table(plan: &Planned) -> String {
+    let mut html = String::from("<div class=\"scroll\">\n<table>\n");
+    for (place, row) in cells(plan).iter().enumerate() {
+        let late = place > 0 && plan.jobs[place - 1].is_late();
+        let tag = if place == 0 { "th" } else { "td" };
+        html += if late { "<tr class=\"late\">" } else { "<tr>" };
+        for (cell, right) in row.iter().zip(RIGHT) {
+            let class = if right { " class=\"right\"" } else { "" };
+            html += &format!("<{tag}{class}>{}</{tag}>", escaped(cell));
+        }
+        html += "</tr>\n";
+    }
+    html + "</table>\n</div>\n"
+}

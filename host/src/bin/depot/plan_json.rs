@@ -1,0 +1,40 @@
+//! The plan for programs.
+use crate::json;
+use crate::planned::{Planned, PlannedJob};
+
+pub fn text(plan: &Planned) -> String {
+    let jobs = plan.jobs.iter().enumerate().map(|(number, planned)| job(plan, number, planned));
+    let mut members = vec![
+        ("end", plan.end.to_string()),
+        ("end_time", time(plan, plan.end)),
+        ("cabinet", plan.modules.to_string()),
+        ("order", json::numbers(&plan.order)),
+        ("jobs", json::list(jobs)),
+    ];
+    if !plan.has_start {
+        members.remove(1);
+    }
+    json::object(&members) + "\n"
+}
+
+fn time(plan: &Planned, minute: u16) -> String {
+    json::text(&plan.clock.time(minute.into()))
+}
+
+fn job(plan: &Planned, number: usize, planned: &PlannedJob) -> String {
+    let PlannedJob { label, job, row } = planned;
+    let mut members = vec![
+        ("job", number.to_string()),
+        ("label", json::text(label)),
+        ("modules", json::numbers(&row.module_numbers())),
+        ("start", row.start.to_string()),
+        ("end", row.end.to_string()),
+        ("departure", job.departure.to_string()),
+        ("lateness", planned.lateness().to_string()),
+    ];
+    if plan.has_start {
+        let times = [("start_time", row.start), ("end_time", row.end), ("departure_time", job.departure)];
+        members.extend(times.map(|(name, minute)| (name, time(plan, minute))));
+    }
+    json::object(&members)
+}

@@ -1,0 +1,141 @@
+//! What is planned: a job sheet from a file, and the plan on the card that the library left.
+use crate::clock::Clock;
+use crate::list;
+use crate::outcome::{bytes_of, Trouble};
+use depot_host::{label, read, Card, Job, Reading, Refusal, Row};
+
+/// A job sheet, and what is known of it beside its bytes.
+pub struct Yard {
+    pub name: String,
+    pub sheet: Vec<u8>,
+    /// The start's time of day, where it is known.
+    pub clock: Option<Clock>,
+    /// The line of each job, where there is a list.
+    pub lines: Vec<usize>,
+}
+
+impl Yard {
+    /// The yard of a list, where the name ends in `.csv`, or of a sheet; a given start stands in place of the list's.
+    pub fn open(file: &str, start: Option<Clock>) -> Result<Yard, Trouble> {
+        let bytes = bytes_of(file)?;
+        if !is_list(file) {
+            return Ok(Yard { name: file.into(), sheet: bytes, clock: start, lines: Vec::new() });
+        }
+        let list = list::read(file, &bytes, start)?;
+        let refused = |refusal: Refusal| Trouble::List(format!("{file}: refused {}: {refusal}\n", refusal.number()));
+        Ok(Yard { name: file.into(), sheet: list.sheet().map_err(refused)?, clock: list.clock, lines: list.lines })
+    }
+}
+
+/// Whether a file is a list by its name.
+pub fn is_list(file: &str) -> bool {
+    file.to_ascii_lowercase().ends_with(".csv")
+}
+
+/// The labels of a sheet that reads.
+pub fn labels(sheet: &[u8], reading: &Reading) -> Vec<String> {
+    let text = |job| label(sheet, job).expect("a sheet that reads has every label");
+    (0..reading.jobs.len()).map(|job| String::from_utf8_lossy(text(job)).into_owned()).collect()
+}
+
+/// A job with its place in the plan.
+pub struct PlannedJob {
+    pub label: String,
+    pub job: Job,
+    pub row: Row,
+}
+
+impl PlannedJob {
+    pub fn lateness(&self) -> i32 {
+        self.row.lateness(self.job.departure)
+    }
+
+    pub fn is_late(&self) -> bool {
+        self.lateness() > 0
+    }
+}
+
+/// A plan: what the sheet says of each job, and what the card says of it.
+pub struct Planned {
+    pub name: String,
+    pub modules: u16,
+    pub jobs: Vec<PlannedJob>,
+    pub order: Vec<u8>,
+    pub end: u16,
+    pub clock: Clock,
+    /// Whether the clock's start was given; without it the clock shows hours and minutes since the start.
+    pub has_start: bool,
+}
+
+impl Planned {
+    pub fn new(yard: &Yard, card: Card) -> Planned {
+        let reading = read(&yard.sheet).expect("a sheet with a plan reads");
+        let labels = labels(&yard.sheet, &reading);
+        let parts = labels.into_iter().zip(reading.jobs).zip(card.rows);
+        Planned {
+            name: yard.name.rsplit('/').next().unwrap_or(&yard.name).into(),
+            modules: reading.modules,
+            jobs: parts.map(|((label, job), row)| PlannedJob { label, job, row }).collect(),
+            order: card.order,
+            end: card.end,
+            clock: yard.clock.unwrap_or(Clock::FROM_ZERO),
+            has_start: yard.clock.is_some(),
+        }
+    }
+
+    pub fn late(&self) -> impl Iterator<Item = &PlannedJob> {
+        self.jobs.iter().filter(|job| job.is_late())
+    }
+
+    /// How many of what, in words.
+    pub fn size(&self) -> String {
+        let plural = |count: usize, one: &str| format!("{count} {one}{}", if count == 1 { "" } else { "s" });
+        format!("{} on {}", plural(self.jobs.len(), "job"), plural(self.modules.into(), "module"))
+    }
+
+    /// The plan's end, in words.
+    pub fn end_in_words(&self) -> String {
+        let minute = self.end.into();
+        if self.has_start {
+            return format!("minute {minute}, {}", self.clock.time(minute));
+        }
+        format!("minute {minute}, {} after the start", self.clock.time(minute))
+    }
+}
+
+/// A lateness in words.
+pub fn lateness_in_words(lateness: i32) -> String {
+    match lateness {
+        0 => "on time".into(),
+        minutes if minutes > 0 => format!("{minutes} min late"),
+        minutes => format!("{} min early", -minutes),
+    }
+}
+
+/// Modules as ranges: `0-3 8`.
+pub fn ranges(numbers: &[u32]) -> String {
+    let words: Vec<String> = runs(numbers)
+        .into_iter()
+        .map(|(first, last)| if first == last { first.to_string() } else { format!("{first}-{last}") })
+        .collect();
+    words.join(" ")
+}
+
+/// The first and the last number of each run without a gap.
+pub fn runs(numbers: &[u32]) -> Vec<(u32, u32)> {
+    let mut runs: Vec<(u32, u32)> = Vec::new();
+    for number in numbers {
+        match runs.last_mut() {
+            Some((_, last)) if *last + 1 == *number => *last = *number,
+            _ => runs.push((*number, *number)),
+        }
+    }
+    runs
+}
+
+#[test]
+fn words_of_figures() {
+    assert_eq!([-20, 0, 5].map(lateness_in_words), ["20 min early", "on time", "5 min late"]);
+    assert_eq!(ranges(&[0, 1, 2, 5, 7, 8]), "0-2 5 7-8");
+    assert_eq!(ranges(&[]), "");
+}

@@ -1,0 +1,66 @@
+//! The planning call on a thread of its own, and how long it has been searching on standard error.
+use depot_host::{card_length, plan, Card, Refusal, MOST_JOBS};
+use std::io::{self, IsTerminal, Write};
+use std::sync::mpsc::{self, RecvTimeoutError};
+use std::thread;
+use std::time::{Duration, Instant};
+
+/// How long nothing is said, and how often it is said then: on a terminal, and elsewhere.
+const SILENT: Duration = Duration::from_secs(1);
+const ON_TERMINAL: Duration = Duration::from_millis(200);
+const ELSEWHERE: Duration = Duration::from_secs(10);
+
+/// The card's bytes that the library leaves, and the card.
+pub fn run(sheet: &[u8], memory: usize) -> Result<(Vec<u8>, Card), Refusal> {
+    let (send, receive) = mpsc::channel();
+    let sheet = sheet.to_vec();
+    let search = thread::spawn(move || {
+        let mut card = vec![0; card_length(MOST_JOBS)];
+        let answer = plan(&sheet, &mut card, &mut vec![0; memory]);
+        let jobs = depot_host::read(&sheet).map_or(0, |reading| reading.jobs.len());
+        card.truncate(card_length(jobs));
+        send.send(answer.map(|()| card)).ok();
+    });
+    let answer = wait(&receive);
+    search.join().expect("the search ends");
+    let bytes = answer?;
+    let card = Card::of(&bytes).expect("an answered call leaves a card");
+    Ok((bytes, card))
+}
+
+fn wait<T>(receive: &mpsc::Receiver<T>) -> T {
+    let start = Instant::now();
+    let terminal = io::stderr().is_terminal();
+    let mut pause = SILENT;
+    let mut said = false;
+    loop {
+        match receive.recv_timeout(pause) {
+            Ok(answer) => {
+                if said {
+                    let clear = if terminal { "\r\x1b[K" } else { "" };
+                    eprintln!("{clear}searched for {}", took(start.elapsed().as_secs()));
+                }
+                return answer;
+            }
+            Err(RecvTimeoutError::Disconnected) => panic!("the search stopped without an answer"),
+            Err(RecvTimeoutError::Timeout) => {
+                let seconds = start.elapsed().as_secs();
+                if terminal {
+                    eprint!("\rsearching for the earliest end: {} (Ctrl-C gives up)", took(seconds));
+                    io::stderr().flush().ok();
+                } else if said || seconds >= 1 {
+                    eprintln!("searching for the earliest end: {} so far", took(seconds));
+                }
+                said = true;
+                pause = if terminal { ON_TERMINAL } else { ELSEWHERE };
+            }
+        }
+    }
+}
+
+fn took(seconds: u64) -> String {
+    if seconds < 60 {
+        return format!("{seconds} s");
+    }
+    format!("{} min {:02} s", seconds / 60, seconds % 60)
+}

@@ -1,0 +1,123 @@
+//! Compares the library with the other implementations as long as it is asked to; the tests do the same a fixed number of times.
+use depot_host::compare::{desk::Answers, planning::Planning, search, sheet_calls::Sheets, sheet_calls::WRITING};
+use depot_host::families;
+use depot_host::random::Random;
+use std::time::{Duration, Instant, SystemTime, UNIX_EPOCH};
+use std::{env, panic, process};
+
+const USAGE: &str = "\
+usage: fuzz [--minutes M] [--seed N] [--rounds R]
+
+Compares planning, reading, labels, writing, the desk's calls and the search with other implementations, round by round, each
+round with a seed of its own. At the first difference it stops, with the seed of the round and what shows the difference.
+
+  --minutes M   stop after the first round that ends behind so many minutes (10)
+  --seed N      seed of the first round; the next have N + 1, N + 2, .. (the clock's, and it is printed)
+  --rounds R    stop after so many rounds too
+";
+
+/// What a round compares.
+const SHEETS: usize = 400;
+const FAULTS: usize = 40;
+const DESKS: usize = 2_000;
+
+struct Options {
+    time: Duration,
+    seed: u64,
+    rounds: u64,
+}
+
+/// How much was compared.
+#[derive(Default)]
+struct Compared {
+    planned: usize,
+    read: usize,
+    desk_calls: usize,
+    searches: usize,
+}
+
+fn main() {
+    let words: Vec<String> = env::args().skip(1).collect();
+    let options = match options(&words) {
+        Ok(Some(options)) => options,
+        Ok(None) => return print!("{USAGE}"),
+        Err(why) => {
+            eprint!("fuzz: {why}\n\n{USAGE}");
+            process::exit(2);
+        }
+    };
+    println!("seed {}", options.seed);
+    let start = Instant::now();
+    let mut compared = Compared::default();
+    let mut rounds = 0;
+    while rounds < options.rounds && start.elapsed() < options.time {
+        let seed = options.seed.wrapping_add(rounds);
+        if panic::catch_unwind(panic::AssertUnwindSafe(|| round(seed, &mut compared))).is_err() {
+            println!("a difference: it shows again with --seed {seed} --rounds 1");
+            process::exit(1);
+        }
+        rounds += 1;
+        if rounds.is_power_of_two() {
+            tell(rounds, &compared, start);
+        }
+    }
+    tell(rounds, &compared, start);
+    println!("no difference");
+}
+
+fn tell(rounds: u64, compared: &Compared, start: Instant) {
+    let Compared { planned, read, desk_calls, searches } = compared;
+    println!(
+        "{} s, {rounds} rounds: {planned} sheets planned, {read} read or written, {desk_calls} calls of desks, {searches} searches",
+        start.elapsed().as_secs()
+    );
+}
+
+/// One round: everything a little, from this seed.
+fn round(seed: u64, compared: &mut Compared) {
+    let mut planning = Planning::new(seed);
+    planning.good(SHEETS);
+    (1..=9).for_each(|check| planning.damaged(check, FAULTS));
+    planning.short_cards(FAULTS);
+    planning.scrambled(2 * FAULTS);
+    planning.noisy((seed % 461) as usize);
+    compared.planned += planning.compared;
+
+    let mut sheets = Sheets::new(seed);
+    sheets.good_reading(SHEETS);
+    (1..=7).for_each(|check| sheets.damaged_reading(check, FAULTS));
+    sheets.scrambled_reading(SHEETS);
+    sheets.noisy_reading((seed % 461) as usize);
+    sheets.good_writing(SHEETS);
+    WRITING.iter().for_each(|check| sheets.damaged_writing(*check, FAULTS));
+    compared.read += 3 * SHEETS + 13 * FAULTS + 1;
+
+    let mut answers = Answers::default();
+    let mut random = Random::new(seed);
+    (0..DESKS).for_each(|_| answers.on_a_desk(&mut random));
+    compared.desk_calls += answers.calls();
+
+    for family in families::all() {
+        search::compare(&family, seed);
+        compared.searches += 1;
+    }
+}
+
+/// The options, none where help is asked for, or why they cannot be.
+fn options(words: &[String]) -> Result<Option<Options>, String> {
+    let now = SystemTime::now().duration_since(UNIX_EPOCH).map_or(0, |since| since.as_secs());
+    let mut options = Options { time: Duration::from_secs(600), seed: now, rounds: u64::MAX };
+    let mut words = words.iter();
+    while let Some(word) = words.next() {
+        let mut number =
+            || words.next().and_then(|value| value.parse::<u64>().ok()).ok_or(format!("{word} takes a whole number"));
+        match word.as_str() {
+            "--minutes" => options.time = Duration::from_secs(60 * number()?.min(1 << 40)),
+            "--seed" => options.seed = number()?,
+            "--rounds" => options.rounds = number()?,
+            "--help" | "-h" => return Ok(None),
+            _ => return Err(format!("there is no option '{word}'")),
+        }
+    }
+    Ok(Some(options))
+}

@@ -1,0 +1,153 @@
+//! The desk's calls against a reading of document 01: answers, and every byte of the lent desk.
+use crate::random::Random;
+use crate::reference::desk as reference;
+use crate::{ffi, Desk};
+
+/// A number that is often small, at a bound or just past it.
+fn figure(random: &mut Random, bound: u32) -> u32 {
+    match random.place(12) {
+        0 => 0,
+        1 => bound,
+        2 => bound.wrapping_add(1),
+        3 => bound.wrapping_sub(1),
+        4 => random.pick(&[1, 4095, 4096, 4097, 65_536, u32::MAX - 1, u32::MAX]),
+        5 => random.word() as u32,
+        _ => random.between(0, bound.min(5_000)),
+    }
+}
+
+/// The figures of an opening that is often answered.
+fn opening(random: &mut Random) -> (u32, Vec<u32>, Vec<u32>) {
+    let count = if random.percent(90) { random.between(2, 8) } else { random.between(0, 10) } as usize;
+    let most = random.pick(&[1, 3, 10, 100, 4096, 4096]);
+    let limit = if random.percent(90) { random.between(1, most) } else { figure(random, 4096) };
+    let mut ceilings: Vec<u32> = (0..count).map(|_| random.between(0, limit.min(5_000))).collect();
+    let share = |c: &u32| c.min(&(limit / 3)) / 2;
+    let mut assured: Vec<u32> = ceilings.iter().map(share).collect();
+    if random.percent(30) && count > 0 {
+        let place = random.place(count);
+        assured[place] = figure(random, ceilings[place]);
+    }
+    if random.percent(10) && count > 0 {
+        let place = random.place(count);
+        ceilings[place] = figure(random, limit);
+    }
+    if random.percent(5) {
+        ceilings.pop();
+    }
+    (limit, assured, ceilings)
+}
+
+/// A desk that no calls left: an opened one with some figures changed, or any figures at all.
+fn any_desk(random: &mut Random, opened: Desk) -> Desk {
+    let mut desk = opened;
+    if random.percent(20) {
+        let mut small = || figure(random, 9);
+        return Desk {
+            count: small(),
+            limit: small(),
+            held: std::array::from_fn(|_| small()),
+            assured: std::array::from_fn(|_| small()),
+            ceiling: std::array::from_fn(|_| small()),
+        };
+    }
+    for _ in 0..random.between(1, 2) {
+        let place = random.place(8);
+        match random.place(5) {
+            0 => desk.count = figure(random, desk.count),
+            1 => desk.limit = figure(random, desk.limit),
+            2 => desk.held[place] = figure(random, desk.ceiling[place]),
+            3 => desk.assured[place] = figure(random, desk.ceiling[place]),
+            _ => desk.ceiling[place] = figure(random, desk.limit),
+        }
+    }
+    desk
+}
+
+/// Kinds of calls, and the numbers that each can answer.
+pub const KINDS: [(usize, &[usize]); 4] =
+    [(0, &[0, 11, 12, 13]), (1, &[0, 14, 15, 16, 17]), (2, &[0, 14, 15, 18]), (3, &[0, 14])];
+
+const CALLS: usize = 20;
+
+/// How often each number was answered by each kind of call.
+#[derive(Default)]
+pub struct Answers {
+    pub by: [[usize; 19]; 4],
+}
+
+impl Answers {
+    /// The library's answer and desk are the reference's; refused, the desk is as before.
+    fn same(&mut self, kind: usize, answer: u32, desks: (&Desk, &Desk), expected: Result<Desk, u32>, call: &dyn Fn() -> String) {
+        let (before, desk) = desks;
+        let number = expected.err().unwrap_or(0);
+        assert_eq!(answer, number, "{} on {before:?}", call());
+        assert_eq!(*desk, expected.unwrap_or(*before), "{} on {before:?}", call());
+        self.by[kind][number as usize] += 1;
+    }
+
+    fn open(&mut self, random: &mut Random, desk: &mut Desk) {
+        let (limit, assured, ceilings) = opening(random);
+        let before = *desk;
+        // SAFETY: live slices and a live desk.
+        let answer =
+            unsafe { ffi::depot_desk_open(desk, limit, assured.as_ptr(), assured.len(), ceilings.as_ptr(), ceilings.len()) };
+        let expected = reference::open(limit, &assured, &ceilings);
+        self.same(0, answer, (&before, desk), expected, &|| format!("open {limit} {assured:?} {ceilings:?}"));
+    }
+
+    fn claim(&mut self, random: &mut Random, desk: &mut Desk, controller: u32) {
+        let room = reference::look(desk, controller).unwrap_or(10);
+        let modules = figure(random, room);
+        let before = *desk;
+        // SAFETY: a live desk.
+        let answer = unsafe { ffi::depot_desk_claim(desk, controller, modules) };
+        let expected = reference::claim(&before, controller, modules);
+        self.same(1, answer, (&before, desk), expected, &|| format!("claim {controller} {modules}"));
+    }
+
+    fn hand_back(&mut self, random: &mut Random, desk: &mut Desk, controller: u32) {
+        let held = desk.held[controller as usize % 8];
+        let modules = figure(random, held);
+        let before = *desk;
+        // SAFETY: a live desk.
+        let answer = unsafe { ffi::depot_desk_hand_back(desk, controller, modules) };
+        let expected = reference::hand_back(&before, controller, modules);
+        self.same(2, answer, (&before, desk), expected, &|| format!("hand back {controller} {modules}"));
+    }
+
+    fn look(&mut self, random: &mut Random, desk: &mut Desk, controller: u32) {
+        let before = *desk;
+        let shown_before = random.word() as u32;
+        let mut shown = shown_before;
+        // SAFETY: a live desk and a live number.
+        let answer = unsafe { ffi::depot_desk_look(desk, controller, &mut shown) };
+        let expected = reference::look(&before, controller);
+        assert_eq!(shown, expected.unwrap_or(shown_before), "look {controller} on {before:?}");
+        self.same(3, answer, (&before, desk), expected.map(|_| before), &|| format!("look {controller}"));
+    }
+
+    /// Opens a desk, changes its figures now and then, and makes calls on it.
+    pub fn on_a_desk(&mut self, random: &mut Random) {
+        let mut desk = Desk { count: random.word() as u32, ..Desk::default() };
+        self.open(random, &mut desk);
+        while !reference::can_be_left(&desk) && random.percent(90) {
+            self.open(random, &mut desk);
+        }
+        if random.percent(25) {
+            desk = any_desk(random, desk);
+        }
+        for _ in 1..CALLS {
+            let controller = if random.percent(95) { random.between(0, desk.count.clamp(1, 8) - 1) } else { figure(random, 8) };
+            match random.place(5) {
+                0 | 1 => self.claim(random, &mut desk, controller),
+                2 | 3 => self.hand_back(random, &mut desk, controller),
+                _ => self.look(random, &mut desk, controller),
+            }
+        }
+    }
+
+    pub fn calls(&self) -> usize {
+        self.by.iter().flatten().sum()
+    }
+}

@@ -1,0 +1,158 @@
+//! The planning call against a reading of document 01 that tries every order: answers, cards, working memory, and no other byte.
+use super::sheets;
+use crate::guarded::{Against, Guarded};
+use crate::random::Random;
+use crate::{card_length, plan, reference, Refusal, MOST_JOBS};
+
+/// Every so many sheets are planned with the largest working memory too.
+const LARGEST_EVERY: usize = 2;
+const WORK_LENGTHS: [usize; 5] = [0, 1, 47, 4096, 1 << 20];
+const LARGEST: usize = WORK_LENGTHS[4];
+
+/// Lent memory between guard pages, and noise to fill it with.
+pub struct Planning {
+    random: Random,
+    noise: Vec<u8>,
+    sheet: Guarded,
+    card: Guarded,
+    work: Vec<Guarded>,
+    pub compared: usize,
+    /// How often each number was answered.
+    pub answers: [usize; 11],
+}
+
+impl Planning {
+    pub fn new(seed: u64) -> Planning {
+        let mut random = Random::new(seed);
+        let mut noise = vec![0; 2 * LARGEST];
+        random.fill(&mut noise);
+        Planning {
+            random,
+            noise,
+            sheet: Guarded::new(1024),
+            card: Guarded::new(1024),
+            work: WORK_LENGTHS.map(Guarded::new).into(),
+            compared: 0,
+            answers: [0; 11],
+        }
+    }
+
+    fn noise(&mut self, length: usize) -> Vec<u8> {
+        let from = self.random.place(self.noise.len() - length);
+        self.noise[from..from + length].to_vec()
+    }
+
+    /// Plans the sheet with every working memory, against the end guards, and with one of them against the front guards.
+    fn compare(&mut self, sheet: &[u8], room: usize) {
+        let expected = reference::planning::plan(sheet, room);
+        self.answers[expected.as_ref().err().copied().unwrap_or(0) as usize] += 1;
+        let with_largest = self.compared.is_multiple_of(LARGEST_EVERY);
+        let works = if with_largest { 5 } else { 4 };
+        for work in 0..works {
+            self.call(sheet, room, work, Against::End, &expected);
+        }
+        let work = self.random.place(works);
+        self.call(sheet, room, work, Against::Front, &expected);
+        self.compared += 1;
+    }
+
+    fn call(&mut self, sheet: &[u8], room: usize, work: usize, against: Against, expected: &Result<Vec<u8>, u32>) {
+        let card_before = self.noise(room);
+        let mut work_before = self.noise(WORK_LENGTHS[work]);
+        if self.random.percent(50) {
+            remember_all(&mut work_before);
+        }
+        let lent_sheet = self.sheet.lend(against, sheet);
+        let lent_card = self.card.lend(against, &card_before);
+        let lent_work = self.work[work].lend(against, &work_before);
+        let answer = plan(lent_sheet, lent_card, lent_work);
+
+        let about = || format!("sheet {sheet:02x?}, card {room}, work {}, {against:?}", WORK_LENGTHS[work]);
+        let card_left = self.card.left();
+        let work_left = self.work[work].left();
+        match expected {
+            Ok(card) => {
+                assert_eq!(answer, Ok(()), "{}", about());
+                assert_eq!(card_left[..card.len()], card[..], "{}", about());
+                assert_eq!(card_left[card.len()..], card_before[card.len()..], "{}", about());
+                assert!(work_left.iter().all(|byte| *byte == 0), "{}", about());
+            }
+            Err(number) => {
+                assert_eq!(answer.map_err(Refusal::number), Err(*number), "{}", about());
+                assert_eq!(card_left, card_before, "{}", about());
+                assert!(work_left == work_before, "{}", about());
+            }
+        }
+        assert_eq!(self.sheet.left(), sheet);
+        for lent in [&self.sheet, &self.card, &self.work[work]] {
+            assert!(lent.rest_untouched(), "{}", about());
+        }
+    }
+
+    /// Sheets that read, of up to 7 jobs.
+    pub fn good(&mut self, times: usize) {
+        for _ in 0..times {
+            let sheet = sheets::good(&mut self.random);
+            let room = self.enough(sheet.jobs.len());
+            self.compare(&sheet.bytes(), room);
+        }
+    }
+
+    /// Sheets with a fault for a check of 1 to 9, some with another one.
+    pub fn damaged(&mut self, check: u32, times: usize) {
+        for _ in 0..times {
+            let sheet = sheets::good(&mut self.random);
+            let room = if self.random.percent(90) { self.enough(MOST_JOBS) } else { self.random.place(100) };
+            let mut checks = vec![check];
+            if self.random.percent(40) {
+                checks.push(self.random.between(1, 9));
+            }
+            let bytes = sheets::damaged(&mut self.random, sheet, &checks);
+            self.compare(&bytes, room);
+        }
+    }
+
+    /// Cards that are too short.
+    pub fn short_cards(&mut self, times: usize) {
+        for _ in 0..times {
+            let sheet = sheets::good(&mut self.random);
+            let room = self.random.place(card_length(sheet.jobs.len()));
+            self.compare(&sheet.bytes(), room);
+        }
+    }
+
+    /// Sheets with some bytes changed, no matter which.
+    pub fn scrambled(&mut self, times: usize) {
+        for _ in 0..times {
+            let sheet = sheets::good(&mut self.random);
+            let room = self.enough(MOST_JOBS);
+            let bytes = sheets::scrambled(&mut self.random, sheet);
+            self.compare(&bytes, room);
+        }
+    }
+
+    /// Any bytes of this length.
+    pub fn noisy(&mut self, length: usize) {
+        let bytes = self.noise(length);
+        let room = self.enough(MOST_JOBS);
+        self.compare(&bytes, room);
+    }
+
+    /// Room for the card of so many jobs, or more.
+    fn enough(&mut self, jobs: usize) -> usize {
+        card_length(jobs) + self.random.pick(&[0, 0, 1, 30, 500])
+    }
+}
+
+/// Puts part-plans into working memory, laid out as the search lays them out, that would cut every other: one for each set of up
+/// to 7 jobs, all of them ended at minute 0.
+fn remember_all(work: &mut [u8]) {
+    const ENTRY: usize = 46;
+    const WAYS: usize = 16;
+    let groups = work.len() / (WAYS * ENTRY);
+    for set in (1..128).take_while(|_| groups > 0) {
+        let at = (set % groups * WAYS + set / groups % WAYS) * ENTRY;
+        work[at..at + ENTRY].fill(0);
+        work[at] = set as u8;
+    }
+}

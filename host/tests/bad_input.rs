@@ -1,0 +1,282 @@
+//! What `depot` says of wrong lists, sheets, files and words: where the fault is, what was found and what is allowed.
+mod command;
+
+use command::{depot, file};
+use depot_host::raw_sheet::Sheet;
+use depot_host::Job;
+
+const HEAD: &str = "cabinet,16\nlabel,modules,minutes,after,departure\n";
+
+/// The faults of a list, each without the file's name; `depot sheet` and `depot plan` say the same.
+fn faults(text: &[u8]) -> Vec<String> {
+    let list = file("faulty.csv", text);
+    let ran = depot(&["sheet", &list, "-o", "-"], b"");
+    assert_eq!((ran.status, ran.output.as_slice()), (1, &b""[..]), "{}", ran.errors);
+    for form in [vec!["plan", &list], vec!["plan", &list, "--raw"], vec!["plan", &list, "--json"]] {
+        let planned = depot(&form, b"");
+        assert_eq!((planned.status, &planned.errors), (1, &ran.errors));
+        assert_eq!(planned.output, b"");
+    }
+    let name = format!("{list}, ");
+    ran.errors.lines().map(|line| line.strip_prefix(&name).unwrap_or(line).to_string()).collect()
+}
+
+/// A list whose third line is this one has this fault.
+fn row(line: &str, fault: &str) {
+    assert_eq!(faults(format!("{HEAD}{line}\n").as_bytes()), [fault], "{line}");
+}
+
+#[test]
+fn fields() {
+    let number = |low, high| format!("a whole number from {low} to {high}");
+    for (word, found) in [("0", "'0'"), ("256", "'256'"), ("", "nothing"), ("two", "'two'"), ("-1", "'-1'"), ("1.5", "'1.5'")] {
+        row(&format!("A,{word},10,,30"), &format!("line 3, column 2 (modules): found {found}; allowed: {}", number(1, 255)));
+    }
+    for word in ["0", "1441", "99999999999"] {
+        row(&format!("A,1,{word},,30"), &format!("line 3, column 3 (minutes): found '{word}'; allowed: {}", number(1, 1440)));
+    }
+    for word in ["2881", "x"] {
+        row(&format!("A,1,10,,{word}"), &format!("line 3, column 5 (departure): found '{word}'; allowed: {}", number(0, 2880)));
+    }
+    let before_start = "a minute from 0 to 2880; a time of day only behind a line 'start,hh:mm'";
+    row("A,1,10,,05:30", &format!("line 3, column 5 (departure): found '05:30'; allowed: {before_start}"));
+}
+
+#[test]
+fn times_of_day() {
+    let allowed = "a minute from 0 to 2880, or a time hh:mm (hh:mm+1 on the next day) within 48 hours from the start";
+    for word in ["24:00", "5:3", "05:30+3", "20:00+0", "21:01+2"] {
+        let list = format!("start,21:00\n{HEAD}A,1,10,,{word}\n");
+        let fault = format!("line 4, column 5 (departure): found '{word}'; allowed: {allowed}");
+        assert_eq!(faults(list.as_bytes()), [fault]);
+    }
+    for (word, found) in [("25:00", "'25:00'"), ("", "nothing"), ("21:00,22:00", "'21:00,22:00'")] {
+        let fault = format!("line 1, column 2 (start time): found {found}; allowed: a time of day, 00:00 to 23:59");
+        assert_eq!(faults(format!("start,{word}\n{HEAD}").as_bytes()), [fault]);
+    }
+    let twice = "line 2: found a second line 'start'; allowed: one such line";
+    assert_eq!(faults(format!("start,21:00\nstart,22:00\n{HEAD}").as_bytes()), [twice]);
+}
+
+#[test]
+fn labels() {
+    row(",1,10,,30", "line 3, column 1 (label): found no label; allowed: 1 to 12 letters, digits or signs, without spaces");
+    row("ABCDEFGHIJKLM,1,10,,30", "line 3, column 1 (label): found 'ABCDEFGHIJKLM', 13 characters; allowed: 1 to 12 characters");
+    let plain = "plain letters, digits and signs (bytes 33 to 126), without spaces";
+    row("B 1,1,10,,30", &format!("line 3, column 1 (label): found 'B 1' with ' ' in it; allowed: {plain}"));
+    row("Bü1,1,10,,30", &format!("line 3, column 1 (label): found 'Bü1' with 'ü' in it; allowed: {plain}"));
+    row("B\u{7f},1,10,,30", &format!("line 3, column 1 (label): found 'B\\u{{7f}}' with '\\u{{7f}}' in it; allowed: {plain}"));
+}
+
+#[test]
+fn names_in_after() {
+    let names = "labels of this list or job numbers, with a space between them";
+    row("A,1,10,B,30", &format!("line 3, column 4 (after): found 'B', which is no job's label; allowed: {names}"));
+    let hint = format!("{names}; job number 0 is written #0");
+    row("A,1,10,0,30", &format!("line 3, column 4 (after): found '0', which is no job's label; allowed: {hint}"));
+    row("A,1,10,#1,30", "line 3, column 4 (after): found '#1'; allowed: the job numbers #0 to #0");
+    let twice = format!("{HEAD}A,1,10,,30\nA,1,10,,30\nB,1,10,A,30\n");
+    let fault = "line 5, column 4 (after): found 'A', the label of 2 jobs; allowed: one of them by its number: #0 or #1";
+    assert_eq!(faults(twice.as_bytes()), [fault]);
+}
+
+#[test]
+fn the_cabinet() {
+    for (word, found) in [("0", "'0'"), ("65", "'65'"), ("x", "'x'"), ("-3", "'-3'")] {
+        let fault = format!("line 1, column 2 (modules of the cabinet): found {found}; allowed: a whole number from 1 to 64");
+        let missing =
+            "line 2: found no line 'cabinet' with a number of modules before the header; allowed: 'cabinet,N', N from 1 to 64";
+        let list = format!("cabinet,{word}\nlabel,modules,minutes,departure\n");
+        assert_eq!(faults(list.as_bytes()), [&fault, missing]);
+    }
+    let missing =
+        "line 1: found no line 'cabinet' with a number of modules before the header; allowed: 'cabinet,N', N from 1 to 64";
+    assert_eq!(faults(b"label,modules,minutes,departure\nA,1,10,30\n"), [missing]);
+    let twice = "line 2: found a second line 'cabinet'; allowed: a line 'cabinet,N' once, N a whole number from 1 to 64";
+    assert_eq!(faults(b"cabinet,4\ncabinet,5\nlabel,modules,minutes,departure\n"), [twice]);
+}
+
+#[test]
+fn columns() {
+    let all = "the columns label, modules, minutes, after, departure";
+    let unknown = faults(b"cabinet,4\nlabel,modules,minutes,departure,price\nA,1,10,30\n");
+    assert_eq!(unknown, [format!("line 2, column 5 (header): found 'price'; allowed: {all}")]);
+    let needed = "a header line with label, modules, minutes, departure and, where jobs wait for others, after";
+    for name in ["label", "modules", "minutes", "departure"] {
+        let header = ["label", "modules", "minutes", "departure"].into_iter().filter(|other| *other != name);
+        let list = format!("cabinet,4\n{}\nA,1,10\n", header.collect::<Vec<_>>().join(","));
+        assert_eq!(faults(list.as_bytes()), [format!("line 2: found no column '{name}'; allowed: {needed}")]);
+    }
+    let twice = faults(b"cabinet,4\nlabel,modules,minutes,departure,Label\n");
+    assert_eq!(twice, ["line 2, column 5 (Label): found a column that stands twice; allowed: each column once"]);
+    let no_header = faults(b"cabinet,4\nA,1,10,,30\nB,1,10,,30\n");
+    let header = "line 2: found 'A,1,10,,30'; allowed: a header line before the jobs, as label,modules,minutes,after,departure";
+    assert_eq!(no_header, [header]);
+    row("A,1,10,,30,extra", "line 3, column 6 (no column): found 'extra' behind the last column; allowed: 5 fields");
+    let quotes = "a field as it is, or all of it in double quotes, with a double quote inside written twice";
+    row("A,1,10,\"B,30", &format!("line 3, column 4 (after): found a double quote that nothing closes; allowed: {quotes}"));
+    row("\"A\"B,1,10,,30", &format!("line 3, column 1 (label): found text behind a closing double quote; allowed: {quotes}"));
+    row(
+        "A,1,1\"0,,30",
+        &format!(
+            "line 3, column 3 (minutes): found a double quote inside a field that does not begin with one; allowed: {quotes}"
+        ),
+    );
+}
+
+#[test]
+fn whole_lists() {
+    let many = format!("{HEAD}{}", "A,1,10,,30\n".repeat(21));
+    assert_eq!(faults(many.as_bytes()), ["line 23: found job 21 of 21; allowed: up to 20 jobs"]);
+    let no_text = [HEAD.as_bytes(), b"A,1,10,,30\n\xff\xfe,1,10,,30\n"].concat();
+    assert_eq!(faults(&no_text), ["line 4: found bytes that are no text; allowed: text in UTF-8"]);
+    let header = "found no header line; allowed: a line with the columns label,modules,minutes,after,departure";
+    assert_eq!(faults(b"cabinet,4\n"), [format!("line 1: {header}")]);
+    assert_eq!(faults(b"").len(), 2);
+    let several = faults(format!("{HEAD}A,0,0,Z,9999\n,1,10,,30\n").as_bytes());
+    assert_eq!(several.len(), 5);
+    assert!(several[0].starts_with("line 3, column 2") && several[4].starts_with("line 4, column 1"), "{several:?}");
+    let endless = faults(format!("{HEAD}{}", ",0,0,,x\n".repeat(20)).as_bytes());
+    assert_eq!((endless.len(), endless[20].rsplit(": ").next()), (21, Some("and 60 more")));
+}
+
+/// What the library refuses for a job that it does not name, the tool points at.
+#[test]
+fn over_wide_and_circular() {
+    let refused = |rows: &str, number: u32, lines: &[&str]| {
+        let list = file("refused.csv", format!("{HEAD}{rows}").as_bytes());
+        let ran = depot(&["plan", &list], b"");
+        let mut said = ran.errors.lines();
+        assert!(said.next().unwrap().starts_with(&format!("{list}: refused {number}: ")), "{}", ran.errors);
+        let rest: Vec<&str> = said.collect();
+        let last = format!("  'depot explain {number}' says what to do");
+        assert_eq!(rest, [lines, &[last.as_str()]].concat());
+        assert_eq!((ran.status, ran.text().as_str()), (1, ""));
+        assert_eq!(depot(&["plan", &list, "--raw"], b"").text(), format!("refused {number}\n"));
+        assert!(depot(&["plan", &list, "--json"], b"").text().starts_with(&format!("{{\"refused\": {number}, ")));
+        assert_eq!(depot(&["sheet", &list, "-o", "-"], b"").status, 0);
+    };
+    refused(
+        "A,16,10,,30\nB,17,10,,30\nC,20,10,,30\n",
+        8,
+        &["  B (line 4) needs 17 modules; the cabinet has 16", "  C (line 5) needs 20 modules; the cabinet has 16"],
+    );
+    refused("A,4,10,A,30\n", 9, &["  A (line 3) waits for itself"]);
+    refused(
+        "A,4,10,,30\nB,4,10,A C,30\nC,4,10,D,30\nD,1,10,B,30\n",
+        9,
+        &["  each waits for the next: B (line 4), C (line 5), D (line 6), B (line 4)"],
+    );
+    let sheet = Sheet::of(2, vec![Job { modules: 3, minutes: 1, ..Job::default() }]).bytes();
+    let ran = depot(&["plan", "-"], &sheet);
+    assert_eq!(ran.errors.lines().nth(1), Some("  A (job 0) needs 3 modules; the cabinet has 2"));
+}
+
+#[test]
+fn sheets_that_do_not_read() {
+    for (bytes, number) in
+        [(&b"1234567"[..], 1), (&[0; 449], 1), (&[0, 0, 0, 0, 21, 0, 1, 0], 2), (&[0; 8], 3), (&[1, 0, 0, 0, 0, 0, 1, 0], 4)]
+    {
+        for verb in ["plan", "list"] {
+            let ran = depot(&[verb, "-"], bytes);
+            assert_eq!((ran.status, ran.text().as_str()), (1, ""));
+            assert!(ran.errors.starts_with(&format!("-: refused {number}: ")), "{}", ran.errors);
+            assert!(ran.errors.ends_with(&format!("'depot explain {number}' says what to do\n")), "{}", ran.errors);
+            let json = depot(&[verb, "-", "--json"], bytes);
+            assert_eq!((json.status, json.errors.as_str()), (1, ""));
+            assert!(json.text().starts_with(&format!("{{\"refused\": {number}, \"why\": ")));
+        }
+    }
+}
+
+/// A list by another name is taken for a sheet; what is said helps.
+#[test]
+fn a_list_taken_for_a_sheet() {
+    for verb in ["plan", "list"] {
+        let ran = depot(&[verb, "-"], format!("{HEAD}A,1,10,,30\n").as_bytes());
+        assert_eq!(ran.status, 1);
+        let help = "  this looks like a list: 'depot plan' and 'depot sheet' take it by a name that ends in .csv";
+        assert_eq!(ran.errors.lines().nth(1), Some(help), "{}", ran.errors);
+    }
+}
+
+/// A wrong command line: status 2, nothing on standard output, and what to read.
+#[test]
+fn words() {
+    let usage = |words: &[&str], said: &str| {
+        let ran = depot(words, b"");
+        assert_eq!((ran.status, ran.text().as_str(), ran.errors.as_str()), (2, "", said), "{words:?}");
+    };
+    usage(&[], "depot: a verb is missing; 'depot --help' names the verbs\n");
+    usage(&["paln"], "depot: there is no verb 'paln'; 'depot --help' names the verbs\n");
+    usage(&["help", "paln"], "depot: there is no verb 'paln'; 'depot --help' names the verbs\n");
+    usage(&["plan"], "depot plan: a list or a sheet is missing; 'depot plan --help' shows what it takes\n");
+    usage(&["plan", "a", "b"], "depot plan: 'b' is one word too many; 'depot plan --help' shows what it takes\n");
+    usage(&["plan", "a", "--fast"], "depot plan: there is no option '--fast'; 'depot plan --help' shows what it takes\n");
+    usage(&["plan", "a", "--raw=1"], "depot plan: there is no option '--raw=1'; 'depot plan --help' shows what it takes\n");
+    usage(&["plan", "a", "--svg"], "depot plan: --svg needs a value; 'depot plan --help' shows what it takes\n");
+    usage(
+        &["plan", "a", "--raw", "--json"],
+        "depot plan: --raw and --json exclude each other; 'depot plan --help' shows what it takes\n",
+    );
+    usage(
+        &["plan", "a", "--start", "25:00"],
+        "depot plan: --start: found '25:00'; allowed is a time of day, 00:00 to 23:59; 'depot plan --help' shows what it takes\n",
+    );
+    usage(
+        &["plan", "a", "--memory", "1G"],
+        "depot plan: --memory: found '1G'; allowed is a number of bytes, or one with K or M; 'depot plan --help' shows what it takes\n",
+    );
+    usage(
+        &["plan", "a", "--start", "1:00", "--start", "2:00"],
+        "depot plan: --start stands twice; 'depot plan --help' shows what it takes\n",
+    );
+    usage(&["sheet", "a"], "depot sheet: -o FILE is missing; 'depot sheet --help' shows what it takes\n");
+    usage(&["sheet"], "depot sheet: a list is missing; 'depot sheet --help' shows what it takes\n");
+    usage(&["list"], "depot list: a sheet is missing; 'depot list --help' shows what it takes\n");
+    for number in ["0", "19", "x", "-1x"] {
+        assert_eq!(depot(&["explain", number], b"").status, 2);
+    }
+}
+
+#[test]
+fn files() {
+    let missing = "cannot be read: there is no such file or folder\n";
+    for words in [&["plan", "no/such.csv"][..], &["plan", "no/such.sheet"], &["list", "no/such.sheet"], &["desk", "no/such.desk"]]
+    {
+        let ran = depot(words, b"");
+        assert_eq!((ran.status, ran.errors), (2, format!("depot: '{}' {missing}", words[1])));
+    }
+    assert_eq!(depot(&["plan", "examples"], b"").errors, "depot: 'examples' cannot be read: it is a folder\n");
+    let unwritable = depot(&["plan", "examples/small-depot.csv", "--svg", "no/such/folder.svg"], b"");
+    assert_eq!((unwritable.status, unwritable.text().as_str()), (2, ""));
+    assert_eq!(unwritable.errors, "depot: 'no/such/folder.svg' cannot be written: there is no such file or folder\n");
+}
+
+/// A line that is no command is named, the others are still taken, and the status says it.
+#[test]
+fn desk_lines() {
+    let lines = [
+        ("claim 0 1", "there is no desk yet; open one first, as 'open 10 yard=4/10 workshop=3/10'"),
+        ("open", "found 'open' alone; allowed: open LIMIT SHARE/CEILING .., as 'open 10 yard=4/10 workshop=3/10'"),
+        ("open x 1/2 1/2", "found 'x'; allowed: a whole number of modules as the limit"),
+        ("open 10 4-10 3/10", "found '4-10'; allowed: SHARE/CEILING or NAME=SHARE/CEILING, as 4/10 or yard=4/10"),
+        ("open 10 7=4/10 3/10", "found '7=4/10'; allowed: SHARE/CEILING or NAME=SHARE/CEILING, as 4/10 or yard=4/10"),
+        ("open 10 a=4/10 a=3/10", "found the name 'a' twice; allowed: a name for each controller"),
+        ("claim 0", "found 'claim 0'; allowed: claim CONTROLLER MODULES, as 'claim 0 4'"),
+        ("claim yard 1", "found 'yard'; allowed: a controller's number"),
+        ("claim 0 -1", "found '-1'; allowed: a whole number of modules"),
+        ("look 0 1", "found 'look 0 1'; allowed: look, or look CONTROLLER"),
+        ("explain 19", "found '19'; allowed: refusals 1 to 18"),
+        ("grab 1 1", "found 'grab 1 1'; allowed: open, claim, back, look, show, explain, help, quit"),
+    ];
+    let script = file("wrong.desk", lines.map(|(line, _)| line).join("\n").as_bytes());
+    let ran = depot(&["desk", &script], b"");
+    assert_eq!((ran.status, ran.errors.as_str()), (2, "depot: 12 lines are no command\n"));
+    let said: Vec<String> = ran.text().lines().filter(|line| !line.starts_with('>')).map(String::from).collect();
+    let expected = lines.iter().enumerate().map(|(place, (_, why))| format!("{script}, line {}: {why}", place + 1));
+    assert_eq!(said, expected.collect::<Vec<_>>());
+    let json = depot(&["desk", "--json"], b"grab\nopen 10 4/10 3/10\n");
+    assert_eq!(json.status, 2);
+    assert!(json.text().starts_with("{\"error\": \"found 'grab'; ") && json.text().contains("\"call\": \"open\""));
+}

@@ -1,0 +1,263 @@
+//! What `depot` answers: golden outputs of every verb, the committed pictures, round trips, and the printing program's lines.
+//!
+//! With DEPOT_GOLDEN=write the golden outputs and the pictures are written instead; look at what changed before it is kept.
+mod command;
+
+use command::{depot, file, run, top};
+use depot_host::compare::sheets;
+use depot_host::random::Random;
+use depot_host::{card_length, plan, Card};
+use std::path::Path;
+use std::{env, fs};
+
+const EXAMPLES: [&str; 3] = ["small-depot", "mixed-night", "hard-night"];
+/// The one whose search takes a while.
+const HARD: &str = "hard-night";
+const SCRIPT: &str = "examples/shared-feeder.desk";
+
+/// Holds bytes to a file of the repository.
+fn same(path: &str, found: &[u8]) {
+    let full = top().join(path);
+    if env::var("DEPOT_GOLDEN").as_deref() == Ok("write") {
+        fs::write(&full, found).expect("the golden file is written");
+    }
+    let kept = fs::read(&full).unwrap_or_else(|why| panic!("{path}: {why}"));
+    assert!(kept == found, "{path} differs; it would be:\n{}", String::from_utf8_lossy(found));
+}
+
+fn golden(name: &str, words: &[&str], status: i32) {
+    let ran = depot(words, b"");
+    assert_eq!(ran.status, status, "{words:?}: {}", ran.errors);
+    assert_eq!(ran.errors, "", "{words:?}");
+    same(&format!("host/tests/golden/{name}"), &ran.output);
+}
+
+#[test]
+fn help() {
+    golden("help.txt", &["--help"], 0);
+    for verb in ["plan", "sheet", "list", "desk", "explain"] {
+        let name = format!("help-{verb}.txt");
+        golden(&name, &[verb, "--help"], 0);
+        golden(&name, &["help", verb], 0);
+        golden(&name, &[verb, "-h"], 0);
+    }
+    assert_eq!(depot(&["--version"], b"").text(), format!("depot {}\n", env!("CARGO_PKG_VERSION")));
+}
+
+#[test]
+fn explain() {
+    golden("explain.txt", &["explain"], 0);
+    golden("explain.json", &["explain", "--json"], 0);
+    let each = (1..=18).map(|number: u32| depot(&["explain", &number.to_string()], b"").text());
+    same("host/tests/golden/explain-each.txt", each.collect::<Vec<_>>().join("\n").as_bytes());
+    golden("explain-17.json", &["explain", "17", "--json"], 0);
+}
+
+/// Table, picture, page and card of one run.
+#[test]
+fn plans_and_pictures() {
+    for name in EXAMPLES {
+        let list = format!("examples/{name}.csv");
+        let picture = format!("examples/{name}.svg");
+        let [svg, html, card] = ["svg", "html", "card"].map(|kind| file(&format!("{name}.{kind}"), b""));
+        let ran = depot(&["plan", &list, "--svg", &svg, "--html", &html, "--card", &card], b"");
+        assert_eq!(ran.status, 0, "{}", ran.errors);
+        let progress = |line: &str| line.starts_with("searching for the earliest end: ") || line.starts_with("searched for ");
+        assert!(ran.errors.lines().all(|line| name == HARD && progress(line)), "{}", ran.errors);
+        same(&format!("host/tests/golden/plan-{name}.txt"), &ran.output);
+        let drawn = fs::read(&svg).unwrap();
+        same(&picture, &drawn);
+        let page = fs::read_to_string(&html).unwrap();
+        if name == "mixed-night" {
+            same("host/tests/golden/plan-mixed-night.html", page.as_bytes());
+        }
+        for outside in ["http:", "https:", "src=", "href=", "<script", "@import"] {
+            let elsewhere = page.replace("http://www.w3.org/2000/svg", "");
+            assert!(!elsewhere.contains(outside), "{name}: the page asks for something outside: {outside}");
+        }
+        card_is_the_library_s(&list, &fs::read(&card).unwrap());
+    }
+}
+
+/// The card's bytes are those of the planning call, and the picture has every start and end of them.
+fn card_is_the_library_s(list: &str, card: &[u8]) {
+    let sheet = file("of-list.sheet", b"");
+    assert_eq!(depot(&["sheet", list, "-o", &sheet], b"").status, 0);
+    let sheet = fs::read(sheet).unwrap();
+    let mut expected = vec![0; card.len()];
+    plan(&sheet, &mut expected, &mut vec![0; 1 << 20]).unwrap();
+    assert_eq!(card, expected);
+    let decoded = Card::of(card).unwrap();
+    assert_eq!(card.len(), card_length(decoded.rows.len()));
+}
+
+#[test]
+fn plans_in_other_forms() {
+    for name in ["small-depot", "mixed-night"] {
+        let list = format!("examples/{name}.csv");
+        golden(&format!("plan-{name}.json"), &["plan", &list, "--json"], 0);
+        golden(&format!("plan-{name}.raw"), &["plan", &list, "--raw"], 0);
+        golden(&format!("plan-{name}.raw"), &["plan", &list, "--raw", "--memory", "0"], 0);
+        golden(&format!("plan-{name}.raw"), &["plan", &list, "--raw", "--memory=64K"], 0);
+    }
+    golden("plan-other-start.txt", &["plan", "examples/small-depot.csv", "--start", "22:30"], 0);
+    let sheet = file("no-start.sheet", b"");
+    assert_eq!(depot(&["sheet", "examples/small-depot.csv", "-o", &sheet], b"").status, 0);
+    let from_input = depot(&["plan", "-"], &fs::read(&sheet).unwrap());
+    same("host/tests/golden/plan-no-start.txt", &from_input.output);
+    let empty = depot(&["plan", "-"], &[0, 0, 0, 0, 0, 0, 1, 0]);
+    assert_eq!(
+        (empty.status, empty.text().as_str()),
+        (0, "-: 0 jobs on 1 module: nothing to plan; the plan ends at minute 0.\n")
+    );
+}
+
+/// A sheet without jobs, the longest sheet and labels full of markup are drawn too.
+#[test]
+fn pictures_of_edges() {
+    let longest = format!("{}\n", "~~~~~~~~~~~~,64,1440,,2880\n".repeat(20));
+    let header = "cabinet,64\nlabel,modules,minutes,after,departure\n";
+    let markup = "\"<b>&\"\"'x'\",1,1,,0\n</title>,1,1,,0\n";
+    for (name, rows) in [("none", ""), ("longest", longest.as_str()), ("markup", markup)] {
+        let list = file(&format!("{name}.csv"), format!("{header}{rows}").as_bytes());
+        let [svg, html] = ["svg", "html"].map(|kind| file(&format!("{name}.{kind}"), b""));
+        let ran = depot(&["plan", &list, "--svg", &svg, "--html", &html], b"");
+        assert_eq!((ran.status, ran.errors.as_str()), (0, ""));
+        for drawn in [svg, html] {
+            let text = fs::read_to_string(drawn).unwrap();
+            assert!(text.contains("</svg>") && !text.contains("<b>") && !text.contains("NaN") && !text.contains("inf"));
+            assert_eq!(text.matches("</title>").count(), text.matches("<title>").count());
+        }
+    }
+}
+
+#[test]
+fn raw_is_what_the_printing_program_prints() {
+    let printed = fs::read_to_string(top().join("host/tests/golden/printed.txt")).unwrap();
+    let mut cases = 0;
+    for case in printed.split("case ").skip(1) {
+        let mut lines = case.splitn(3, '\n');
+        let (name, sheet, expected) = (lines.next().unwrap(), lines.next().unwrap(), lines.next().unwrap());
+        let sheet = sheet.strip_prefix("sheet ").unwrap();
+        let bytes: Vec<u8> = (0..sheet.len()).step_by(2).map(|i| u8::from_str_radix(&sheet[i..i + 2], 16).unwrap()).collect();
+        let ran = depot(&["plan", "-", "--raw"], &bytes);
+        assert_eq!(ran.text(), expected, "{name}");
+        assert_eq!((ran.status, ran.errors.as_str()), (i32::from(expected.starts_with("refused")), ""), "{name}");
+        cases += 1;
+    }
+    assert!(cases >= 25, "{cases} cases");
+    let program = top().join("target/bin/print_plan");
+    if program.is_file() {
+        as_the_program_says(&program);
+    }
+}
+
+fn as_the_program_says(program: &Path) {
+    let mut random = Random::new(12);
+    for turn in 0..120 {
+        let sheet = sheets::good(&mut random);
+        let bytes = if turn % 2 == 0 { sheet.bytes() } else { sheets::damaged(&mut random, sheet, &[turn % 9 + 1]) };
+        let said = run(program, &[], &bytes);
+        assert_eq!(depot(&["plan", "-", "--raw"], &bytes).output, said.output, "sheet {bytes:02x?}");
+    }
+}
+
+#[test]
+fn sheets_and_lists() {
+    for name in EXAMPLES {
+        let list = format!("examples/{name}.csv");
+        let sheet = file(&format!("{name}.sheet"), b"");
+        assert_eq!(depot(&["sheet", &list, "-o", &sheet], b"").status, 0);
+        golden(&format!("list-{name}.csv"), &["list", &sheet], 0);
+    }
+    let sheet = file("clock.sheet", b"");
+    assert_eq!(depot(&["sheet", "examples/mixed-night.csv", "-o", &sheet], b"").status, 0);
+    golden("list-start.csv", &["list", &sheet, "--start", "20:15"], 0);
+    golden("list.json", &["list", &sheet, "--json"], 0);
+    let to_output = depot(&["sheet", "examples/mixed-night.csv", "-o", "-"], b"");
+    assert_eq!(to_output.output, fs::read(&sheet).unwrap());
+}
+
+/// A sheet becomes a list, and the list the same sheet again, whatever its labels, with minutes and with times of day.
+#[test]
+fn every_sheet_comes_back() {
+    let mut random = Random::new(5);
+    let list = file("back.csv", b"");
+    for turn in 0..150 {
+        let mut sheet = sheets::of_size(&mut random, turn % 21);
+        for (place, byte) in sheet.labels.iter_mut().enumerate() {
+            *byte = if place % 2 == 0 { random.pick(b"#\",;0123'") } else { *byte };
+        }
+        if turn % 5 == 4 {
+            // labels that name several jobs, or look like numbers of jobs
+            let label = random.pick(&[*b"B7", *b"#1", *b"12"]);
+            sheet.jobs.iter_mut().for_each(|job| job.label_len = 2);
+            sheet.labels = label.repeat(sheet.jobs.len());
+            sheet.offset = sheet.labels.len() as u32;
+        }
+        let bytes = sheet.bytes();
+        let words =
+            if turn % 3 == 0 { vec!["list", "-", "-o", &list, "--start", "23:10"] } else { vec!["list", "-", "-o", &list] };
+        let listed = depot(&words, &bytes);
+        assert_eq!((listed.status, listed.errors.as_str()), (0, ""), "{bytes:02x?}");
+        let back = depot(&["sheet", &list, "-o", "-"], b"");
+        assert_eq!((back.status, back.errors.as_str()), (0, ""), "{}", fs::read_to_string(&list).unwrap());
+        assert_eq!(back.output, bytes, "{}", fs::read_to_string(&list).unwrap());
+    }
+}
+
+#[test]
+fn lists_as_people_write_them() {
+    let plain = "cabinet,4\nlabel,modules,minutes,after,departure\nA,1,10,,30\nB,2,20,A,25\n";
+    let expected = depot(&["sheet", &file("plain.csv", plain.as_bytes()), "-o", "-"], b"");
+    assert_eq!(expected.status, 0, "{}", expected.errors);
+    let others = [
+        "\u{feff}cabinet,4\r\nlabel,modules,minutes,after,departure\r\nA,1,10,,30\r\nB,2,20,A,25\r\n",
+        "# a remark\n\nCabinet , 4,,,\n\nAfter,Departure,Label,Minutes,Modules\n,30,A,10,1\n#0,25,\"B\",20,2\n,,,,\n",
+        "cabinet,4\nstart,21:00\nlabel,modules,minutes,after,departure\nA,1,10,,21:30\nB,2,20, A ,21:25",
+        "cabinet;4;;;\r\nlabel;modules;minutes;after;departure\r\nA;1;10;;30\r\nB;2;20;A;25\r\n",
+        "start,23:50\ncabinet,4\nlabel,modules,minutes,departure,after\nA,1,10,0:20+1\nB,2,20,25,A\n",
+    ];
+    let late = "cabinet,4\nstart,09:00\nlabel,modules,minutes,after,departure\nA,1,10,,21:30\nB,2,20,A,25\n";
+    let words = ["sheet", &file("late.csv", late.as_bytes()), "-o", "-", "--start", "21:00"];
+    assert_eq!(depot(&words, b"").output, expected.output);
+    for (place, text) in others.iter().enumerate() {
+        let ran = depot(&["sheet", &file(&format!("other-{place}.csv"), text.as_bytes()), "-o", "-"], b"");
+        assert_eq!((ran.status, ran.errors.as_str()), (0, ""));
+        assert_eq!(ran.output, expected.output, "{text}");
+    }
+}
+
+#[test]
+fn desk() {
+    golden("desk.txt", &["desk", SCRIPT], 1);
+    golden("desk.json", &["desk", SCRIPT, "--json"], 1);
+    let script = fs::read(top().join(SCRIPT)).unwrap();
+    let typed = depot(&["desk"], &script);
+    let shown = depot(&["desk", SCRIPT], b"").text();
+    let answers: Vec<&str> = shown.lines().filter(|line| !line.starts_with('>')).collect();
+    assert_eq!(typed.text().lines().collect::<Vec<_>>(), answers);
+    let calm = depot(&["desk"], b"open 10 4/10 3/10\nclaim 0 7\nback 0 7\nquit\nclaim 0 99\n");
+    assert_eq!((calm.status, calm.text().lines().last()), (0, Some("done: hands back 7; controller 0 now holds 0")));
+}
+
+/// Each refusal of the desk, with its sums.
+#[test]
+fn desk_refusals() {
+    let script = b"open 10 4/10\nopen 10 5/4 3/12\nopen 0 0/0 0/0\nopen 10 6/10 5/10\nopen 10 4/8 3/10\nclaim 2 1\nlook 7\nclaim 0 0\n\
+                   claim 0 9\nclaim 0 4294967295\nclaim 0 8\nclaim 1 3\nclaim 0 5\nclaim 1 6\nback 0 6\nback 0 0\nback 9 1\nclaim 1 7\n";
+    let ran = depot(&["desk"], script);
+    assert_eq!((ran.status, ran.errors.as_str()), (1, ""));
+    same("host/tests/golden/desk-refusals.txt", &ran.output);
+    for number in [11, 12, 13, 14, 15, 16, 17, 18] {
+        assert!(ran.text().contains(&format!("refused {number}: ")), "no refusal {number}");
+    }
+}
+
+#[test]
+fn output_that_nobody_reads_is_no_trouble() {
+    let pipe = format!("'{}' explain | head -n 1", env!("CARGO_BIN_EXE_depot"));
+    let ran = run(Path::new("/bin/sh"), &["-c", &pipe], b"");
+    assert_eq!((ran.status, ran.errors.as_str()), (0, ""));
+    assert_eq!(ran.text(), " 1  the sheet has fewer than 8 or more than 448 bytes\n");
+}
