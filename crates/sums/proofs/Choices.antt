@@ -20,7 +20,7 @@ use Rattle.sums.specs.Sums.{together, Within, SumsOf, Room, Doubled}
 pub record Doubling (sums₀ : List ℕ) (count minutes : ℕ) (sums : List ℕ) (i : ℕ) : Type 0 where
   pub room : Room sums₀ count minutes
   pub inside : i ≤ count
-  pub size : length sums ≡ 1024
+  pub size : length sums ≡ length sums₀
   pub kept : (k : ℕ) → k < count → getD sums k 0 ≡ getD sums₀ k 0
   pub more : (k : ℕ) → k < i → getD sums (count + k) 0 ≡ getD sums₀ k 0 + minutes
 
@@ -28,7 +28,7 @@ pub doubling-none : {sums : List ℕ} {count minutes : ℕ} → Room sums count 
 doubling-none r = record {
   room = r;
   inside = zero-le;
-  size = r .size;
+  size = refl;
   kept = λ k l. refl;
   more = λ k l. absurd (not-suc-le-zero l);
 }
@@ -55,7 +55,7 @@ module _ {sums₀ sums : List ℕ} {count minutes i : ℕ} (d : Doubling sums₀
       go k m (inr e) = getD-set-other sums (count + i) (count + k) x 0 (λ q. e (omega arith)) ∙ d .more k (omega arith)
 
   pub doubling-all : count ≤ i → Doubled sums₀ sums count minutes
-  doubling-all l = record { size = d .size; kept = d .kept; more = λ k m. d .more k (omega arith) }
+  doubling-all l = record { kept = d .kept; more = λ k m. d .more k (omega arith) }
 
 -- ---- one job more
 
@@ -65,11 +65,10 @@ unfolding sum
 together-more minutes j X = rw add-one
 
 -- of no jobs there is the sum 0
-pub sums-start : (minutes : List ℕ) (chosen : ℕ) (sums : List ℕ) → length sums ≡ 1024 → SumsOf minutes chosen 0 (set sums 0 0) 1
+pub sums-start : (minutes : List ℕ) (chosen : ℕ) (sums : List ℕ) → 0 < length sums → SumsOf minutes chosen 0 (set sums 0 0) 1
 unfolding sum
 sums-start minutes chosen sums e = record {
-  size = length-set sums 0 0 ∙ e;
-  few = omega arith;
+  few = omega (arith, length-set sums 0 0);
   short = λ i l. let z : i ≡ 0 = omega arith in rw z (omega (arith, first));
   each = λ _ X w. (0, omega arith, first);
 }
@@ -81,7 +80,6 @@ module _ {minutes : List ℕ} {chosen j : ℕ} {sums : List ℕ} {count : ℕ} (
   -- a job that is not in the set adds none
   pub sums-skip : bit chosen j ≡ false → SumsOf minutes chosen (j + 1) sums count
   sums-skip out = record {
-    size = s .size;
     few = s .few;
     short = λ i l. omega (arith, s .short i l);
     each = λ some X w. go X w (s .each some X w) (true-or-false (X j));
@@ -97,21 +95,19 @@ module _ {minutes : List ℕ} {chosen j : ℕ} {sums : List ℕ} {count : ℕ} (
   -- there are none where they have no room
   pub sums-none : SumsOf minutes chosen (j + 1) sums 0
   sums-none = record {
-    size = s .size;
     few = zero-le;
     short = λ i l. absurd (not-suc-le-zero l);
     each = λ some X w. absurd (not-suc-le-zero some);
   }
 
-  pub sums-room : j < 20 → getD minutes j 0 ≤ 1440 → count ≤ 512 → Room sums count (getD minutes j 0)
-  sums-room a b few = record { size = s .size; few = few; fits = λ i l. omega (arith, s .short i l) }
+  pub sums-room : j < 20 → getD minutes j 0 ≤ 1440 → 2 * count ≤ length sums → Room sums count (getD minutes j 0)
+  sums-room a b few = record { few = few; fits = λ i l. omega (arith, s .short i l) }
 
   -- each choice takes the job or leaves it
-  pub sums-more : {sums′ : List ℕ} → getD minutes j 0 ≤ 1440 → count ≤ 512 → Doubled sums sums′ count (getD minutes j 0)
+  pub sums-more : {sums′ : List ℕ} → getD minutes j 0 ≤ 1440 → 2 * count ≤ length sums′ → Doubled sums sums′ count (getD minutes j 0)
       → SumsOf minutes chosen (j + 1) sums′ (2 * count)
   sums-more {sums′} day few d = record {
-    size = d .size;
-    few = omega arith;
+    few = few;
     short = λ i l. short i l (less-or-not i count);
     each = λ some X w. go X (s .each (omega arith) X w) (true-or-false (X j));
   }

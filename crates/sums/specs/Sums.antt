@@ -24,20 +24,17 @@ pub record ShortJobs (minutes : List ℕ) (jobs : ℕ) : Type 0 where
 
 -- among the first `count` sums, where there are any, is that of each choice from the first `jobs` jobs of the set
 pub record SumsOf (minutes : List ℕ) (set jobs : ℕ) (at : List ℕ) (count : ℕ) : Type 0 where
-  pub size : length at ≡ 1024
-  pub few : count ≤ 1024
+  pub few : count ≤ length at
   pub short : (i : ℕ) → i < count → getD at i 0 ≤ 1440 * jobs
   pub each : 0 < count → (X : ℕ → Bool) → Within X set → (i : ℕ) × (i < count) × (getD at i 0 ≡ together minutes jobs X)
 
 -- behind the first `count` sums is room for the same with so many minutes more
 pub record Room (at : List ℕ) (count minutes : ℕ) : Type 0 where
-  pub size : length at ≡ 1024
-  pub few : count ≤ 512
+  pub few : 2 * count ≤ length at
   pub fits : (i : ℕ) → i < count → getD at i 0 + minutes < 65536
 
 -- those stand behind the first `count` sums, which are as they were
 pub record Doubled (at at′ : List ℕ) (count minutes : ℕ) : Type 0 where
-  pub size : length at′ ≡ 1024
   pub kept : (i : ℕ) → i < count → getD at′ i 0 ≡ getD at i 0
   pub more : (i : ℕ) → i < count → getD at′ (count + i) 0 ≡ getD at i 0 + minutes
 

@@ -8,7 +8,7 @@ ghost use Rattle.counting.specs.Counting.{only};
 ghost use Rattle.sums.specs.Sums.{ShortJobs, SumsOf, Room, Doubled, longest, longestPair, Rounded, Running, servedBy, Unserved};
 
 // The sums with those of one job more, which lasts so many minutes, behind them.
-fn add_job(at: &mut [u16; 1024], count: usize, minutes: u16)
+fn add_job(at: &mut [u16], count: usize, minutes: u16)
     requires { ⌜ Room (now at) count minutes ⌝ }
     ensures { λ _. ⌜ Doubled (now (at .entry)) (now (at .exit)) count minutes ⌝ }
 {
@@ -20,23 +20,23 @@ fn add_job(at: &mut [u16; 1024], count: usize, minutes: u16)
 }
 
 // The same where job j is in the set; the number of sums after it, 0 where there is no room for them.
-fn with_job(at: &mut [u16; 1024], count: usize, minutes: &[u16; 20], set: u32, j: usize) -> usize
+fn with_job(at: &mut [u16], count: usize, minutes: &[u16; 20], set: u32, j: usize) -> usize
     requires { ⌜ (SumsOf (now minutes) set j (now at) count) × ((j < 20) × (getD (now minutes) j 0 ≤ 1440)) ⌝ }
     ensures { λ r. ⌜ SumsOf (now (minutes .entry)) set (j + 1) (now (at .exit)) r ⌝ }
 {
     if !bits::test32(set, j) {
         return count;
     }
-    if count > 512 {
+    if 2 * count > at.len() {
         return 0;
     }
     add_job(at, count, minutes[j]);
     2 * count
 }
 
-// The sums of the set's jobs and their number, or 0 where there would be more than 1024.
-pub fn subset_sums(at: &mut [u16; 1024], minutes: &[u16; 20], set: u32, jobs: usize) -> usize
-    requires { ⌜ (length (now at) ≡ 1024) × (ShortJobs (now minutes) jobs) ⌝ }
+// The sums of the set's jobs and their number, or 0 where they have no room.
+pub fn subset_sums(at: &mut [u16], minutes: &[u16; 20], set: u32, jobs: usize) -> usize
+    requires { ⌜ (0 < length (now at)) × (ShortJobs (now minutes) jobs) ⌝ }
     ensures { λ r. ⌜ SumsOf (now (minutes .entry)) set jobs (now (at .exit)) r ⌝ }
 {
     at[0] = 0;
@@ -57,8 +57,8 @@ fn fitting(s: u16, x: u16) -> u16
 }
 
 // The largest of the sums that is not above x.
-fn longest_fit(at: &[u16; 1024], count: usize, x: u16) -> u16
-    requires { ⌜ count ≤ 1024 ⌝ }
+fn longest_fit(at: &[u16], count: usize, x: u16) -> u16
+    requires { ⌜ count ≤ length (now at) ⌝ }
     ensures { λ r. ⌜ r ≡ longest (now (at .entry)) count x ⌝ }
 {
     let mut r: u16 = 0;
@@ -71,8 +71,8 @@ fn longest_fit(at: &[u16; 1024], count: usize, x: u16) -> u16
 }
 
 // What the sum a and one of the others give together, not above x.
-fn paired(high: &[u16; 1024], highs: usize, a: u16, x: u16) -> u16
-    requires { ⌜ highs ≤ 1024 ⌝ }
+fn paired(high: &[u16], highs: usize, a: u16, x: u16) -> u16
+    requires { ⌜ highs ≤ length (now high) ⌝ }
     ensures { λ r. ⌜ r ≡ only (leb a x) (a + longest (now (high .entry)) highs (x - a)) ⌝ }
 {
     if a <= x {
@@ -82,8 +82,8 @@ fn paired(high: &[u16; 1024], highs: usize, a: u16, x: u16) -> u16
 }
 
 // The largest that two of the sums, one of each kind, give together, not above x.
-fn longest_pair(low: &[u16; 1024], lows: usize, high: &[u16; 1024], highs: usize, x: u16) -> u16
-    requires { ⌜ (lows ≤ 1024) × (highs ≤ 1024) ⌝ }
+fn longest_pair(low: &[u16], lows: usize, high: &[u16], highs: usize, x: u16) -> u16
+    requires { ⌜ (lows ≤ length (now low)) × (highs ≤ length (now high)) ⌝ }
     ensures { λ r. ⌜ r ≡ longestPair (now (low .entry)) lows (now (high .entry)) highs x ⌝ }
 {
     let mut r: u16 = 0;
@@ -114,8 +114,8 @@ pub fn rounded(minutes: &[u16; 20], jobs: usize, target: u16) -> u16
 }
 
 // The largest of the sums that fits between minute t and the target.
-fn reach_from(at: &[u16; 1024], count: usize, t: u16, target: u16) -> u16
-    requires { ⌜ count ≤ 1024 ⌝ }
+fn reach_from(at: &[u16], count: usize, t: u16, target: u16) -> u16
+    requires { ⌜ count ≤ length (now at) ⌝ }
     ensures { λ r. ⌜ r ≡ longest (now (at .entry)) count (target - t) ⌝ }
 {
     if target <= t {
@@ -133,7 +133,7 @@ fn module_minutes(modules: u16, minutes: u16) -> u32
 
 // What the modules of the placed jobs that run at minute l serve from their ends up to the target.
 fn served_behind<'a>(
-    at: &[u16; 1024],
+    at: &[u16],
     count: usize,
     until: &'a [u16; 20],
     held: &'a [u16; 20],
@@ -144,7 +144,7 @@ fn served_behind<'a>(
     l: u16,
     target: u16,
 ) -> u32
-    requires { ⌜ (Running (now until) (now held) placed gone free modules l) × (count ≤ 1024) ⌝ }
+    requires { ⌜ (Running (now until) (now held) placed gone free modules l) × (count ≤ length (now at)) ⌝ }
     ensures { λ r. ⌜ (r ≡ servedBy (longest (now (at .entry)) count) (now (until .entry)) (now (held .entry)) placed l target)
         × (r ≤ 83884800) ⌝ }
 {
@@ -158,7 +158,7 @@ fn served_behind<'a>(
 }
 
 // Whether some of the module-minutes that are left cannot be served by the target. `gone` of the placed jobs have ended by minute
-// `least`, and `free` modules are free then. A set of more than 10 jobs is not looked at.
+// `least`, and `free` modules are free then. A set of more than 8 jobs is not looked at.
 pub fn unserved<'a>(
     minutes: &[u16; 20],
     until: &'a [u16; 20],
@@ -177,10 +177,10 @@ pub fn unserved<'a>(
     ensures { λ r. ⌜ (r ≡ true
         → Unserved (now (minutes .entry)) (now (until .entry)) (now (held .entry)) jobs modules placed set left least target) ⌝ }
 {
-    if bits::ones32(set) > 10 {
+    if bits::ones32(set) > 8 {
         return false;
     }
-    let mut at = [0u16; 1024];
+    let mut at = [0u16; 256];
     let count = subset_sums(&mut at, minutes, set, jobs);
     if count == 0 {
         return false;

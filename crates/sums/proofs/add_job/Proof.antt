@@ -18,8 +18,8 @@ loop-holds c = doubling-none (c .pre)
 mul-at : tie.Need-mul-at Inv-loop μ-loop
 mul-at c = search needs
 
-element-copy-out-at : tie.Need-element-copy-out-at Inv-loop μ-loop
-element-copy-out-at c = search needs
+slice-read-at : tie.Need-slice-read-at Inv-loop μ-loop
+slice-read-at c = search needs
 
 add-at : tie.Need-add-at Inv-loop μ-loop
 add-at c =
@@ -33,8 +33,8 @@ add-at-2 c = search needs
 mul-at-2 : tie.Need-mul-at-2 Inv-loop μ-loop
 mul-at-2 c = search needs
 
-element-write-at : tie.Need-element-write-at Inv-loop μ-loop
-element-write-at c = search needs
+slice-write-at : tie.Need-slice-write-at Inv-loop μ-loop
+slice-write-at c = search needs
 
 add-i : tie.Need-add-i Inv-loop μ-loop
 add-i c = search needs
@@ -47,6 +47,9 @@ loop-again c =
     let loop = c .before .before .loop in
     let loop-test = c .before .loop-test in
     doubling-step (loop .inv) (loop-test .taken)
+
+same-length : tie.Need-same-length Inv-loop μ-loop
+same-length c = c .before .loop .inv .size
 
 returns : tie.Need-returns Inv-loop μ-loop
 returns c =
@@ -61,12 +64,13 @@ add-job-spec =
     μ-loop
     loop-holds
     mul-at
-    element-copy-out-at
+    slice-read-at
     add-at
     add-at-2
     mul-at-2
-    element-write-at
+    slice-write-at
     add-i
     loop-less
     loop-again
+    same-length
     returns)

@@ -22,8 +22,8 @@ loop-holds c = (search needs, refl)
 mul-fitting : tie.Need-mul-fitting Inv-loop μ-loop
 mul-fitting c = search needs
 
-element-copy-out-fitting : tie.Need-element-copy-out-fitting Inv-loop μ-loop
-element-copy-out-fitting c = search needs
+shared-slice-read-fitting : tie.Need-shared-slice-read-fitting Inv-loop μ-loop
+shared-slice-read-fitting c = search needs
 
 fitting-requires : tie.Need-fitting-requires Inv-loop μ-loop
 fitting-requires c κs = search needs
@@ -47,7 +47,7 @@ loop-again c =
 returns : tie.Need-returns Inv-loop μ-loop
 returns c =
     let loop = c .before .loop in
-    let args = c .before .before .args in
+    let args = c .before .before .before .args in
     let e : loop .i ≡ args .count = omega (arith, loop .inv .0, c .loop-test .left) in
     loop .inv .1 ∙ ap (λ (n : ℕ). longest (args .at .now) n (args .x)) e
 
@@ -59,7 +59,7 @@ longest-fit-spec =
     μ-loop
     loop-holds
     mul-fitting
-    element-copy-out-fitting
+    shared-slice-read-fitting
     fitting-requires
     later-requires
     add-i

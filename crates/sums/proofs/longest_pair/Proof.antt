@@ -22,8 +22,8 @@ loop-holds c = (search needs, refl)
 mul-paired : tie.Need-mul-paired Inv-loop μ-loop
 mul-paired c = search needs
 
-element-copy-out-paired : tie.Need-element-copy-out-paired Inv-loop μ-loop
-element-copy-out-paired c = search needs
+shared-slice-read-paired : tie.Need-shared-slice-read-paired Inv-loop μ-loop
+shared-slice-read-paired c = search needs
 
 paired-requires : tie.Need-paired-requires Inv-loop μ-loop
 paired-requires c κs = search needs
@@ -47,7 +47,7 @@ loop-again c =
 returns : tie.Need-returns Inv-loop μ-loop
 returns c =
     let loop = c .before .loop in
-    let args = c .before .before .args in
+    let args = c .before .before .before .before .args in
     let e : loop .i ≡ args .lows = omega (arith, loop .inv .0, c .loop-test .left) in
     loop .inv .1 ∙ ap (λ (n : ℕ). longestPair (args .low .now) n (args .high .now) (args .highs) (args .x)) e
 
@@ -59,7 +59,7 @@ longest-pair-spec =
     μ-loop
     loop-holds
     mul-paired
-    element-copy-out-paired
+    shared-slice-read-paired
     paired-requires
     later-requires
     add-i

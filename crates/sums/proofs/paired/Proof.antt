@@ -13,8 +13,8 @@ longest-fit-requires c κs = search needs
 
 add-result : tie.Need-add-result
 add-result c =
-    let a = c .before .before .args in
-    let fits = c .before .before .fits in
+    let a = c .before .before .before .args in
+    let fits = c .before .before .before .fits in
     record {
       fits = omega (
         arith,
@@ -27,12 +27,12 @@ add-result c =
 
 returns : tie.Need-returns
 returns c =
-    let a = c .before .before .args in
+    let a = c .before .before .before .args in
     rw (le-leb (a .a) (a .x) (c .before .if1 .taken)) (ap (λ (y : ℕ). a .a + y) (c .longest-fit .ensures))
 
 returns-2 : tie.Need-returns-2
 returns-2 c =
-    let a = c .before .args in
+    let a = c .before .before .args in
     rw (lt-leb (a .a) (a .x) (c .if1 .left))
 
 pub paired-spec : {M : Type 1} → statement M

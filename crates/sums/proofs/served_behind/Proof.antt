@@ -16,7 +16,7 @@ abbrev μ-loop : tie.MeasureT-loop
 μ-loop at count until held placed gone free modules l target total₀ i₀ total i = placed - i
 
 loop-holds : tie.Need-loop-holds Inv-loop μ-loop
-loop-holds c = serving-start (c .pre .0) (omega (arith, c .fits .target .fits))
+loop-holds c = serving-start (c .before .pre .0) (omega (arith, c .before .fits .target .fits))
 
 mul-module-minutes : tie.Need-mul-module-minutes Inv-loop μ-loop
 mul-module-minutes c = search needs
@@ -60,7 +60,7 @@ loop-again c =
 returns : tie.Need-returns Inv-loop μ-loop
 returns c =
     let loop = c .before .loop in
-    let a = c .before .before .args in
+    let a = c .before .before .before .args in
     let reach = longest (a .at .now) (a .count) in
     let e : loop .i ≡ a .placed = omega (arith, loop .inv .inside, c .loop-test .left) in (
       loop .inv .total-is ∙ ap (λ (n : ℕ). servedBy reach (a .until .now) (a .held .now) n (a .l) (a .target)) e,

@@ -1,6 +1,7 @@
 -- `sums::with_job` meets its contract.
 use mathlib.Core.Path.{_≡_, sym, _∙_}
 use mathlib.Core.Bool.{false}
+use native.Mathlib.Omega.{arith}
 use borrow.Author.Tests.{not-true}
 use Rattle.bits.specs.Bits.{bit}
 use Rattle.sums.proofs.Choices.{sums-skip, sums-none, sums-room, sums-more}
@@ -13,15 +14,20 @@ test32-requires c κs = search needs
 
 returns : tie.Need-returns
 returns c =
-    let args = c .before .before .args in
-    let pre = c .before .before .pre in
+    let args = c .before .before .before .args in
+    let pre = c .before .before .before .pre in
     let test32 = c .before .test32 in
     let out : bit (args .set) (args .j) ≡ false = sym (test32 .ensures) ∙ not-true (test32 .result) (c .if1 .taken) in
     sums-skip (pre .0) out
 
+mul-if2 : tie.Need-mul-if2
+mul-if2 c =
+    let start = c .before .before .before in
+    record { fits = omega (arith, start .pre .0 .few, start .good .0 .1) }
+
 returns-2 : tie.Need-returns-2
 returns-2 c =
-    let pre = c .before .before .before .pre in
+    let pre = c .before .before .before .before .pre in
     sums-none (pre .0)
 
 mul-add-job : tie.Need-mul-add-job
@@ -32,18 +38,22 @@ element-copy-out-add-job c = search needs
 
 add-job-requires : tie.Need-add-job-requires
 add-job-requires c κs =
-    let pre = c .before .before .before .before .before .pre in
+    let pre = c .before .before .before .before .before .before .pre in
     let if2 = c .before .before .if2 in
     sums-room (pre .0) (pre .1 .0) (pre .1 .1) (if2 .left)
 
 mul-result : tie.Need-mul-result
 mul-result c = search needs
 
+same-length : tie.Need-same-length
+same-length c = search needs
+
 returns-3 : tie.Need-returns-3
 returns-3 c =
-    let pre = c .before .before .before .before .before .before .pre in
-    let if2 = c .before .before .before .if2 in
-    sums-more (pre .0) (pre .1 .1) (if2 .left) (c .add-job .ensures)
+    let pre = c .before .before .before .before .before .before .before .before .before .pre in
+    let if2 = c .before .before .before .before .before .if2 in
+    let add-job = c .before .before .add-job in
+    sums-more (pre .0) (pre .1 .1) (omega (arith, if2 .left, add-job .kept .0)) (add-job .ensures)
 
 pub with-job-spec : {M : Type 1} → statement M
 with-job-spec =
@@ -51,9 +61,11 @@ with-job-spec =
     (tie.spec
     test32-requires
     returns
+    mul-if2
     returns-2
     mul-add-job
     element-copy-out-add-job
     add-job-requires
     mul-result
+    same-length
     returns-3)
