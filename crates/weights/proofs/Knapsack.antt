@@ -20,36 +20,36 @@ use Rattle.weights.proofs.Puts.{zeros}
 
 -- the products that make it up
 pub record Figures (modules q width : ℕ) : Type 0 where
-  pub product : (q + 2) * width ≤ 320
-  pub less : (q + 1) * ((q + 2) * width / modules) ≤ 20
-  pub more : (q + 2) * ((q + 2) * width / modules) ≤ 25
+  pub product : (q + 2) * width ≤ 384
+  pub less : (q + 1) * ((q + 2) * width / modules) ≤ 30
+  pub more : (q + 2) * ((q + 2) * width / modules) ≤ 36
 
-pub figures : (modules q width : ℕ) → modules ≤ 64 → width ≤ modules → q < 4 → Figures modules q width
+pub figures : (modules q width : ℕ) → modules ≤ 64 → width ≤ modules → q < 5 → Figures modules q width
 figures modules q width m w l =
-    let a : (q + 2) * width ≤ 5 * modules = mul-le-mul (omega arith) w in
-    let whole : (q + 2) * width / modules ≤ 5 = div-le-of-le-mul modules (omega (arith, mul-comm modules 5)) in
+    let a : (q + 2) * width ≤ 6 * modules = mul-le-mul (omega arith) w in
+    let whole : (q + 2) * width / modules ≤ 6 = div-le-of-le-mul modules (omega (arith, mul-comm modules 6)) in
     record {
       product = omega arith;
-      less = mul-le-mul {n₂ = 4} {m₂ = 5} (omega arith) whole;
-      more = mul-le-mul {n₂ = 5} {m₂ = 5} (omega arith) whole;
+      less = mul-le-mul {n₂ = 5} {m₂ = 6} (omega arith) whole;
+      more = mul-le-mul {n₂ = 6} {m₂ = 6} (omega arith) whole;
     }
 
-weight-light : (modules q width : ℕ) → modules ≤ 64 → width ≤ modules → q < 4 → weightIn modules q width ≤ 25
+weight-light : (modules q width : ℕ) → modules ≤ 64 → width ≤ modules → q < 5 → weightIn modules q width ≤ 36
 unfolding weightIn
 weight-light modules q width m w l = go (true-or-false (eqb ((q + 2) * width % modules) 0))
   where
-    go : (eqb ((q + 2) * width % modules) 0 ≡ true) ⊎ (eqb ((q + 2) * width % modules) 0 ≡ false) → weightIn modules q width ≤ 25
+    go : (eqb ((q + 2) * width % modules) 0 ≡ true) ⊎ (eqb ((q + 2) * width % modules) 0 ≡ false) → weightIn modules q width ≤ 36
     go (inl e) = rw e (le-trans (figures modules q width m w l .less) (omega arith))
     go (inr e) = rw e (figures modules q width m w l .more)
 
 -- the weight of one of the sheet's jobs, alone and times its minutes
 module _ {need minutes : List ℕ} {jobs modules : ℕ} (fit : Fit need minutes jobs modules)
-    (q : ℕ) (low : q < 4) (k : ℕ) (l : k < jobs) where
-  pub job-light : weightIn modules q (getD need k 0) ≤ 25
+    (q : ℕ) (low : q < 5) (k : ℕ) (l : k < jobs) where
+  pub job-light : weightIn modules q (getD need k 0) ≤ 36
   job-light = weight-light modules q (getD need k 0) (fit .most) (fit .narrow k l) low
 
-  pub worth-small : getD minutes k 0 * weightIn modules q (getD need k 0) ≤ 36000
-  worth-small = mul-le-mul {n₂ = 1440} {m₂ = 25} (fit .short k l) job-light
+  pub worth-small : getD minutes k 0 * weightIn modules q (getD need k 0) ≤ 51840
+  worth-small = mul-le-mul {n₂ = 1440} {m₂ = 36} (fit .short k l) job-light
 
 -- ---- the table of one weighting
 
@@ -77,11 +77,11 @@ most-with-takes : (old : List ℕ) (width weight x : ℕ) → width ≤ x → we
 unfolding mostWith
 most-with-takes old width weight x l = rw (le-leb width x l) (omega arith)
 
-most-with-small : (old : List ℕ) (width weight x b : ℕ) → ((p : ℕ) → getD old p 0 ≤ b) → weight ≤ 25 → mostWith old width weight x ≤ b + 25
+most-with-small : (old : List ℕ) (width weight x b : ℕ) → ((p : ℕ) → getD old p 0 ≤ b) → weight ≤ 36 → mostWith old width weight x ≤ b + 36
 unfolding mostWith
 most-with-small old width weight x b h l = go (true-or-false (leb width x))
   where
-    go : (leb width x ≡ true) ⊎ (leb width x ≡ false) → mostWith old width weight x ≤ b + 25
+    go : (leb width x ≡ true) ⊎ (leb width x ≡ false) → mostWith old width weight x ≤ b + 36
     go (inl e) = rw e (omega (arith, h x, h (x - width)))
     go (inr e) = rw e (omega (arith, h x))
 
@@ -91,13 +91,13 @@ most-none need modules q = record { weighs = λ X x l fits. zero-le; small = zer
 
 pub most-more : {need : List ℕ} {n modules q : ℕ} {old new : List ℕ} → MostOf need n modules q old
     → Put (replicate 65 0) new 0 (modules + 1) (mostWith old (getD need n 0) (weightIn modules q (getD need n 0)))
-    → weightIn modules q (getD need n 0) ≤ 25 → MostOf need (n + 1) modules q new
+    → weightIn modules q (getD need n 0) ≤ 36 → MostOf need (n + 1) modules q new
 most-more {need} {n} {modules} {q} {old} {new} h put light = record {
   weighs = rw add-one (weighs-more need n modules (λ k. weightIn modules q (getD need k 0)) (λ x. getD old x 0) (λ x. getD new x 0)
       (h .weighs) (λ x l. omega (arith, at x l, most-with-keeps old width weight x))
       (λ x l m. omega (arith, at x l, most-with-takes old width weight x m)));
-  small = λ p. le-trans (put .small (25 * n + 25) (λ i. omega (arith, zeros 65 i))
-      (λ x l. most-with-small old width weight x (25 * n) (h .small) light) p) (omega arith);
+  small = λ p. le-trans (put .small (36 * n + 36) (λ i. omega (arith, zeros 65 i))
+      (λ x l. most-with-small old width weight x (36 * n) (h .small) light) p) (omega arith);
 }
   where
     width : ℕ
@@ -121,24 +121,24 @@ weighting-kept {q = q} few narrow same same′ h = record {
   weighs = λ X x l fits. omega (arith, same′ (q * 65 + x) (omega arith), h .weighs X x l fits);
 }
 
-pub weighted-none : (need minutes : List ℕ) (jobs modules : ℕ) → WeightedTo need minutes jobs modules (replicate 80 0) (replicate 260 0) 0
+pub weighted-none : (need minutes : List ℕ) (jobs modules : ℕ) → WeightedTo need minutes jobs modules (replicate 100 0) (replicate 325 0) 0
 weighted-none need minutes jobs modules = record {
-  worth-length = length-replicate {A = ℕ} 80 0;
-  most-length = length-replicate {A = ℕ} 260 0;
-  worth-small = λ p. omega (arith, zeros 80 p);
-  most-small = λ p. omega (arith, zeros 260 p);
+  worth-length = length-replicate {A = ℕ} 100 0;
+  most-length = length-replicate {A = ℕ} 325 0;
+  worth-small = λ p. omega (arith, zeros 100 p);
+  most-small = λ p. omega (arith, zeros 325 p);
   each = λ q l. absurd (not-suc-le-zero l);
 }
 
 pub weighted-more : {need minutes : List ℕ} {jobs modules q : ℕ} {worth worth′ most most′ table : List ℕ} → Fit need minutes jobs modules
-    → q < 4 → WeightedTo need minutes jobs modules worth most q → MostOf need jobs modules q table
+    → q < 5 → WeightedTo need minutes jobs modules worth most q → MostOf need jobs modules q table
     → Put worth worth′ (q * 20) jobs (λ k. getD minutes k 0 * weightIn modules q (getD need k 0))
     → Put most most′ (q * 65) 65 (λ x. getD table x 0) → WeightedTo need minutes jobs modules worth′ most′ (q + 1)
 weighted-more {need} {minutes} {jobs} {modules} {q} {worth} {worth′} {most} {most′} {table} fit low h table-is put put′ = record {
   worth-length = put .size ∙ h .worth-length;
   most-length = put′ .size ∙ h .most-length;
-  worth-small = put .small 36000 (h .worth-small) (worth-small fit q low);
-  most-small = put′ .small 500 (h .most-small) (λ x l. omega (arith, table-is .small x, fit .few));
+  worth-small = put .small 51840 (h .worth-small) (worth-small fit q low);
+  most-small = put′ .small 720 (h .most-small) (λ x l. omega (arith, table-is .small x, fit .few));
   each = λ p l. each p (last-or-below q p (omega arith));
 }
   where

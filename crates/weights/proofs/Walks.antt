@@ -40,7 +40,7 @@ sum-past T g = sum-same T _ (λ t. 0) (λ t l. ap (λ b. only b (g t)) (lt-leb T
 
 -- so far: the room up to minute `at`, from which on f modules are free until the i-th ends
 pub record Walk (most : ℕ → ℕ) (until held : List ℕ) (placed modules l T room at f i : ℕ) : Type 0 where
-  pub small : (x : ℕ) → most x ≤ 500
+  pub small : (x : ℕ) → most x ≤ 720
   pub narrow : modules ≤ 64
   pub sorted : Sorted until placed
   pub few : placed ≤ 20
@@ -48,10 +48,10 @@ pub record Walk (most : ℕ → ℕ) (until held : List ℕ) (placed modules l T
   pub rest : f + heldFrom held placed i ≡ modules
   pub before : at ≤ T
   pub ended : (k : ℕ) → k < i → min (getD until k 0) T ≤ at
-  pub low : room ≤ 500 * at
+  pub low : room ≤ 720 * at
   pub all : room + roomFor most until held modules placed at T ≡ roomFor most until held modules placed l T
 
-pub walk-start : {most : ℕ → ℕ} {until held : List ℕ} {placed gone free modules l T : ℕ} → ((x : ℕ) → most x ≤ 500)
+pub walk-start : {most : ℕ → ℕ} {until held : List ℕ} {placed gone free modules l T : ℕ} → ((x : ℕ) → most x ≤ 720)
     → Profile until held placed gone free modules l → modules ≤ 64 → l ≤ T → Walk most until held placed modules l T 0 l free gone
 walk-start {l = l} small h narrow before = record {
   small = small;
@@ -69,15 +69,15 @@ walk-start {l = l} small h narrow before = record {
 -- what a turn of the walk can rely on
 pub record Turn (most : ℕ → ℕ) (until held : List ℕ) (T room at f i : ℕ) : Type 0 where
   pub fits : f + getD held i 0 ≤ 64
-  pub small : most f ≤ 500
-  pub product : most f * (max at (min (getD until i 0) T) - at) ≤ 500 * T
-  pub total : room + most f * (max at (min (getD until i 0) T) - at) ≤ 500 * T
+  pub small : most f ≤ 720
+  pub product : most f * (max at (min (getD until i 0) T) - at) ≤ 720 * T
+  pub total : room + most f * (max at (min (getD until i 0) T) - at) ≤ 720 * T
 
 -- what its end can rely on
 pub record Last (most : ℕ → ℕ) (until held : List ℕ) (placed modules l T room at f : ℕ) : Type 0 where
-  pub small : most f ≤ 500
-  pub product : most f * (T - at) ≤ 500 * T
-  pub total : room + most f * (T - at) ≤ 500 * T
+  pub small : most f ≤ 720
+  pub product : most f * (T - at) ≤ 720 * T
+  pub total : room + most f * (T - at) ≤ 720 * T
   pub all : room + most f * (T - at) ≡ roomFor most until held modules placed l T
 
 module _ {most : ℕ → ℕ} {until held : List ℕ} {placed modules l T room at f i : ℕ}
@@ -100,7 +100,7 @@ module _ {most : ℕ → ℕ} {until held : List ℕ} {placed modules l T room a
       (λ t p q. ap most (free-at t p (omega arith) (λ k m o. n t k p q m o))) in
       omega (arith, h .all)
 
-  room-low : (b : ℕ) → at ≤ b → room + most f * (b - at) ≤ 500 * b
+  room-low : (b : ℕ) → at ≤ b → room + most f * (b - at) ≤ 720 * b
   room-low b x = omega (arith, h .low, mul-le-mul-right (b - at) (h .small f))
 
   pub walk-turn : i < placed → Turn most until held T room at f i

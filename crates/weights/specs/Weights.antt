@@ -33,7 +33,7 @@ pub record Put (old new : List ℕ) (from n : ℕ) (value : ℕ → ℕ) : Type 
 -- the most of the first n jobs that can stand on each number of modules, in weighting q
 pub record MostOf (need : List ℕ) (n modules q : ℕ) (table : List ℕ) : Type 0 where
   pub weighs : Weighs need n modules (λ k. weightIn modules q (getD need k 0)) (λ x. getD table x 0)
-  pub small : (p : ℕ) → getD table p 0 ≤ 25 * n
+  pub small : (p : ℕ) → getD table p 0 ≤ 36 * n
 
 -- place q * 20 + k of `worth` is job k's minutes times its weight, place q * 65 + x of `most` the most that can stand on x modules
 pub record Weighting (need minutes : List ℕ) (jobs modules : ℕ) (worth most : List ℕ) (q : ℕ) : Type 0 where
@@ -43,15 +43,15 @@ pub record Weighting (need minutes : List ℕ) (jobs modules : ℕ) (worth most 
 
 -- so many weightings side by side
 pub record WeightedTo (need minutes : List ℕ) (jobs modules : ℕ) (worth most : List ℕ) (count : ℕ) : Type 0 where
-  pub worth-length : length worth ≡ 80
-  pub most-length : length most ≡ 260
-  pub worth-small : (p : ℕ) → getD worth p 0 ≤ 36000
-  pub most-small : (p : ℕ) → getD most p 0 ≤ 500
+  pub worth-length : length worth ≡ 100
+  pub most-length : length most ≡ 325
+  pub worth-small : (p : ℕ) → getD worth p 0 ≤ 51840
+  pub most-small : (p : ℕ) → getD most p 0 ≤ 720
   pub each : (q : ℕ) → q < count → Weighting need minutes jobs modules worth most q
 
--- all four
+-- all five
 abbrev pub Weighted : List ℕ → List ℕ → ℕ → ℕ → List ℕ → List ℕ → Type 0
-Weighted need minutes jobs modules worth most = WeightedTo need minutes jobs modules worth most 4
+Weighted need minutes jobs modules worth most = WeightedTo need minutes jobs modules worth most 5
 
 -- what can stand, from minute l up to minute T, on the modules that are free
 unfoldable pub roomFor : (ℕ → ℕ) → List ℕ → List ℕ → ℕ → ℕ → ℕ → ℕ → ℕ

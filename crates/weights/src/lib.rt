@@ -9,11 +9,11 @@ ghost use Rattle.tables.specs.Tables.{Fit};
 ghost use Rattle.placement.specs.Profile.{Profile};
 ghost use Rattle.weights.specs.Weights.{weightIn, mostWith, Put, MostOf, WeightedTo, Weighted, roomFor, Outweighed};
 
-// Four weightings side by side: place q * 20 + k of `worth` is job k's minutes times its weight, place q * 65 + x of `most` the most that
+// Five weightings side by side: place q * 20 + k of `worth` is job k's minutes times its weight, place q * 65 + x of `most` the most that
 // can stand on x modules.
 pub struct Weights {
-    pub worth: [u32; 80],
-    pub most: [u16; 260],
+    pub worth: [u32; 100],
+    pub most: [u16; 325],
 }
 
 // The most that can stand on each number of modules.
@@ -25,7 +25,7 @@ pub struct Most {
 
 // The weight of a job in weighting q.
 fn weight_of(need: u16, q: usize, modules: u16) -> u16
-    requires { ⌜ ((0 < modules) × (modules ≤ 64)) × ((need ≤ modules) × (q < 4)) ⌝ }
+    requires { ⌜ ((0 < modules) × (modules ≤ 64)) × ((need ≤ modules) × (q < 5)) ⌝ }
     ensures { λ r. ⌜ r ≡ weightIn modules q need ⌝ }
 {
     let m = modules as usize;
@@ -38,7 +38,7 @@ fn weight_of(need: u16, q: usize, modules: u16) -> u16
 
 // The most that can stand on x modules with one job more.
 fn most_with(old: &[u16; 65], width: usize, weight: u16, x: usize) -> u16
-    requires { ⌜ ((p : ℕ) → getD (now old) p 0 ≤ 475) × ((weight ≤ 25) × (x < 65)) ⌝ }
+    requires { ⌜ ((p : ℕ) → getD (now old) p 0 ≤ 684) × ((weight ≤ 36) × (x < 65)) ⌝ }
     ensures { λ r. ⌜ r ≡ mostWith (now (old .entry)) width weight x ⌝ }
 {
     if x < width {
@@ -53,7 +53,7 @@ fn most_with(old: &[u16; 65], width: usize, weight: u16, x: usize) -> u16
 
 // The same on each number of modules.
 fn with_job(table: Most, width: u16, weight: u16, modules: u16) -> Most
-    requires { ⌜ ((p : ℕ) → getD (table .at) p 0 ≤ 475) × ((weight ≤ 25) × (modules ≤ 64)) ⌝ }
+    requires { ⌜ ((p : ℕ) → getD (table .at) p 0 ≤ 684) × ((weight ≤ 36) × (modules ≤ 64)) ⌝ }
     ensures { λ r. ⌜ Put (replicate 65 0) (r .at) 0 (modules + 1) (mostWith (table .at) width weight) ⌝ }
 {
     let mut next = [0u16; 65];
@@ -67,7 +67,7 @@ fn with_job(table: Most, width: u16, weight: u16, modules: u16) -> Most
 
 // The most of all jobs that can stand on each number of modules, in weighting q.
 fn most_of(need: &[u16; 20], minutes: &[u16; 20], jobs: usize, modules: u16, q: usize) -> Most
-    requires { ⌜ (Fit (now need) (now minutes) jobs modules) × (q < 4) ⌝ }
+    requires { ⌜ (Fit (now need) (now minutes) jobs modules) × (q < 5) ⌝ }
     ensures { λ r. ⌜ MostOf (now (need .entry)) jobs modules q (r .at) ⌝ }
 {
     let mut table = Most { at: [0u16; 65] };
@@ -88,7 +88,7 @@ fn put_worth(
     jobs: usize,
     modules: u16,
 ) -> Weights
-    requires { ⌜ ((Fit (now need) (now minutes) jobs modules) × (q < 4)) × (length (all .worth) ≡ 80) ⌝ }
+    requires { ⌜ ((Fit (now need) (now minutes) jobs modules) × (q < 5)) × (length (all .worth) ≡ 100) ⌝ }
     ensures { λ r. ⌜ (Put (all .worth) (r .worth) (q * 20) jobs
         (λ k. getD (now (minutes .entry)) k 0 * weightIn modules q (getD (now (need .entry)) k 0))) × (r .most ≡ all .most) ⌝ }
 {
@@ -103,7 +103,7 @@ fn put_worth(
 
 // The weightings with the table put in as the q-th.
 fn put_most(all: Weights, q: usize, table: &[u16; 65]) -> Weights
-    requires { ⌜ (q < 4) × (length (all .most) ≡ 260) ⌝ }
+    requires { ⌜ (q < 5) × (length (all .most) ≡ 325) ⌝ }
     ensures { λ r. ⌜ (Put (all .most) (r .most) (q * 65) 65 (λ x. getD (now (table .entry)) x 0)) × (r .worth ≡ all .worth) ⌝ }
 {
     let mut next = all;
@@ -125,7 +125,7 @@ fn with_weighting(
     modules: u16,
 ) -> Weights
     requires { ⌜ (Fit (now need) (now minutes) jobs modules)
-        × ((q < 4) × (WeightedTo (now need) (now minutes) jobs modules (all .worth) (all .most) q)) ⌝ }
+        × ((q < 5) × (WeightedTo (now need) (now minutes) jobs modules (all .worth) (all .most) q)) ⌝ }
     ensures { λ r. ⌜ WeightedTo (now (need .entry)) (now (minutes .entry)) jobs modules (r .worth) (r .most) (q + 1) ⌝ }
 {
     let table = most_of(need, minutes, jobs, modules, q);
@@ -133,17 +133,17 @@ fn with_weighting(
     put_most(first, q, &table.at)
 }
 
-// The four weightings of a sheet.
+// The five weightings of a sheet.
 pub fn weightings(need: &[u16; 20], minutes: &[u16; 20], jobs: usize, modules: u16) -> Weights
     requires { ⌜ Fit (now need) (now minutes) jobs modules ⌝ }
     ensures { λ r. ⌜ Weighted (now (need .entry)) (now (minutes .entry)) jobs modules (r .worth) (r .most) ⌝ }
 {
     let mut all = Weights {
-        worth: [0u32; 80],
-        most: [0u16; 260],
+        worth: [0u32; 100],
+        most: [0u16; 325],
     };
     let mut q: usize = 0;
-    while q < 4 {
+    while q < 5 {
         all = with_weighting(all, q, need, minutes, jobs, modules);
         q += 1;
     }
@@ -164,8 +164,8 @@ fn worth_in(worth: u32, set: u32, k: usize) -> u32
 }
 
 // What the jobs of the set weigh in weighting q.
-fn set_worth(worth: &[u32; 80], q: usize, set: u32, jobs: usize) -> u32
-    requires { ⌜ ((p : ℕ) → getD (now worth) p 0 ≤ 36000) × ((q < 4) × (jobs ≤ 20)) ⌝ }
+fn set_worth(worth: &[u32; 100], q: usize, set: u32, jobs: usize) -> u32
+    requires { ⌜ ((p : ℕ) → getD (now worth) p 0 ≤ 51840) × ((q < 5) × (jobs ≤ 20)) ⌝ }
     ensures { λ r. ⌜ r ≡ sum jobs (λ k. only (bit set k) (getD (now (worth .entry)) (q * 20 + k) 0)) ⌝ }
 {
     let mut total: u32 = 0;
@@ -186,7 +186,7 @@ fn sooner(a: u16, b: u16) -> u16
 
 // What can stand, in weighting q, on the modules that are free from minute `least` up to the target.
 fn room_for<'a>(
-    most: &[u16; 260],
+    most: &[u16; 325],
     q: usize,
     until: &'a [u16; 20],
     held: &'a [u16; 20],
@@ -197,8 +197,8 @@ fn room_for<'a>(
     least: u16,
     target: u16,
 ) -> u32
-    requires { ⌜ (((p : ℕ) → getD (now most) p 0 ≤ 500) × (Profile (now until) (now held) placed gone free modules least))
-        × ((q < 4) × ((modules ≤ 64) × (least ≤ target))) ⌝ }
+    requires { ⌜ (((p : ℕ) → getD (now most) p 0 ≤ 720) × (Profile (now until) (now held) placed gone free modules least))
+        × ((q < 5) × ((modules ≤ 64) × (least ≤ target))) ⌝ }
     ensures { λ r. ⌜ r ≡ roomFor (λ x. getD (now (most .entry)) (q * 65 + x) 0) (now (until .entry)) (now (held .entry)) modules placed
         least target ⌝ }
 {
@@ -221,8 +221,8 @@ fn room_for<'a>(
 pub fn outweighed<'a>(
     need: &[u16; 20],
     minutes: &[u16; 20],
-    worth: &[u32; 80],
-    most: &[u16; 260],
+    worth: &[u32; 100],
+    most: &[u16; 325],
     until: &'a [u16; 20],
     held: &'a [u16; 20],
     placed: usize,
@@ -243,7 +243,7 @@ pub fn outweighed<'a>(
         return false;
     }
     let mut q: usize = 0;
-    while q < 4 {
+    while q < 5 {
         let room = room_for(
             most,
             q,

@@ -10,10 +10,10 @@ use Rattle.weights.proofs.outweighed.Statement.{statement}
 use Rattle.weights.proofs.outweighed.Tie as tie
 
 abbrev Inv-loop : tie.InvT-loop
-Inv-loop need minutes worth most until held placed gone free modules set jobs least target q₀ q = q ≤ 4
+Inv-loop need minutes worth most until held placed gone free modules set jobs least target q₀ q = q ≤ 5
 
 abbrev μ-loop : tie.MeasureT-loop
-μ-loop need minutes worth most until held placed gone free modules set jobs least target q₀ q = 4 - q
+μ-loop need minutes worth most until held placed gone free modules set jobs least target q₀ q = 5 - q
 
 returns : tie.Need-returns Inv-loop μ-loop
 returns c = λ e. clash false e refl

@@ -89,7 +89,7 @@ loop-again c =
     let loop = c .before .before .before .before .loop in
     let pre = c .before .before .before .before .before .pre in
     let loop-test = c .before .before .before .loop-test in
-    let low : args .q * 20 + loop .k < 80 = omega (arith, pre .0 .1, pre .0 .0 .few, loop-test .taken) in
+    let low : args .q * 20 + loop .k < 100 = omega (arith, pre .0 .1, pre .0 .0 .few, loop-test .taken) in
     let same = ap (λ (w : ℕ). getD (args .minutes .now) (loop .k) 0 * w) (c .weight-of .ensures) in
     (search needs, (put-more (loop .inv .1 .0) _ _ refl (omega (arith, pre .1)) same, loop .inv .1 .1))
 

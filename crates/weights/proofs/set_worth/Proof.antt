@@ -13,7 +13,7 @@ use Rattle.weights.proofs.set_worth.Tie as tie
 
 abbrev Inv-loop : tie.InvT-loop
 Inv-loop worth q set jobs total₀ k₀ total k =
-    (k ≤ jobs) × ((total ≡ sum k (λ i. only (bit set i) (getD worth (q * 20 + i) 0))) × (total ≤ 36000 * k))
+    (k ≤ jobs) × ((total ≡ sum k (λ i. only (bit set i) (getD worth (q * 20 + i) 0))) × (total ≤ 51840 * k))
 
 abbrev μ-loop : tie.MeasureT-loop
 μ-loop worth q set jobs total₀ k₀ total k = jobs - k

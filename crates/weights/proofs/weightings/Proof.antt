@@ -9,10 +9,10 @@ use Rattle.weights.proofs.weightings.Statement.{statement}
 use Rattle.weights.proofs.weightings.Tie as tie
 
 abbrev Inv-loop : tie.InvT-loop
-Inv-loop need minutes jobs modules all₀ q₀ all q = (q ≤ 4) × WeightedTo need minutes jobs modules (all .worth) (all .most) q
+Inv-loop need minutes jobs modules all₀ q₀ all q = (q ≤ 5) × WeightedTo need minutes jobs modules (all .worth) (all .most) q
 
 abbrev μ-loop : tie.MeasureT-loop
-μ-loop need minutes jobs modules all₀ q₀ all q = 4 - q
+μ-loop need minutes jobs modules all₀ q₀ all q = 5 - q
 
 loop-holds : tie.Need-loop-holds Inv-loop μ-loop
 loop-holds c = (search needs, weighted-none _ _ _ _)
@@ -36,7 +36,7 @@ returns : tie.Need-returns Inv-loop μ-loop
 returns c =
     let loop = c .before .loop in
     let args = c .before .before .args in
-    let e : loop .q ≡ 4 = omega (arith, loop .inv .0, c .loop-test .left) in
+    let e : loop .q ≡ 5 = omega (arith, loop .inv .0, c .loop-test .left) in
     let a = args in
     subst (λ (n : ℕ). WeightedTo (a .need .now) (a .minutes .now) (a .jobs) (a .modules) (loop .all .worth) (loop .all .most) n) e
     (loop .inv .1)
