@@ -2,7 +2,7 @@
 use mathlib.Core.Path.{_≡_, sym, ap, _∙_, subst}
 use mathlib.Core.Logic.{_⊎_, inl, inr}
 use mathlib.Core.Bool.{true, false, not}
-use mathlib.Core.List.{List, []}
+use mathlib.Core.List.{List}
 use Prim.Native.Nat.{ℕ, suc, _≤_, _<_}
 use native.Mathlib.Omega.{arith}
 use lib.Dec.{ltb}
@@ -23,9 +23,10 @@ use Rattle.tables.specs.Tables.{sheetOf, Fit}
 use Rattle.placement.specs.declared.Part.{Part}
 use Rattle.placement.specs.Part.{wordOf, firstPart, Placeable, Placed}
 use Rattle.placement.proofs.Parts.{first-is, left-count, start-short, end-short, all-placed}
-use Rattle.search.specs.declared.Choice.{Choice}
+use Rattle.branching.specs.declared.Choice.{Choice}
+use Rattle.branching.specs.Branching.{Known, theoryPart, JobStart, JobStarts, ChoiceOf}
 use Rattle.search.specs.declared.Found.{Found}
-use Rattle.search.specs.Search.{Known, theoryPart, JobStart, JobStarts, ChoiceOf, finishedAs, Listed, OrderOf, Answer}
+use Rattle.search.specs.Search.{finishedAs, Listed, OrderOf, Answer}
 use Rattle.search.proofs.Turns.{visit-leaf, child-placeable, child-fewer, child-known}
 
 -- before the first job
@@ -68,7 +69,7 @@ module _ (need minutes earlier : List ℕ) (jobs modules : ℕ) (part : Part) (k
   pub list-done : ones (part .unplaced) ≡ 0 → Listed S (finishedAs jobs part 65535)
   unfolding finishedAs
   list-done z =
-      let o = visit-leaf need minutes earlier [] jobs modules part known z 65535 in
+      let o = visit-leaf need minutes earlier jobs modules part known z 65535 in
       let hit : not (ltb 65535 (largest jobs (λ i. getD (part .ends) i 0))) ≡ true = ap not (le-ltb 65535 (largest jobs (λ i. getD
       (part .ends) i 0)) (omega (arith, short))) in
       let f = o .hit hit in
@@ -95,14 +96,14 @@ module _ {need minutes earlier : List ℕ} {jobs modules : ℕ} {part : Part} (k
   start = subst (λ (s : ℕ). JobStart need minutes earlier jobs modules part (c .job) s) (h .some low .1 .1) (starts .each (c .job) next-job)
 
   pub next-placeable : Placeable part (c .job) (c .start) (getD need (c .job) 0) (getD minutes (c .job) 0) modules
-  next-placeable = child-placeable need minutes earlier [] jobs modules part known (c .job) next-job (c .start) start low
+  next-placeable = child-placeable need minutes earlier jobs modules part known (c .job) next-job (c .start) start low
 
   module _ {child : Part} (placed : Placed part (c .job) (c .start) (getD need (c .job) 0) (getD minutes (c .job) 0) modules child) where
     pub next-fewer : suc (ones (child .unplaced)) ≡ ones (part .unplaced)
-    next-fewer = child-fewer need minutes earlier [] jobs modules part known (c .job) next-job (c .start) start low child placed
+    next-fewer = child-fewer need minutes earlier jobs modules part known (c .job) next-job (c .start) start low child placed
 
     pub next-known : Known need minutes earlier jobs modules child
-    next-known = child-known need minutes earlier [] jobs modules part known (c .job) next-job (c .start) start low child placed
+    next-known = child-known need minutes earlier jobs modules part known (c .job) next-job (c .start) start low child placed
 
 pub listed-of : {S : Sheet} {a b r : Found} → Listed S a → Listed S b → (r ≡ a) ⊎ (r ≡ b) → Listed S r
 listed-of {S} ha hb (inl e) = subst (λ (x : Found). Listed S x) (sym e) ha

@@ -24,9 +24,9 @@ use Rattle.schedule.proofs.Swaps.{swap-cut}
 use Rattle.tables.specs.Tables.{sheetOf}
 use Rattle.placement.specs.declared.Part.{Part}
 use Rattle.placement.specs.Part.{wordOf}
-use Rattle.search.specs.Search.{ComesFirst, TurnsRound, PassedOver, Fails, SettledAt, SettledSo}
-use Rattle.search.specs.Search.{Searching, EachStart, TriedSo}
-use Rattle.search.proofs.Candidates.{started}
+use Rattle.branching.specs.Branching.{ComesFirst, TurnsRound, PassedOver, EachStart}
+use Rattle.branching.proofs.Candidates.{started}
+use Rattle.search.specs.Search.{Fails, SettledAt, SettledSo, Searching, TriedSo}
 
 -- a set that is in another
 subset : (a b : ℕ) → bitAnd a b ≡ a → (k : ℕ) → bit a k ≡ true → bit b k ≡ true

@@ -20,9 +20,9 @@ use Rattle.tables.specs.Tables.{sheetOf}
 use Rattle.placement.specs.declared.Part.{Part}
 use Rattle.placement.specs.Part.{wordOf, Placed, firstPart}
 use Rattle.placement.proofs.Parts.{left-count, start-short}
+use Rattle.branching.specs.Branching.{Known, theoryPart, JobStart, noneSettled}
 use Rattle.search.specs.declared.Found.{Found}
-use Rattle.search.specs.Search.{Known, theoryPart, JobStart, Remembered, Fails}
-use Rattle.search.specs.Search.{Outcome, noneSettled, Searching, Lowest, Going, Placing}
+use Rattle.search.specs.Search.{Remembered, Fails, Outcome, Searching, Lowest, Going, Placing}
 use Rattle.search.proofs.Turns.{child-known}
 use Rattle.search.proofs.Whole.{none-settled}
 
@@ -69,7 +69,7 @@ module _ {need minutes earlier later tails worth most : List ℕ} {jobs modules 
       → Searching need minutes earlier later tails worth most jobs modules child (noneSettled .by) target memory
   place-enter low child placed = record {
     low = g .low;
-    known = child-known need minutes earlier tails jobs modules part (g .known) j l s start low child placed;
+    known = child-known need minutes earlier jobs modules part (g .known) j l s start low child placed;
     chains = g .chains;
     laters = g .laters;
     weighted = g .weighted;

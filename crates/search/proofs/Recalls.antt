@@ -21,7 +21,8 @@ use Rattle.placement.specs.Part.{wordOf}
 use Rattle.placement.proofs.Parts.{left-count}
 use Rattle.memory.specs.Entries.{setAt, endAt, entryAt, EntryOf, Hit, Adds}
 use Rattle.memory.proofs.Slots.{zero-sets}
-use Rattle.search.specs.Search.{Known, StandsFor, Remembered}
+use Rattle.branching.specs.Branching.{Known}
+use Rattle.search.specs.Search.{StandsFor, Remembered}
 
 -- the best so far only falls
 pub remembered-less : (S : Sheet) (m : List ℕ) (e f : ℕ) → f ≤ e → Remembered S m e → Remembered S m f

@@ -1,9 +1,7 @@
 -- A turn of a loop over the first n of at most 20 places.
-use mathlib.Core.Path.{_≡_, sym, subst}
-use mathlib.Core.Logic.{_⊎_, inl, inr}
+use mathlib.Core.Path.{_≡_}
 use Prim.Native.Nat.{ℕ, suc, _+_, _-_, _*_, _≤_, _<_}
 use native.Mathlib.Omega.{arith}
-use Rattle.counting.proofs.Tests.{same-or-not}
 use mir.Syntax.{w64}
 use mir.Val.{Fits}
 
@@ -32,11 +30,3 @@ all-done a b = omega arith
 
 pub one-less : {k n : ℕ} → suc k ≡ n → k < n
 one-less e = omega arith
-
--- what holds of all below n, and of n
-pub below-next : (P : ℕ → Type 0) (n : ℕ) → ((k : ℕ) → k < n → P k) → P n → (k : ℕ) → k < n + 1 → P k
-below-next P n h p k l = go (same-or-not k n)
-  where
-    go : (k ≡ n) ⊎ (¬ (k ≡ n)) → P k
-    go (inl e) = subst P (sym e) p
-    go (inr d) = h k (omega arith)

@@ -3,7 +3,7 @@ use mathlib.Core.Path.{_≡_, refl, sym, ap, _∙_}
 use mathlib.Core.Logic.{_⊎_, inl, inr}
 use mathlib.Core.Bool.{Bool, true, false, not, _&&_, _||_}
 use mathlib.Core.List.{List, [], _∷_, _++_, append-assoc}
-use Prim.Native.Nat.{ℕ, suc, _+_, _≤_, _<_}
+use Prim.Native.Nat.{ℕ, suc, _≤_, _<_}
 use native.Mathlib.Omega.{arith}
 use lib.Dec.{eqb}
 use lib.Count.{ones}
@@ -22,10 +22,11 @@ use Rattle.tables.specs.Tables.{sheetOf}
 use Rattle.placement.specs.declared.Part.{Part}
 use Rattle.placement.specs.Part.{wordOf}
 use Rattle.placement.proofs.Parts.{start-short}
-use Rattle.search.specs.declared.Choice.{Choice}
+use Rattle.branching.specs.declared.Choice.{Choice}
+use Rattle.branching.specs.Branching.{Known, ToTry, EachStart, ChoiceOf}
+use Rattle.branching.proofs.Candidates.{started}
 use Rattle.search.specs.declared.Found.{Found}
-use Rattle.search.specs.Search.{Known, ToTry, Fails, Outcome, noneFound, EachStart, TriedSo, ChoiceOf}
-use Rattle.search.proofs.Candidates.{started}
+use Rattle.search.specs.Search.{Fails, Outcome, noneFound, TriedSo}
 
 -- no order
 pub none-outcome : (S : Sheet) (target : ℕ) (v : List ℕ) → Fails S target v → Outcome S target v noneFound

@@ -1,39 +1,31 @@
 -- What one call of the search does to what is known.
 use mathlib.Core.Path.{_≡_, sym, ap, _∙_, subst}
-use mathlib.Core.Logic.{_⊎_, inl, inr}
-use mathlib.Core.Bool.{true, false, not}
+use mathlib.Core.Bool.{true}
 use mathlib.Core.List.{List, [], _∷_, _++_, append-nil}
-use Prim.Native.Nat.{ℕ, suc, _+_, _-_, _*_, _≤_, _<_}
+use Prim.Native.Nat.{ℕ, suc, _+_, _<_}
 use native.Mathlib.Omega.{arith}
-use native.Mathlib.Numerals.{add-one}
 use lib.Count.{ones}
 use lib.ListN.{length, getD, take, length-append}
 use borrow.Author.Tests.{ltb-true, ltb-false, not-true, not-false}
 use Rattle.counting.specs.Counting.{only, largest}
-use Rattle.counting.proofs.Tests.{true-or-false}
-use Rattle.counting.proofs.Sums.{sum-same, sum-add}
 use Rattle.counting.proofs.Ranges.{largest-same}
 use Rattle.schedule.specs.Plan.{Sheet, finish}
 use Rattle.schedule.specs.ListPlan.{Order, PartPlan, ready}
 use Rattle.schedule.specs.TieRule.{endOf}
 use Rattle.schedule.proofs.Starts.{ready-says}
-use Rattle.schedule.proofs.Area.{work, todo}
 use Rattle.schedule.proofs.Places.{Begins, CannotBeat}
-use Rattle.schedule.proofs.Cuts.{NoneBefore, area-cut, chain-cut, children-cut}
+use Rattle.schedule.proofs.Cuts.{children-cut}
 use Rattle.tables.specs.Tables.{sheetOf}
 use Rattle.placement.specs.declared.Part.{Part}
-use Rattle.placement.specs.Profile.{heldAfter}
 use Rattle.placement.specs.Part.{wordOf, IsPart, Placeable, Placed}
-use Rattle.placement.proofs.Profiles.{profile-later}
-use Rattle.placement.proofs.Parts.{after-is, after-small, left-small, left-count, all-placed, placeable, fewer, placed-part}
+use Rattle.placement.proofs.Parts.{left-count, all-placed, placeable, fewer, placed-part}
 use Rattle.memory.specs.Entries.{Hit, Adds}
-use Rattle.search.proofs.Candidates.{started, none-before}
-use Rattle.search.proofs.Shortages.{short-cut}
+use Rattle.branching.specs.Branching.{Known, theoryPart, JobStart, JobStarts}
+use Rattle.branching.proofs.Candidates.{started, none-before}
 use Rattle.search.proofs.Recalls.{remembered-adds, hit-cut}
-use Rattle.search.specs.Search.{Tails, Known, theoryPart, JobStart, JobStarts, SomeTooLong, Hopeless, Bounding, Remembered}
-use Rattle.search.specs.Search.{Fails, Outcome, finishedAs}
+use Rattle.search.specs.Search.{Remembered, Fails, Outcome, finishedAs}
 
-module _ (need minutes earlier tails : List ℕ) (jobs modules : ℕ) where
+module _ (need minutes earlier : List ℕ) (jobs modules : ℕ) where
   abbrev S : Sheet
   S = sheetOf need minutes earlier jobs modules
 
@@ -82,65 +74,12 @@ module _ (need minutes earlier tails : List ℕ) (jobs modules : ℕ) where
           alone o d ([], e) = e ∙ append-nil w
           alone o d (j ∷ p, e) = absurd (omega (arith, d .all, whole .all, ap length e, length-append w (j ∷ p)))
 
-    -- ---- cuts
+    -- ---- a part-plan that was remembered
 
-    module _ (at : List ℕ) (least : ℕ) (starts : JobStarts need minutes earlier jobs modules part at least) where
-      none : NoneBefore S (known .fit .narrow) w (known .is .follows) least
-      none = none-before need minutes earlier jobs modules part known at least starts
-
-      work-is : work S P least ≡ modules * least + (heldAfter (part .until) (part .held) (part .placed) least + part .left)
-      unfolding work
-      work-is =
-          let F = known .is .figures in
-          let parts = sum-same jobs (todo S P least)
-          (λ i. only (P .placed i) (S .need i * (finish S (P .plan) i - least)) + only (not (P .placed i)) (S .need i * S .minutes i))
-          (λ i l. one i (true-or-false (P .placed i))) in
-          let split = sum-add jobs (λ i. only (P .placed i) (S .need i * (finish S (P .plan) i - least)))
-          (λ i. only (not (P .placed i)) (S .need i * S .minutes i)) in
-          omega (arith, after-is need minutes earlier jobs modules (known .fit) part w (known .is) least, F .left)
-        where
-          one : (i : ℕ) → (P .placed i ≡ true) ⊎ (P .placed i ≡ false) → todo S P least i
-              ≡ only (P .placed i) (S .need i * (finish S (P .plan) i - least)) + only (not (P .placed i)) (S .need i * S .minutes i)
-          one i (inl e) = rw e (omega arith)
-          one i (inr e) = rw e (omega arith)
-
-      -- what the bounds need of the figures
-      pub bounding : {T : ℕ} → T < 65535 → Bounding part modules least T
-      bounding low =
-          let q = known .is .figures .profile in
-          let from : part .last ≤ least = omega (arith, known .is .figures .last, starts .low) in
-          record {
-            held-after = record {
-              few = q .few;
-              inside = q .inside;
-              ended = λ k l. omega (arith, q .ended k l);
-              small = after-small need minutes earlier jobs modules (known .fit) part w (known .is) least;
-            };
-            profile = profile-later least from q;
-            left = left-small need minutes earlier jobs modules (known .fit) part w (known .is);
-            low = low;
-          }
-
-      crowded-cut : (e : ℕ) → 0 < ones (part .unplaced)
-          → modules * e ≤ modules * least + (heldAfter (part .until) (part .held) (part .placed) least + part .left) → CannotBeat S e w
-      crowded-cut e pos h =
-          area-cut S (known .fit .narrow) w (known .is .follows) least e (starts .low) none (omega (arith, size)) (known .fit .some)
-          (omega (arith, work-is))
-
-      long-cut : (e : ℕ) → Tails S tails → SomeTooLong at tails jobs e → CannotBeat S e w
-      long-cut e chains (j, l, k, h) =
-          let r = started (starts .each j l) k in
-          chain-cut S (known .fit .narrow) w (known .is .follows) jobs j e r (omega (arith, chains j l, starts .each j l .here r))
-
-      pub hopeless-cut : (T : ℕ) → Tails S tails → 0 < ones (part .unplaced) → Hopeless need minutes tails jobs modules part at least T
-          → Fails S T w
-      hopeless-cut T chains pos (inl h) = crowded-cut (suc T) pos (rw add-one at h)
-      hopeless-cut T chains pos (inr (inl h)) = long-cut (suc T) chains (rw add-one at h)
-      hopeless-cut T chains pos (inr (inr h)) = short-cut need minutes earlier jobs modules part known at least starts T h
-
-      pub recall-cut : (e : ℕ) (m : List ℕ) → 0 < ones (part .unplaced) → Remembered S m e
-          → Hit m jobs (part .ends) (part .unplaced) least → CannotBeat S e w
-      recall-cut e m pos = hit-cut need minutes earlier jobs modules part known m e least pos none
+    pub recall-cut : (at : List ℕ) (least : ℕ) → JobStarts need minutes earlier jobs modules part at least → (e : ℕ) (m : List ℕ)
+        → 0 < ones (part .unplaced) → Remembered S m e → Hit m jobs (part .ends) (part .unplaced) least → CannotBeat S e w
+    recall-cut at least starts e m pos = hit-cut need minutes earlier jobs modules part known m e least pos
+        (none-before need minutes earlier jobs modules part known at least starts)
 
     -- ---- a child
 

@@ -1,5 +1,5 @@
 -- The whole search: from the first list plan to an order that ends first, and from there to the tie rule's.
-use mathlib.Core.Path.{_≡_, refl, sym, ap, _∙_, subst}
+use mathlib.Core.Path.{_≡_, refl, sym, ap, _∙_}
 use mathlib.Core.Logic.{_⊎_, inl, inr}
 use mathlib.Core.Bool.{true, false}
 use mathlib.Core.List.{List, [], _++_}
@@ -12,16 +12,15 @@ use Rattle.bits.specs.Bits.{bit}
 use Rattle.bits.proofs.Digits.{bit-none}
 use Rattle.schedule.specs.Plan.{Sheet}
 use Rattle.schedule.specs.ListPlan.{Order}
-use Rattle.schedule.specs.TieRule as tie
 use Rattle.schedule.specs.TieRule.{endOf}
 use Rattle.schedule.proofs.Places.{CannotBeat}
 use Rattle.schedule.proofs.EndSums.{end-sum}
 use Rattle.tables.specs.Tables.{sheetOf, Fit}
 use Rattle.placement.specs.Part.{wordOf, firstPart}
-use Rattle.search.specs.declared.Found.{Found}
-use Rattle.search.specs.Search.{Remembered, Outcome, noneSettled, SettledSo, Searching}
-use Rattle.search.specs.Search.{OrderOf, keptAs, Lowering, Lowered, Lowest}
+use Rattle.branching.specs.Branching.{noneSettled}
 use Rattle.sums.specs.Sums.{Rounded}
+use Rattle.search.specs.declared.Found.{Found}
+use Rattle.search.specs.Search.{Remembered, Outcome, SettledSo, Searching, OrderOf, keptAs, Lowering, Lowered, Lowest}
 use Rattle.search.proofs.Recalls.{remembered-less}
 use Rattle.search.proofs.Listing.{first-known}
 

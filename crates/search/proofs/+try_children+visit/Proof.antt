@@ -7,9 +7,10 @@ use lib.Count.{ones}
 use lib.ListN.{length, getD}
 use Rattle.tables.specs.Tables.{sheetOf}
 use Rattle.placement.specs.Part.{wordOf}
+use Rattle.bounds.proofs.Cuts.{bounding, hopeless-cut}
 use Rattle.search.specs.Search.{Remembered}
-use Rattle.search.proofs.Turns.{visit-leaf, bounding, hopeless-cut, recall-cut, child-placeable}
-use Rattle.search.proofs.Turns.{child-fewer, child-known, child-word, visit-all, visit-remember}
+use Rattle.search.proofs.Turns.{visit-leaf, recall-cut, visit-all, visit-remember}
+use Rattle.search.proofs.Turns.{child-placeable, child-fewer, child-known, child-word}
 use Rattle.search.proofs.Steps.{one-less}
 use Rattle.search.proofs.Passing.{passed-cut, settled-more}
 use Rattle.search.proofs.Sweeps.{none-outcome, found-below, Sweep, sweep-first, chosen-in, sweep-next, sweep-all, all-tried}
@@ -19,17 +20,17 @@ use Rattle.search.proofs.try_children.Reads as try-children
 use Rattle.search.proofs.visit.Reads as visit
 use Rattle.bits.proofs.clear32.Reads as clear32-reads
 use Rattle.bits.proofs.set32.Reads as set32-reads
+use Rattle.bounds.proofs.hopeless.Reads as hopeless-reads
+use Rattle.branching.proofs.next_choice.Reads as next-choice-reads
+use Rattle.branching.proofs.passed_over.Reads as passed-over-reads
+use Rattle.branching.proofs.ready_starts.Reads as ready-starts-reads
+use Rattle.branching.proofs.to_try.Reads as to-try-reads
+use Rattle.branching.proofs.with_settled.Reads as with-settled-reads
 use Rattle.memory.proofs.recall.Reads as recall-reads
 use Rattle.memory.proofs.remember.Reads as remember-reads
 use Rattle.placement.proofs.place.Reads as place-reads
 use Rattle.search.proofs.finished.Reads as finished-reads
-use Rattle.search.proofs.hopeless.Reads as hopeless-reads
-use Rattle.search.proofs.next_choice.Reads as next-choice-reads
 use Rattle.search.proofs.none_found.Reads as none-found-reads
-use Rattle.search.proofs.passed_over.Reads as passed-over-reads
-use Rattle.search.proofs.ready_starts.Reads as ready-starts-reads
-use Rattle.search.proofs.to_try.Reads as to-try-reads
-use Rattle.search.proofs.with_settled.Reads as with-settled-reads
 use Rattle.search.proofs.try_children.Kinds as try-children-kinds
 use Rattle.search.proofs.+try_children+visit.Lts-try_children as try-children-lts
 use Rattle.search.proofs.visit.Kinds as visit-kinds
@@ -163,7 +164,7 @@ try-children-place-requires t c κs =
     let a = start .args in
     let p = start .pre .1 in
     let known = p .0 .known in
-    child-placeable (a .need .now) (a .minutes .now) (a .earlier .now) (a .tails .now) (a .jobs) (a .modules) (a .t10) known (a .job)
+    child-placeable (a .need .now) (a .minutes .now) (a .earlier .now) (a .jobs) (a .modules) (a .t10) known (a .job)
     (p .1 .1 .1 .0) (getD (a .at .now) (a .job) 0)
     (p .1 .0 (a .job) (p .1 .1 .1 .0)) (p .1 .1 .1 .1)
 
@@ -180,16 +181,16 @@ try-children-visit-requires t c κs =
     let p = start .pre .1 in
     let known = p .0 .known in
     let place = c .before .before .place in
-    let less = child-fewer (a .need .now) (a .minutes .now) (a .earlier .now) (a .tails .now) (a .jobs) (a .modules) (a .t10) known
+    let less = child-fewer (a .need .now) (a .minutes .now) (a .earlier .now) (a .jobs) (a .modules) (a .t10) known
     (a .job) (p .1 .1 .1 .0) (getD (a .at .now) (a .job) 0)
     (p .1 .0 (a .job) (p .1 .1 .1 .0)) (p .1 .1 .1 .1) (place .result) (place .ensures) in
-    let word = child-word (a .need .now) (a .minutes .now) (a .earlier .now) (a .tails .now) (a .jobs) (a .modules) (a .t10) known
+    let word = child-word (a .need .now) (a .minutes .now) (a .earlier .now) (a .jobs) (a .modules) (a .t10) known
     (a .job) (p .1 .1 .1 .0) (getD (a .at .now) (a .job) 0)
     (p .1 .0 (a .job) (p .1 .1 .1 .0)) (p .1 .1 .1 .1) (place .result) (place .ensures) in (
       omega (arith, start .pre .0, less),
       record {
         low = p .0 .low;
-        known = child-known (a .need .now) (a .minutes .now) (a .earlier .now) (a .tails .now) (a .jobs) (a .modules) (a .t10) known
+        known = child-known (a .need .now) (a .minutes .now) (a .earlier .now) (a .jobs) (a .modules) (a .t10) known
             (a .job) (p .1 .1 .1 .0) (getD (a .at .now) (a .job) 0)
             (p .1 .0 (a .job) (p .1 .1 .1 .0)) (p .1 .1 .1 .1) (place .result) (place .ensures);
         chains = p .0 .chains;
@@ -215,7 +216,7 @@ try-children-returns-2 t c =
     let p = start .pre .1 in
     let known = p .0 .known in
     let place = c .before .before .before .before .before .place in
-    let word = child-word (a .need .now) (a .minutes .now) (a .earlier .now) (a .tails .now) (a .jobs) (a .modules) (a .t10) known
+    let word = child-word (a .need .now) (a .minutes .now) (a .earlier .now) (a .jobs) (a .modules) (a .t10) known
     (a .job) (p .1 .1 .1 .0) (getD (a .at .now) (a .job) 0)
     (p .1 .0 (a .job) (p .1 .1 .1 .0)) (p .1 .1 .1 .1) (place .result) (place .ensures) in
     let visit = c .before .before .visit in
@@ -240,7 +241,7 @@ visit-returns t c =
     let start = c .before .before .before in
     let a = start .args in
     let p = start .pre .1 in (
-      rw (c .finished .ensures) (visit-leaf (a .need .now) (a .minutes .now) (a .earlier .now) (a .tails .now) (a .jobs) (a .modules)
+      rw (c .finished .ensures) (visit-leaf (a .need .now) (a .minutes .now) (a .earlier .now) (a .jobs) (a .modules)
           (a .t10) (p .known) (c .before .if1 .taken) (a .target)),
       p .remembered,
     )
@@ -296,7 +297,7 @@ visit-returns-3 t c =
     let a = start .args in
     let p = start .pre .1 in
     let r = c .before .before .before .before .before .before .before .before .before .before .ready-starts in
-    let cut = recall-cut (a .need .now) (a .minutes .now) (a .earlier .now) (a .tails .now) (a .jobs) (a .modules) (a .t10) (p .known)
+    let cut = recall-cut (a .need .now) (a .minutes .now) (a .earlier .now) (a .jobs) (a .modules) (a .t10) (p .known)
     (r .result .at) (r .result .least) (r .ensures) (suc (a .target)) (a .memory .now)
     (pos-of-ne-zero (c .before .before .before .before .before .before .before .before .before .before .before .if1 .left))
     (p .remembered) (c .before .before .recall .ensures (c .before .if3 .taken)) in
@@ -447,11 +448,11 @@ visit-returns-5 t c =
     (c .before .before .before .before .before .before .before .if4 .left) in
     let all = all-tried (a .need .now) (a .minutes .now) (a .earlier .now) (a .jobs) (a .modules) (a .t10) (p .known) (a .target)
     (r .result .at) (r .ensures .each) (first .result) (r .result .least) (r .ensures .first) (first .ensures) swept in
-    let cut = visit-all (a .need .now) (a .minutes .now) (a .earlier .now) (a .tails .now) (a .jobs) (a .modules) (a .t10) (p .known)
+    let cut = visit-all (a .need .now) (a .minutes .now) (a .earlier .now) (a .jobs) (a .modules) (a .t10) (p .known)
     (a .target) (pos-of-ne-zero
     (c .before .before .before .before .before .before .before .before .before .before .before .before .before .before .before .before .before .before .before .before .before .before .before .before .if1 .left)) all in (
       rw (c .none-found3 .ensures) (none-outcome _ (a .target) _ cut),
-      visit-remember (a .need .now) (a .minutes .now) (a .earlier .now) (a .tails .now) (a .jobs) (a .modules) (a .t10) (p .known)
+      visit-remember (a .need .now) (a .minutes .now) (a .earlier .now) (a .jobs) (a .modules) (a .t10) (p .known)
           (a .target) (loop .memory) (remember .last .0) (loop .inv .1 .0) cut (remember .ensures),
     )
 

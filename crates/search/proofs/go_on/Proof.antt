@@ -1,5 +1,4 @@
 -- `search::go_on` meets its contract.
-use mathlib.Core.List.{[]}
 use Rattle.schedule.proofs.Starts.{ready-says}
 use Rattle.search.proofs.Steps.{in-20, at-2}
 use Rattle.search.proofs.Turns.{child-placeable, child-known, child-word}
@@ -37,7 +36,7 @@ place-requires c κs =
     let known = start .pre .0 in
     let l = ready-says _ _ (a .j) (start .pre .1) .job in
     let s = c .before .before .start-or-none in
-    child-placeable (a .need .now) (a .minutes .now) (a .earlier .now) [] (a .jobs) (a .modules) (a .part) known (a .j) l (s .result)
+    child-placeable (a .need .now) (a .minutes .now) (a .earlier .now) (a .jobs) (a .modules) (a .part) known (a .j) l (s .result)
     (s .ensures) (starts-short known (start .pre .1) (s .ensures))
 
 returns : tie.Need-returns
@@ -47,10 +46,10 @@ returns c =
     let known = start .pre .0 in
     let l = ready-says _ _ (a .j) (start .pre .1) .job in
     let s = c .before .before .before .start-or-none in (
-      child-known (a .need .now) (a .minutes .now) (a .earlier .now) [] (a .jobs) (a .modules) (a .part) known (a .j) l (s .result)
+      child-known (a .need .now) (a .minutes .now) (a .earlier .now) (a .jobs) (a .modules) (a .part) known (a .j) l (s .result)
           (s .ensures) (starts-short known (start .pre .1) (s .ensures)) (c .place .result) (c .place .ensures),
       (
-        child-word (a .need .now) (a .minutes .now) (a .earlier .now) [] (a .jobs) (a .modules) (a .part) known (a .j) l (s .result)
+        child-word (a .need .now) (a .minutes .now) (a .earlier .now) (a .jobs) (a .modules) (a .part) known (a .j) l (s .result)
             (s .ensures) (starts-short known (start .pre .1) (s .ensures)) (c .place .result) (c .place .ensures),
         c .place .ensures .placed,
       ),

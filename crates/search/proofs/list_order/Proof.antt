@@ -2,7 +2,7 @@
 use mathlib.Core.Path.{refl}
 use native.Mathlib.Nat.{pos-of-ne-zero}
 use lib.Count.{ones}
-use Rattle.search.specs.Search.{Known}
+use Rattle.branching.specs.Branching.{Known}
 use Rattle.search.proofs.Steps.{in-20, at-2, one-less}
 use Rattle.search.proofs.Listing.{first-known, list-stuck, list-done, next-job, next-placeable, next-fewer, next-known}
 use Rattle.search.proofs.list_order.Statement.{statement}

@@ -42,7 +42,7 @@ place-requires c κs =
     let l = start .pre .1 in
     let s = c .before .before .before .start-or-none in
     let low : s .result < 65535 = start-low (g .known) (s .ensures) (c .before .before .if1 .left) in
-    child-placeable (a .need .now) (a .minutes .now) (a .earlier .now) (a .tails .now) (a .jobs) (a .modules) (a .part) (g .known)
+    child-placeable (a .need .now) (a .minutes .now) (a .earlier .now) (a .jobs) (a .modules) (a .part) (g .known)
     (a .j) l (s .result) (s .ensures) low
 
 none-settled-requires : tie.Need-none-settled-requires
@@ -72,7 +72,7 @@ returns-2 c =
     let low : s .result < 65535 = start-low (g .known) (s .ensures)
     (c .before .before .before .before .before .before .before .before .if1 .left) in
     let place = c .before .before .before .before .before .place in
-    let word = child-word (a .need .now) (a .minutes .now) (a .earlier .now) (a .tails .now) (a .jobs) (a .modules) (a .part) (g .known)
+    let word = child-word (a .need .now) (a .minutes .now) (a .earlier .now) (a .jobs) (a .modules) (a .part) (g .known)
     (a .j) l (s .result) (s .ensures) low (place .result) (place .ensures) in
     let visit = c .before .before .visit in
     (rw word at (visit .ensures .0), visit .ensures .1)

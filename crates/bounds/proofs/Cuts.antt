@@ -1,0 +1,89 @@
+-- A bound that holds of a part-plan cuts it: no order that goes on from it ends by the target.
+use mathlib.Core.Path.{_≡_}
+use mathlib.Core.Logic.{_⊎_, inl, inr}
+use mathlib.Core.Bool.{true, false, not}
+use mathlib.Core.List.{List}
+use Prim.Native.Nat.{ℕ, suc, _+_, _-_, _*_, _≤_, _<_}
+use native.Mathlib.Omega.{arith}
+use native.Mathlib.Numerals.{add-one}
+use lib.Count.{ones}
+use Rattle.counting.specs.Counting.{only}
+use Rattle.counting.proofs.Tests.{true-or-false}
+use Rattle.counting.proofs.Sums.{sum-same, sum-add}
+use Rattle.schedule.specs.Plan.{Sheet, finish}
+use Rattle.schedule.specs.ListPlan.{PartPlan}
+use Rattle.schedule.proofs.Area.{work, todo}
+use Rattle.schedule.proofs.Places.{CannotBeat}
+use Rattle.schedule.proofs.Cuts.{area-cut, chain-cut}
+use Rattle.tables.specs.Tables.{sheetOf}
+use Rattle.placement.specs.declared.Part.{Part}
+use Rattle.placement.specs.Profile.{heldAfter}
+use Rattle.placement.specs.Part.{wordOf}
+use Rattle.placement.proofs.Profiles.{profile-later}
+use Rattle.placement.proofs.Parts.{after-is, after-small, left-small, left-count}
+use Rattle.branching.specs.Branching.{Known, theoryPart, JobStarts}
+use Rattle.branching.proofs.Candidates.{started, none-before}
+use Rattle.bounds.specs.Bounds.{Tails, SomeTooLong, Hopeless, Bounding}
+use Rattle.bounds.proofs.Shortages.{short-cut}
+
+module _ (need minutes earlier tails : List ℕ) (jobs modules : ℕ) (part : Part) (known : Known need minutes earlier jobs modules part)
+    (at : List ℕ) (least : ℕ) (starts : JobStarts need minutes earlier jobs modules part at least) where
+  abbrev S : Sheet
+  S = sheetOf need minutes earlier jobs modules
+
+  abbrev w : List ℕ
+  w = wordOf part
+
+  abbrev P : PartPlan
+  P = theoryPart need minutes earlier jobs modules part
+
+  work-is : work S P least ≡ modules * least + (heldAfter (part .until) (part .held) (part .placed) least + part .left)
+  unfolding work
+  work-is =
+      let F = known .is .figures in
+      let parts = sum-same jobs (todo S P least)
+      (λ i. only (P .placed i) (S .need i * (finish S (P .plan) i - least)) + only (not (P .placed i)) (S .need i * S .minutes i))
+      (λ i l. one i (true-or-false (P .placed i))) in
+      let split = sum-add jobs (λ i. only (P .placed i) (S .need i * (finish S (P .plan) i - least)))
+      (λ i. only (not (P .placed i)) (S .need i * S .minutes i)) in
+      omega (arith, after-is need minutes earlier jobs modules (known .fit) part w (known .is) least, F .left)
+    where
+      one : (i : ℕ) → (P .placed i ≡ true) ⊎ (P .placed i ≡ false) → todo S P least i
+          ≡ only (P .placed i) (S .need i * (finish S (P .plan) i - least)) + only (not (P .placed i)) (S .need i * S .minutes i)
+      one i (inl e) = rw e (omega arith)
+      one i (inr e) = rw e (omega arith)
+
+  -- what the bounds need of the figures
+  pub bounding : {T : ℕ} → T < 65535 → Bounding part modules least T
+  bounding low =
+      let q = known .is .figures .profile in
+      let from : part .last ≤ least = omega (arith, known .is .figures .last, starts .low) in
+      record {
+        held-after = record {
+          few = q .few;
+          inside = q .inside;
+          ended = λ k l. omega (arith, q .ended k l);
+          small = after-small need minutes earlier jobs modules (known .fit) part w (known .is) least;
+        };
+        profile = profile-later least from q;
+        left = left-small need minutes earlier jobs modules (known .fit) part w (known .is);
+        low = low;
+      }
+
+  crowded-cut : (e : ℕ) → 0 < ones (part .unplaced)
+      → modules * e ≤ modules * least + (heldAfter (part .until) (part .held) (part .placed) least + part .left) → CannotBeat S e w
+  crowded-cut e pos h =
+      let size = left-count need minutes earlier jobs modules (known .fit) part w (known .is) in
+      area-cut S (known .fit .narrow) w (known .is .follows) least e (starts .low)
+      (none-before need minutes earlier jobs modules part known at least starts) (omega arith) (known .fit .some) (omega (arith, work-is))
+
+  long-cut : (e : ℕ) → Tails S tails → SomeTooLong at tails jobs e → CannotBeat S e w
+  long-cut e chains (j, l, k, h) =
+      let r = started (starts .each j l) k in
+      chain-cut S (known .fit .narrow) w (known .is .follows) jobs j e r (omega (arith, chains j l, starts .each j l .here r))
+
+  pub hopeless-cut : (T : ℕ) → Tails S tails → 0 < ones (part .unplaced) → Hopeless need minutes tails jobs modules part at least T
+      → CannotBeat S (suc T) w
+  hopeless-cut T chains pos (inl h) = crowded-cut (suc T) pos (rw add-one at h)
+  hopeless-cut T chains pos (inr (inl h)) = long-cut (suc T) chains (rw add-one at h)
+  hopeless-cut T chains pos (inr (inr h)) = short-cut need minutes earlier jobs modules part known at least starts T h

@@ -1,0 +1,112 @@
+-- The bounds by weights and by modules, of the figures of a part-plan.
+use mathlib.Core.Path.{_≡_, refl, sym, ap, _∙_}
+use mathlib.Core.Logic.{inl, inr}
+use mathlib.Core.Bool.{Bool, true, false, not, _&&_}
+use mathlib.Core.List.{List}
+use Prim.Native.Nat.{ℕ, suc, _-_, _*_, _≤_, _<_}
+use native.Mathlib.Omega.{arith}
+use native.Mathlib.Nat.{add-zero}
+use lib.Dec.{ltb, leb}
+use lib.ListN.{getD}
+use borrow.Author.Tests.{ltb-true, lt-ltb}
+use Rattle.counting.specs.Counting.{only, sum}
+use Rattle.counting.proofs.Tests.{and-left, and-right}
+use Rattle.counting.proofs.Sums.{sum-same}
+use Rattle.bits.specs.Bits.{bit}
+use Rattle.schedule.specs.Plan.{Sheet, finish}
+use Rattle.schedule.specs.ListPlan.{PartPlan, occupies, occupied}
+use Rattle.schedule.proofs.Places.{CannotBeat}
+use Rattle.schedule.proofs.Bounds.{weights-cut, modules-cut}
+use Rattle.tables.specs.Tables.{sheetOf}
+use Rattle.placement.specs.declared.Part.{Part}
+use Rattle.placement.specs.Profile.{heldAt}
+use Rattle.placement.specs.Part.{wordOf, Figures}
+use Rattle.placement.proofs.Parts.{occupied-is}
+use Rattle.weights.specs.Weights.{Outweighed}
+use Rattle.sums.specs.Sums.{together, Unserved}
+use Rattle.branching.specs.Branching.{Known, theoryPart, JobStarts}
+use Rattle.branching.proofs.Candidates.{none-before}
+use Rattle.bounds.specs.Bounds.{TooFew}
+
+times-only : (b : Bool) (x y : ℕ) → only b (x * y) ≡ x * only b y
+times-only true x y = refl
+times-only false x y = omega arith
+
+module _ (need minutes earlier : List ℕ) (jobs modules : ℕ) (part : Part) (known : Known need minutes earlier jobs modules part)
+    (at : List ℕ) (least : ℕ) (starts : JobStarts need minutes earlier jobs modules part at least) (T : ℕ) where
+  abbrev S : Sheet
+  S = sheetOf need minutes earlier jobs modules
+
+  abbrev w : List ℕ
+  w = wordOf part
+
+  abbrev P : PartPlan
+  P = theoryPart need minutes earlier jobs modules part
+
+  abbrev F : Figures S P part
+  F = known .is .figures
+
+  held-is : (t : ℕ) → heldAt (part .until) (part .held) (part .placed) t ≡ occupied S P t
+  held-is = occupied-is need minutes earlier jobs modules (known .fit) part w (known .is)
+
+  -- the jobs of the set are those that are left
+  of-set : (f : ℕ → ℕ) → sum jobs (λ k. only (bit (part .unplaced) k) (f k)) ≡ sum jobs (λ k. only (not (P .placed k)) (f k))
+  of-set f = sum-same jobs _ _ (λ k l. ap (λ b. only b (f k)) (F .set k l))
+
+  outweighed-cut : Outweighed need minutes (part .until) (part .held) jobs modules (part .placed) (part .unplaced) least T
+      → CannotBeat S (suc T) w
+  outweighed-cut o =
+      let free = sum-same T (λ t. only (leb least t) (o .most (modules - heldAt (part .until) (part .held) (part .placed) t)))
+      (λ t. only (leb least t) (o .most (modules - occupied S P t)))
+      (λ t l. ap (λ (x : ℕ). only (leb least t) (o .most (modules - x))) (held-is t)) in
+      weights-cut S (known .fit .lasting) (known .fit .narrow) w (known .is .follows) least (starts .low)
+      (none-before need minutes earlier jobs modules part known at least starts) T (o .weight) (o .most) (o .weighs)
+      (omega (arith, free, of-set (λ k. getD minutes k 0 * o .weight k), o .over))
+
+  module _ (u : Unserved minutes (part .until) (part .held) jobs modules (part .placed) (part .unplaced) (part .left) least T) where
+    -- some of the jobs that are left
+    reaches : (X : ℕ → Bool) (x : ℕ) → ((k : ℕ) → X k ≡ true → P .placed k ≡ false)
+        → together minutes jobs X ≤ x → together minutes jobs X ≤ u .reach x
+    reaches X x left short =
+        let same = sum-same jobs (λ k. only (X k) (getD minutes k 0)) (λ k. only (X k && ltb k jobs) (getD minutes k 0))
+        (λ k l. inside k l (X k)) in
+        omega (
+          arith,
+          same,
+          u .bounds (λ k. X k && ltb k jobs) x (λ k e.
+              F .set k (ltb-true k jobs (and-right (X k) _ e)) ∙ ap not (left k (and-left (X k) _ e)))
+              (omega (arith, same)),
+        )
+      where
+        inside : (k : ℕ) → k < jobs → (b : Bool) → only b (getD minutes k 0) ≡ only (b && ltb k jobs) (getD minutes k 0)
+        inside k l true = rw (lt-ltb k jobs l) refl
+        inside k l false = refl
+
+    -- what the modules of the jobs that run serve
+    behind : sum (part .placed) (λ k. only (ltb least (getD (part .until) k 0))
+        (getD (part .held) k 0 * u .reach (T - getD (part .until) k 0)))
+        ≡ sum jobs (λ i. only (occupies S P least i) (S .need i * u .reach (T - finish S (P .plan) i)))
+    behind =
+        sum-same (part .placed) _ _ (λ k l.
+        times-only (ltb least (getD (part .until) k 0)) (getD (part .held) k 0) (u .reach (T - getD (part .until) k 0)))
+        ∙ F .by-end (λ e. only (ltb least e) (u .reach (T - e)))
+        ∙ sum-same jobs _ _ (λ i l. one i (P .placed i) refl)
+      where
+        one : (i : ℕ) (b : Bool) → P .placed i ≡ b
+            → only (P .placed i) (S .need i * only (ltb least (finish S (P .plan) i)) (u .reach (T - finish S (P .plan) i)))
+            ≡ only (occupies S P least i) (S .need i * u .reach (T - finish S (P .plan) i))
+        one i true e = rw (e, add-zero (finish S (P .plan) i))
+            (sym (times-only (ltb least (finish S (P .plan) i)) (S .need i) (u .reach (T - finish S (P .plan) i))))
+        one i false e = rw e refl
+
+    unserved-cut : CannotBeat S (suc T) w
+    unserved-cut =
+        let free = ap (λ (x : ℕ). (modules - x) * u .reach (T - least)) (held-is least) in
+        modules-cut S (known .fit .lasting) (known .fit .narrow) w (known .is .follows) least (starts .low)
+        (none-before need minutes earlier jobs modules part known at least starts) T (S .minutes) (u .reach) reaches (u .rises)
+        (omega (arith, behind, free, F .left, u .short))
+
+  pub short-cut : TooFew need minutes (part .until) (part .held) jobs modules (part .placed) (part .unplaced) (part .left) least T
+      → CannotBeat S (suc T) w
+  short-cut (inl o) = outweighed-cut o
+  short-cut (inr u) = unserved-cut u

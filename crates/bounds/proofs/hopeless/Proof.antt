@@ -1,0 +1,43 @@
+-- `bounds::hopeless` meets its contract.
+use mathlib.Core.Logic.{inl, inr}
+use native.Mathlib.Omega.{arith}
+use borrow.Author.Needs.{needs}
+use Rattle.bounds.proofs.hopeless.Statement.{statement}
+use Rattle.bounds.proofs.hopeless.Tie as tie
+
+add-end : tie.Need-add-end
+add-end c = record { fits = omega (arith, c .pre .1 .low) }
+
+crowded-requires : tie.Need-crowded-requires
+crowded-requires c κs =
+    let pre = c .before .before .before .pre in
+    (pre .1 .held-after, (pre .1 .left, pre .0 .0 .most))
+
+returns : tie.Need-returns
+returns c = λ _. inl (c .before .crowded .ensures (c .if1 .taken))
+
+some-too-long-requires : tie.Need-some-too-long-requires
+some-too-long-requires c κs = search needs
+
+returns-2 : tie.Need-returns-2
+returns-2 c = λ _. inr (inl (c .before .some-too-long .ensures (c .if2 .taken)))
+
+too-few-requires : tie.Need-too-few-requires
+too-few-requires c κs =
+    let pre = c .before .before .before .before .before .before .before .before .before .before .pre in
+    (pre .0, pre .1 .profile)
+
+returns-3 : tie.Need-returns-3
+returns-3 c = λ e. inr (inr (c .too-few .ensures e))
+
+pub hopeless-spec : {M : Type 1} → statement M
+hopeless-spec =
+    tie.close
+    (tie.spec
+    add-end
+    crowded-requires
+    returns
+    some-too-long-requires
+    returns-2
+    too-few-requires
+    returns-3)

@@ -1,0 +1,29 @@
+-- `bounds::too_few` meets its contract.
+use mathlib.Core.Logic.{inl, inr}
+use borrow.Author.Needs.{needs}
+use Rattle.bounds.proofs.too_few.Statement.{statement}
+use Rattle.bounds.proofs.too_few.Tie as tie
+
+advance-requires : tie.Need-advance-requires
+advance-requires c κs = search needs
+
+outweighed-requires : tie.Need-outweighed-requires
+outweighed-requires c κs = search needs
+
+returns : tie.Need-returns
+returns c = λ _. inl (c .before .outweighed .ensures (c .if1 .taken))
+
+unserved-requires : tie.Need-unserved-requires
+unserved-requires c κs =
+    let fit = c .before .before .before .pre .0 .0 in
+    let ended = c .before .before .advance .ensures in (
+      record { few = fit .few; day = fit .short },
+      record { profile = ended .profile; live = ended .live; most = fit .most },
+    )
+
+returns-2 : tie.Need-returns-2
+returns-2 c = λ e. inr (c .unserved .ensures e)
+
+pub too-few-spec : {M : Type 1} → statement M
+too-few-spec =
+    tie.close (tie.spec advance-requires outweighed-requires returns unserved-requires returns-2)

@@ -1,0 +1,45 @@
+-- What shows that no order which goes on from a part-plan can end by a target.
+use mathlib.Core.Path.{_≡_}
+use mathlib.Core.Logic.{_⊎_}
+use mathlib.Core.List.{List}
+use Prim.Native.Nat.{ℕ, _+_, _*_, _≤_, _<_}
+use lib.ListN.{getD}
+use Rattle.schedule.specs.Plan.{Sheet}
+use Rattle.schedule.proofs.Chains.{chain}
+use Rattle.placement.specs.declared.Part.{Part}
+use Rattle.placement.specs.Profile.{heldAfter, Profile}
+use Rattle.weights.specs.Weights.{Outweighed}
+use Rattle.sums.specs.Sums.{Unserved}
+
+-- the longest chain that begins with each job
+abbrev pub Tails : Sheet → List ℕ → Type 0
+Tails S tails = (j : ℕ) → j < S .jobs → getD tails j 0 ≡ chain S (S .jobs) j
+
+-- the first `gone` of the placed jobs have ended by minute l, and what is held from then on is a small number
+pub record HeldAfter (until held : List ℕ) (gone count l : ℕ) : Type 0 where
+  pub few : count ≤ 20
+  pub inside : gone ≤ count
+  pub ended : (k : ℕ) → k < gone → getD until k 0 ≤ l
+  pub small : heldAfter until held count l ≤ 40000000
+
+-- some job that may come next, and the chain behind it, last until `end`
+abbrev pub SomeTooLong : List ℕ → List ℕ → ℕ → ℕ → Type 0
+SomeTooLong at tails jobs end = (j : ℕ) × (j < jobs) × (getD at j 0 < 65535) × (end ≤ getD at j 0 + getD tails j 0)
+
+-- the free modules are too few for the jobs of the set by minute T: they outweigh them, or the modules, one by one, cannot serve them
+abbrev pub TooFew : List ℕ → List ℕ → List ℕ → List ℕ → ℕ → ℕ → ℕ → ℕ → ℕ → ℕ → ℕ → Type 0
+TooFew need minutes until held jobs modules placed set left l T =
+    Outweighed need minutes until held jobs modules placed set l T ⊎ Unserved minutes until held jobs modules placed set left l T
+
+-- no completion can end by minute T: the modules are taken, some job and the chain behind it last longer, or the modules are too few
+abbrev pub Hopeless : List ℕ → List ℕ → List ℕ → ℕ → ℕ → Part → List ℕ → ℕ → ℕ → Type 0
+Hopeless need minutes tails jobs modules p at l T =
+    (modules * (T + 1) ≤ modules * l + (heldAfter (p .until) (p .held) (p .placed) l + p .left))
+    ⊎ (SomeTooLong at tails jobs (T + 1) ⊎ TooFew need minutes (p .until) (p .held) jobs modules (p .placed) (p .unplaced) (p .left) l T)
+
+-- what the bounds ask of the figures at minute l
+pub record Bounding (p : Part) (modules l T : ℕ) : Type 0 where
+  pub held-after : HeldAfter (p .until) (p .held) (p .gone) (p .placed) l
+  pub profile : Profile (p .until) (p .held) (p .placed) (p .gone) (p .free) modules l
+  pub left : p .left ≤ 2000000
+  pub low : T < 65535

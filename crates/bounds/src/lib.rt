@@ -1,0 +1,204 @@
+// Whether no order that goes on from a part-plan can end by a target.
+ghost use mathlib.Core.Path.{_≡_};
+ghost use mathlib.Core.Bool.{true};
+ghost use Prim.Native.Nat.{_+_, _-_, _*_, _<_, _≤_};
+ghost use Rattle.tables.specs.Tables.{Fit};
+ghost use Rattle.placement.specs.Profile.{heldAfter, Profile};
+ghost use Rattle.weights.specs.Weights.{Weighted};
+ghost use Rattle.bounds.specs.Bounds.{HeldAfter, SomeTooLong, TooFew, Hopeless, Bounding};
+use placement::Part;
+
+// ---- the area
+
+// The module-minutes that a job which holds `held` modules until minute `until` still takes from minute l on.
+fn stretch(until: u16, held: u16, l: u16) -> u32
+    ensures { λ r. ⌜ r ≡ held * (until - l) ⌝ }
+{
+    if until <= l {
+        return 0;
+    }
+    (held as u32) * ((until - l) as u32)
+}
+
+// The module-minutes that are held from minute l on.
+fn held_after<'a>(
+    until: &'a [u16; 20],
+    held: &'a [u16; 20],
+    gone: usize,
+    count: usize,
+    l: u16,
+) -> u32
+    requires { ⌜ HeldAfter (now until) (now held) gone count l ⌝ }
+    ensures { λ r. ⌜ r ≡ heldAfter (now (until .entry)) (now (held .entry)) count l ⌝ }
+{
+    let mut total: u32 = 0;
+    let mut i = gone;
+    while i < count {
+        total += stretch(until[i], held[i], l);
+        i += 1;
+    }
+    total
+}
+
+// Whether the modules are taken up to minute `end`: what is gone at minute l, what is still held and what is left fill them.
+fn crowded<'a>(
+    until: &'a [u16; 20],
+    held: &'a [u16; 20],
+    gone: usize,
+    count: usize,
+    left: u32,
+    modules: u16,
+    l: u16,
+    end: u16,
+) -> bool
+    requires { ⌜ (HeldAfter (now until) (now held) gone count l) × ((left ≤ 2000000) × (modules ≤ 64)) ⌝ }
+    ensures { λ r. ⌜ (r ≡ true → modules * end ≤ modules * l + (heldAfter (now (until .entry)) (now (held .entry)) count l + left)) ⌝ }
+{
+    let m = modules as u32;
+    m * (end as u32) <= m * (l as u32) + (held_after(until, held, gone, count, l) + left)
+}
+
+// ---- chains
+
+// Whether a job that starts at `start` (65535: it may not come next), and the chain behind it, last until `end`.
+fn too_long(start: u16, tail: u16, end: u16) -> bool
+    ensures { λ r. ⌜ (r ≡ true → (start < 65535) × (end ≤ start + tail)) ⌝ }
+{
+    if start == 65535 {
+        return false;
+    }
+    end as u32 <= (start as u32) + (tail as u32)
+}
+
+// Whether that is so of some job.
+fn some_too_long<'a>(at: &'a [u16; 20], tails: &'a [u16; 20], jobs: usize, end: u16) -> bool
+    requires { ⌜ jobs ≤ 20 ⌝ }
+    ensures { λ r. ⌜ (r ≡ true → SomeTooLong (now (at .entry)) (now (tails .entry)) jobs end) ⌝ }
+{
+    let mut j: usize = 0;
+    while j < jobs {
+        if too_long(at[j], tails[j], end) {
+            return true;
+        }
+        j += 1;
+    }
+    false
+}
+
+// ---- the free modules
+
+// Whether the modules that come free from minute l on are too few for the jobs of the set by the target, by weights or one by one.
+fn too_few<'a>(
+    need: &[u16; 20],
+    minutes: &[u16; 20],
+    worth: &[u32; 100],
+    most: &[u16; 325],
+    until: &'a [u16; 20],
+    held: &'a [u16; 20],
+    placed: usize,
+    gone: usize,
+    free: u16,
+    modules: u16,
+    set: u32,
+    left: u32,
+    jobs: usize,
+    l: u16,
+    target: u16,
+) -> bool
+    requires { ⌜ ((Fit (now need) (now minutes) jobs modules) × (Weighted (now need) (now minutes) jobs modules (now worth) (now most)))
+        × (Profile (now until) (now held) placed gone free modules l) ⌝ }
+    ensures { λ r. ⌜ (r ≡ true → TooFew (now (need .entry)) (now (minutes .entry)) (now (until .entry)) (now (held .entry)) jobs modules
+        placed set left l target) ⌝ }
+{
+    let ended = placement::advance(until, held, placed, gone, free, modules, l);
+    let g = ended.gone;
+    let f = ended.free;
+    if weights::outweighed(
+        need,
+        minutes,
+        worth,
+        most,
+        until,
+        held,
+        placed,
+        g,
+        f,
+        modules,
+        set,
+        jobs,
+        l,
+        target,
+    ) {
+        return true;
+    }
+    sums::unserved(
+        minutes,
+        until,
+        held,
+        placed,
+        g,
+        f,
+        modules,
+        set,
+        left,
+        jobs,
+        l,
+        target,
+    )
+}
+
+// ---- all bounds
+
+// Whether no order that goes on from here can end by the target: by the area, by a chain, or because the free modules are too few.
+pub fn hopeless<'a>(
+    need: &[u16; 20],
+    minutes: &[u16; 20],
+    tails: &'a [u16; 20],
+    worth: &[u32; 100],
+    most: &[u16; 325],
+    jobs: usize,
+    modules: u16,
+    part: Part,
+    at: &'a [u16; 20],
+    least: u16,
+    target: u16,
+) -> bool
+    requires { ⌜ ((Fit (now need) (now minutes) jobs modules) × (Weighted (now need) (now minutes) jobs modules (now worth) (now most)))
+        × (Bounding part modules least target) ⌝ }
+    ensures { λ r. ⌜ (r ≡ true → Hopeless (now (need .entry)) (now (minutes .entry)) (now (tails .entry)) jobs modules part
+        (now (at .entry)) least target) ⌝ }
+{
+    let end = target + 1;
+    if crowded(
+        &part.until,
+        &part.held,
+        part.gone,
+        part.placed,
+        part.left,
+        modules,
+        least,
+        end,
+    ) {
+        return true;
+    }
+    if some_too_long(at, tails, jobs, end) {
+        return true;
+    }
+    too_few(
+        need,
+        minutes,
+        worth,
+        most,
+        &part.until,
+        &part.held,
+        part.placed,
+        part.gone,
+        part.free,
+        modules,
+        part.unplaced,
+        part.left,
+        jobs,
+        least,
+        target,
+    )
+}

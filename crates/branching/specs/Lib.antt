@@ -1,0 +1,2 @@
+-- What the jobs that may come next are.
+pub mod Branching
