@@ -1,10 +1,11 @@
 -- The set of the numbers that pass a test; two sets with the same members; disjoint sets; the set of all.
 use mathlib.Core.Path.{_≡_, refl, sym, ap, _∙_}
 use mathlib.Core.Logic.{_⊎_, inl, inr}
-use mathlib.Core.Bool.{Bool, true, false, _&&_, _||_, and-true, and-false, or-false}
+use mathlib.Core.Bool.{Bool, true, false, cond, _&&_, _||_, and-true, and-false, or-false}
 use Prim.Native.Nat.{ℕ, zero, suc, _+_, _-_, _%_, _^_, _≤_, _<_}
 use native.Mathlib.Omega.{arith}
 use native.Mathlib.Nat.{le-refl, add-zero, lt-of-le-of-lt, mod-one, mod-eq-of-lt, not-suc-le-zero}
+use native.Mathlib.Numerals.{add-one}
 use lib.Dec.{eqb}
 use lib.Pow.{pow-pos, pow-lt, mod-pow-add}
 use lib.Bits.{bitAnd, and-le-l, and-mask}
@@ -12,7 +13,7 @@ use borrow.Author.Tests.{eq-eqb, ne-eqb}
 use Rattle.counting.specs.Counting.{only, sum}
 use Rattle.counting.proofs.Tests.{last-or-below, and-right, only-le}
 use Rattle.counting.proofs.Sums.{sum-same}
-use Rattle.bits.specs.Bits.{bit, setOf}
+use Rattle.bits.specs.Bits.{bit, withBit, setOf}
 use Rattle.bits.proofs.Digits.{bit-value, bit-none, bit-above, bit-pow, bit-and}
 use Rattle.bits.proofs.Members.{bit-with, with-clear}
 
@@ -37,6 +38,19 @@ bit-setOf-suc n f i = go (f n)
         ap (λ (y : ℕ). bit y i) (sym (with-clear (setOf n f) n (bit-above n (setOf n f) n (setOf-lt n f) (le-refl n))))
         ∙ bit-with (setOf n f) n i
     go false = ap (λ (y : ℕ). bit y i) (add-zero (setOf n f))
+
+pub setOf-none : (f : ℕ → Bool) → 0 ≡ setOf 0 f
+unfolding setOf sum
+setOf-none f = refl
+
+-- one number more
+pub setOf-more : (n : ℕ) (f : ℕ → Bool) → cond (f n) (withBit (setOf n f) n) (setOf n f) ≡ setOf (n + 1) f
+unfolding setOf sum
+setOf-more n f = go (f n) ∙ ap (λ (k : ℕ). setOf k f) (sym (add-one n))
+  where
+    go : (b : Bool) → cond b (withBit (setOf n f) n) (setOf n f) ≡ setOf n f + only b (2 ^ n)
+    go true = with-clear (setOf n f) n (bit-above n (setOf n f) n (setOf-lt n f) (le-refl n))
+    go false = sym (add-zero (setOf n f))
 
 pub bit-setOf-above : (n : ℕ) (f : ℕ → Bool) (i : ℕ) → n ≤ i → bit (setOf n f) i ≡ false
 bit-setOf-above n f i = bit-above n (setOf n f) i (setOf-lt n f)

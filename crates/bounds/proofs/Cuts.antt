@@ -70,12 +70,12 @@ module _ (need minutes earlier tails : List ℕ) (jobs modules : ℕ) (part : Pa
         low = low;
       }
 
-  crowded-cut : (e : ℕ) → 0 < ones (part .unplaced)
-      → modules * e ≤ modules * least + (heldAfter (part .until) (part .held) (part .placed) least + part .left) → CannotBeat S e w
-  crowded-cut e pos h =
+  crowded-cut : (T : ℕ) → 0 < ones (part .unplaced)
+      → modules * T < modules * least + (heldAfter (part .until) (part .held) (part .placed) least + part .left) → CannotBeat S (suc T) w
+  crowded-cut T pos h =
       let size = left-count need minutes earlier jobs modules (known .fit) part w (known .is) in
-      area-cut S (known .fit .narrow) w (known .is .follows) least e (starts .low)
-      (none-before need minutes earlier jobs modules part known at least starts) (omega arith) (known .fit .some) (omega (arith, work-is))
+      area-cut S (known .fit .narrow) w (known .is .follows) least T (starts .low)
+      (none-before need minutes earlier jobs modules part known at least starts) (omega arith) (omega (arith, work-is))
 
   long-cut : (e : ℕ) → Tails S tails → SomeTooLong at tails jobs e → CannotBeat S e w
   long-cut e chains (j, l, k, h) =
@@ -84,6 +84,6 @@ module _ (need minutes earlier tails : List ℕ) (jobs modules : ℕ) (part : Pa
 
   pub hopeless-cut : (T : ℕ) → Tails S tails → 0 < ones (part .unplaced) → Hopeless need minutes tails jobs modules part at least T
       → CannotBeat S (suc T) w
-  hopeless-cut T chains pos (inl h) = crowded-cut (suc T) pos (rw add-one at h)
+  hopeless-cut T chains pos (inl h) = crowded-cut T pos h
   hopeless-cut T chains pos (inr (inl h)) = long-cut (suc T) chains (rw add-one at h)
   hopeless-cut T chains pos (inr (inr h)) = short-cut need minutes earlier jobs modules part known at least starts T h

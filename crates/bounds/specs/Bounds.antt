@@ -34,7 +34,7 @@ TooFew need minutes until held jobs modules placed set left l T =
 -- no completion can end by minute T: the modules are taken, some job and the chain behind it last longer, or the modules are too few
 abbrev pub Hopeless : List ℕ → List ℕ → List ℕ → ℕ → ℕ → Part → List ℕ → ℕ → ℕ → Type 0
 Hopeless need minutes tails jobs modules p at l T =
-    (modules * (T + 1) ≤ modules * l + (heldAfter (p .until) (p .held) (p .placed) l + p .left))
+    (modules * T < modules * l + (heldAfter (p .until) (p .held) (p .placed) l + p .left))
     ⊎ (SomeTooLong at tails jobs (T + 1) ⊎ TooFew need minutes (p .until) (p .held) jobs modules (p .placed) (p .unplaced) (p .left) l T)
 
 -- what the bounds ask of the figures at minute l

@@ -40,7 +40,7 @@ fn held_after<'a>(
     total
 }
 
-// Whether the modules are taken up to minute `end`: what is gone at minute l, what is still held and what is left fill them.
+// Whether the modules cannot do by minute `target` what is gone at minute l, what is still held and what is left.
 fn crowded<'a>(
     until: &'a [u16; 20],
     held: &'a [u16; 20],
@@ -49,13 +49,13 @@ fn crowded<'a>(
     left: u32,
     modules: u16,
     l: u16,
-    end: u16,
+    target: u16,
 ) -> bool
     requires { ⌜ (HeldAfter (now until) (now held) gone count l) × ((left ≤ 2000000) × (modules ≤ 64)) ⌝ }
-    ensures { λ r. ⌜ (r ≡ true → modules * end ≤ modules * l + (heldAfter (now (until .entry)) (now (held .entry)) count l + left)) ⌝ }
+    ensures { λ r. ⌜ (r ≡ true → modules * target < modules * l + (heldAfter (now (until .entry)) (now (held .entry)) count l + left)) ⌝ }
 {
     let m = modules as u32;
-    m * (end as u32) <= m * (l as u32) + (held_after(until, held, gone, count, l) + left)
+    m * (target as u32) < m * (l as u32) + (held_after(until, held, gone, count, l) + left)
 }
 
 // ---- chains
@@ -168,7 +168,6 @@ pub fn hopeless<'a>(
     ensures { λ r. ⌜ (r ≡ true → Hopeless (now (need .entry)) (now (minutes .entry)) (now (tails .entry)) jobs modules part
         (now (at .entry)) least target) ⌝ }
 {
-    let end = target + 1;
     if crowded(
         &part.until,
         &part.held,
@@ -177,11 +176,11 @@ pub fn hopeless<'a>(
         part.left,
         modules,
         least,
-        end,
+        target,
     ) {
         return true;
     }
-    if some_too_long(at, tails, jobs, end) {
+    if some_too_long(at, tails, jobs, target + 1) {
         return true;
     }
     too_few(

@@ -1,12 +1,13 @@
 -- What the starts of the jobs that may come next are, which of these jobs stand for others, and the choice of the next.
 use mathlib.Core.Path.{_≡_}
 use mathlib.Core.Logic.{_⊎_, _≢_}
-use mathlib.Core.Bool.{true, false}
+use mathlib.Core.Bool.{Bool, true, false, _&&_}
 use mathlib.Core.List.{List}
 use Prim.Native.Nat.{ℕ, _+_, _≤_, _<_}
+use lib.Dec.{ltb}
 use lib.Bits.{bitAnd}
 use lib.ListN.{getD, set, replicate}
-use Rattle.bits.specs.Bits.{bit, withBit}
+use Rattle.bits.specs.Bits.{bit}
 use Rattle.schedule.specs.Plan.{Sheet}
 use Rattle.schedule.specs.ListPlan.{PartPlan, ready, startOf, partOf}
 use Rattle.tables.specs.Tables.{sheetOf, Fit}
@@ -56,22 +57,20 @@ EachStart need minutes earlier jobs modules part at = (j : ℕ) → j < jobs →
 
 -- ---- jobs that need not be tried
 
--- job 1 can end before job 2 starts, or they are alike and whatever waits for job 2 waits for job 1
-abbrev pub ComesFirst : ℕ → ℕ → ℕ → ℕ → ℕ → ℕ → ℕ → ℕ → Type 0
-ComesFirst need1 need2 minutes1 minutes2 later1 later2 at1 at2 =
-    (at1 + minutes1 ≤ at2) ⊎ ((need1 ≡ need2) × ((minutes1 ≡ minutes2) × (bitAnd later2 later1 ≡ later2)))
+-- jobs 1 and 2 are alike, and whatever waits for job 2 waits for job 1
+abbrev pub AreAlike : ℕ → ℕ → ℕ → ℕ → ℕ → ℕ → Type 0
+AreAlike need1 need2 minutes1 minutes2 later1 later2 = (need1 ≡ need2) × ((minutes1 ≡ minutes2) × (bitAnd later2 later1 ≡ later2))
 
 -- job 2 would start with job 1, or as soon as it has ended, with its width, and whatever waits for job 1 waits for job 2
 abbrev pub TurnsRound : ℕ → ℕ → ℕ → ℕ → ℕ → ℕ → ℕ → Type 0
 TurnsRound need1 need2 minutes1 later1 later2 end1 at2 =
     (at2 + minutes1 ≡ end1) ⊎ ((need1 ≡ need2) × ((at2 ≡ end1) × (bitAnd later1 later2 ≡ later1)))
 
--- job i stands for j: i was tried and may as well come first, or j was settled when i was chosen and the two may turn round
+-- job i stands for j: i was tried and the two are alike, or j was settled when i was chosen and the two may turn round
 abbrev pub Stands : List ℕ → List ℕ → List ℕ → List ℕ → List ℕ → List ℕ → ℕ → ℕ → ℕ → ℕ → Type 0
 Stands need minutes later at ends by unplaced tried j i =
     ((bit tried i ≡ true)
-    × ComesFirst (getD need i 0) (getD need j 0) (getD minutes i 0) (getD minutes j 0) (getD later i 0) (getD later j 0) (getD at i 0)
-    (getD at j 0))
+    × AreAlike (getD need i 0) (getD need j 0) (getD minutes i 0) (getD minutes j 0) (getD later i 0) (getD later j 0))
     ⊎ (((bit unplaced i ≡ false) × (bit (getD by i 0) j ≡ true))
     × TurnsRound (getD need i 0) (getD need j 0) (getD minutes i 0) (getD later i 0) (getD later j 0) (getD ends i 0) (getD at j 0))
 
@@ -93,10 +92,33 @@ withSettled s i tried = record { by = set (s .by) i tried }
 abbrev pub Alone : List ℕ → ℕ → ℕ → ℕ → ℕ → Type 0
 Alone need set jobs modules i = (k : ℕ) → k < jobs → bit set k ≡ true → k ≢ i → modules < getD need i 0 + getD need k 0
 
--- all jobs of the set, or one alone that starts first
-abbrev pub ToTry : List ℕ → List ℕ → ℕ → ℕ → ℕ → ℕ → ℕ → Type 0
-ToTry need at least set jobs modules r =
-    (r ≡ set) ⊎ ((i : ℕ) × (i < jobs) × ((r ≡ withBit 0 i) × (((getD at i 0 ≡ least) × (least < 65535)) × Alone need set jobs modules i)))
+-- job i may as well come before job j: it can end before j starts, or it starts no later and can run beside no other
+abbrev pub ComesBefore : List ℕ → List ℕ → List ℕ → ℕ → ℕ → ℕ → ℕ → ℕ → Type 0
+ComesBefore need minutes at set jobs modules i j =
+    (getD at i 0 + getD minutes i 0 ≤ getD at j 0) ⊎ ((getD at i 0 ≤ getD at j 0) × Alone need set jobs modules i)
+
+-- each job of the set is to be tried, or may as well come behind one that is
+abbrev pub ToTry : List ℕ → List ℕ → List ℕ → ℕ → ℕ → ℕ → ℕ → Type 0
+ToTry need minutes at set jobs modules r = (j : ℕ) → j < jobs → bit set j ≡ true
+    → (bit r j ≡ true)
+    ⊎ ((i : ℕ) × (i < jobs) × ((bit r i ≡ true) × ((getD at i 0 < 65535) × ComesBefore need minutes at set jobs modules i j)))
+
+-- what is known of the starts: none before the least, 65535 outside the set, and no job of 0 minutes
+pub record Trying (minutes at : List ℕ) (least set jobs : ℕ) : Type 0 where
+  pub few : jobs ≤ 20
+  pub low : (j : ℕ) → j < jobs → least ≤ getD at j 0
+  pub top : (j : ℕ) → j < jobs → getD at j 0 ≤ 65535
+  pub inside : (j : ℕ) → j < jobs → getD at j 0 < 65535 → bit set j ≡ true
+  pub lasting : (j : ℕ) → j < jobs → 0 < getD minutes j 0
+
+-- r is the first minute by which one of the first n jobs can have ended, or 131070
+pub record FirstEnd (minutes at : List ℕ) (n r : ℕ) : Type 0 where
+  pub each : (j : ℕ) → j < n → r ≤ getD at j 0 + getD minutes j 0
+  pub some : (r ≡ 131070) ⊎ ((i : ℕ) × (i < n) × (r ≡ getD at i 0 + getD minutes i 0))
+
+-- job j is in the set and starts before minute `end`
+abbrev pub startsBefore : List ℕ → ℕ → ℕ → ℕ → Bool
+startsBefore at end set j = bit set j && ltb (getD at j 0) end
 
 -- r is the choice c, or job j with this start, whichever starts earlier
 abbrev pub Chosen : Choice → ℕ → ℕ → Choice → Type 0

@@ -1,13 +1,14 @@
 // Which jobs may come next from a part-plan, when each starts, which of them need not be tried, and the next to try.
 ghost use mathlib.Core.Path.{_≡_};
 ghost use mathlib.Core.Logic.{_⊎_, _≢_};
-ghost use mathlib.Core.Bool.{true, false};
+ghost use mathlib.Core.Bool.{true, false, cond, _&&_};
 ghost use Prim.Native.Nat.{_+_, _<_, _≤_, min};
+ghost use lib.Dec.{ltb};
 ghost use lib.ListN.{getD};
-ghost use Rattle.bits.specs.Bits.{bit};
+ghost use Rattle.bits.specs.Bits.{bit, withBit, setOf};
 ghost use Rattle.placement.specs.Profile.{Profile};
-ghost use Rattle.branching.specs.Branching.{Known, NextStart, JobStart, JobStarts, ComesFirst, TurnsRound, Stands, PassedOver};
-ghost use Rattle.branching.specs.Branching.{noneSettled, withSettled, Alone, ToTry, Chosen, ChoiceOf};
+ghost use Rattle.branching.specs.Branching.{Known, NextStart, JobStart, JobStarts, AreAlike, TurnsRound, Stands, PassedOver};
+ghost use Rattle.branching.specs.Branching.{noneSettled, withSettled, Alone, ToTry, Trying, FirstEnd, startsBefore, Chosen, ChoiceOf};
 use placement::Part;
 
 // ---- the jobs that may come next
@@ -156,22 +157,10 @@ pub fn with_settled(settled: Settled, i: usize, tried: u32) -> Settled
     next
 }
 
-// Whether job 1, which was tried, may as well come before job 2: it can end before that one starts, or the two are alike.
-fn comes_first(
-    need1: u16,
-    need2: u16,
-    minutes1: u16,
-    minutes2: u16,
-    later1: u32,
-    later2: u32,
-    at1: u16,
-    at2: u16,
-) -> bool
-    ensures { λ r. ⌜ (r ≡ true → ComesFirst need1 need2 minutes1 minutes2 later1 later2 at1 at2) ⌝ }
+// Whether the jobs are alike, and whatever waits for job 2 waits for job 1.
+fn alike(need1: u16, need2: u16, minutes1: u16, minutes2: u16, later1: u32, later2: u32) -> bool
+    ensures { λ r. ⌜ (r ≡ true → AreAlike need1 need2 minutes1 minutes2 later1 later2) ⌝ }
 {
-    if (at1 as u32) + (minutes1 as u32) <= (at2 as u32) {
-        return true;
-    }
     if need1 != need2 {
         return false;
     }
@@ -224,16 +213,7 @@ fn stands_for<'a>(
         (now (ends .entry)) (now (by .entry)) unplaced tried j i) ⌝ }
 {
     if bits::test32(tried, i) {
-        return comes_first(
-            need[i],
-            need[j],
-            minutes[i],
-            minutes[j],
-            later[i],
-            later[j],
-            at[i],
-            at[j],
-        );
+        return alike(need[i], need[j], minutes[i], minutes[j], later[i], later[j]);
     }
     if bits::test32(unplaced, i) {
         return false;
@@ -351,17 +331,68 @@ fn first_alone(
     jobs
 }
 
-// All jobs of the set, or one of those that start first, where it can run beside no other.
+// The earlier of a minute and the end of a job that starts at `start`.
+fn or_ends(r: u32, start: u16, minutes: u16) -> u32
+    ensures { λ n. ⌜ n ≡ min r (start + minutes) ⌝ }
+{
+    let end = (start as u32) + (minutes as u32);
+    if r <= end { r } else { end }
+}
+
+// The first minute by which one of the jobs can have ended.
+fn first_end(minutes: &[u16; 20], at: &[u16; 20], jobs: usize) -> u32
+    requires { ⌜ jobs ≤ 20 ⌝ }
+    ensures { λ r. ⌜ FirstEnd (now (minutes .entry)) (now (at .entry)) jobs r ⌝ }
+{
+    let mut r: u32 = 131070;
+    let mut j: usize = 0;
+    while j < jobs {
+        r = or_ends(r, at[j], minutes[j]);
+        j += 1;
+    }
+    r
+}
+
+// The set r with job j, where it is in the other set and starts before minute `end`.
+fn with_early(r: u32, start: u16, end: u32, set: u32, j: usize) -> u32
+    requires { ⌜ j < 20 ⌝ }
+    ensures { λ n. ⌜ n ≡ cond (bit set j && ltb start end) (withBit r j) r ⌝ }
+{
+    if bits::test32(set, j) {
+        if (start as u32) < end {
+            return bits::set32(r, j);
+        }
+    }
+    r
+}
+
+// The jobs of the set that start before minute `end`.
+fn early(at: &[u16; 20], end: u32, set: u32, jobs: usize) -> u32
+    requires { ⌜ jobs ≤ 20 ⌝ }
+    ensures { λ r. ⌜ r ≡ setOf jobs (startsBefore (now (at .entry)) end set) ⌝ }
+{
+    let mut r: u32 = 0;
+    let mut j: usize = 0;
+    while j < jobs {
+        r = with_early(r, at[j], end, set, j);
+        j += 1;
+    }
+    r
+}
+
+// The jobs to be tried: one of those that start first, where it can run beside no other; or all that start before the first minute by
+// which one can have ended.
 pub fn to_try(
     need: &[u16; 20],
+    minutes: &[u16; 20],
     at: &[u16; 20],
     least: u16,
     set: u32,
     jobs: usize,
     modules: u16,
 ) -> u32
-    requires { ⌜ jobs ≤ 20 ⌝ }
-    ensures { λ r. ⌜ ToTry (now (need .entry)) (now (at .entry)) least set jobs modules r ⌝ }
+    requires { ⌜ Trying (now minutes) (now at) least set jobs ⌝ }
+    ensures { λ r. ⌜ ToTry (now (need .entry)) (now (minutes .entry)) (now (at .entry)) set jobs modules r ⌝ }
 {
     if least == 65535 {
         return set;
@@ -370,10 +401,8 @@ pub fn to_try(
     if i < jobs {
         return bits::set32(0, i);
     }
-    set
+    early(at, first_end(minutes, at, jobs), set, jobs)
 }
-
-// ---- the next job to try
 
 // A job that may come next, its start and its weight; the start 65535 stands for none.
 pub struct Choice {

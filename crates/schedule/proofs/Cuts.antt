@@ -5,7 +5,7 @@ use mathlib.Core.Bool.{Bool, true, _||_}
 use mathlib.Core.List.{List, [], _∷_, _++_, append-nil, append-assoc}
 use Prim.Native.Nat.{ℕ, suc, _+_, _*_, _≤_, _<_}
 use native.Mathlib.Omega.{arith}
-use native.Mathlib.Nat.{mul-le-mul-left, mul-suc}
+use native.Mathlib.Nat.{mul-le-mul-left}
 use lib.Dec.{eqb}
 use lib.ListN.{length}
 use Rattle.counting.specs.Counting.{count}
@@ -64,19 +64,15 @@ module _ (S : Sheet) (n : Narrow S) (w : List ℕ) (f : Follows S noJobs w) wher
   next-from l h m [] (g, c) = absurd (omega (arith, part-count S w f))
   next-from l h m (j ∷ p) (g, c) = h j (g .0)
 
-  -- The area cut: the work of the part-plan fills the modules up to e.
-  pub area-cut : (l e : ℕ) → P .last ≤ l → NoneBefore l → length w < S .jobs → 0 < S .modules → S .modules * e ≤ work S P l
-      → CannotBeat S e w
-  area-cut l e k h m pos a = by-completions e (λ p c.
-      go p (area-bound S n P (part-sound S n w f) l k p c (next-from l h m p c)) (less-or-not (planEnd S (placeAll S P p .plan)) e))
+  -- The area cut: the work of the part-plan is more than the modules can do by minute T.
+  pub area-cut : (l T : ℕ) → P .last ≤ l → NoneBefore l → length w < S .jobs → S .modules * T < work S P l → CannotBeat S (suc T) w
+  area-cut l T k h m a = by-completions (suc T) (λ p c.
+      go p (area-bound S n P (part-sound S n w f) l k p c (next-from l h m p c)) (less-or-not T (planEnd S (placeAll S P p .plan))))
     where
       go : (p : List ℕ) → work S P l ≤ S .modules * planEnd S (placeAll S P p .plan)
-          → (planEnd S (placeAll S P p .plan) < e) ⊎ (e ≤ planEnd S (placeAll S P p .plan)) → e ≤ planEnd S (placeAll S P p .plan)
-      go p b (inr y) = y
-      go p b (inl y) =
-          let u = planEnd S (placeAll S P p .plan) in
-          let z : S .modules * suc u ≤ S .modules * e = mul-le-mul-left (S .modules) y in
-          absurd (omega (arith, mul-suc (S .modules) u))
+          → (T < planEnd S (placeAll S P p .plan)) ⊎ (planEnd S (placeAll S P p .plan) ≤ T) → suc T ≤ planEnd S (placeAll S P p .plan)
+      go p b (inl y) = y
+      go p b (inr y) = absurd (omega (arith, a, b, mul-le-mul-left (S .modules) y))
 
   -- The chain cut: a job that can come next, and a chain that begins with it, do not fit before e.
   pub chain-cut : (k j e : ℕ) → ready S (P .placed) j ≡ true → e ≤ startOf S P j + chain S k j → CannotBeat S e w

@@ -18,13 +18,12 @@ use Rattle.schedule.specs.ListPlan.{PartPlan, noJobs, ready, Follows, startOf, 
 use Rattle.schedule.proofs.Starts.{ready-says}
 use Rattle.schedule.proofs.Branch.{branch-placed, branch-start, placed-splits, split-last}
 use Rattle.schedule.proofs.SameMinute.{same-minute-cut}
-use Rattle.schedule.proofs.Idle.{idle-cut}
 use Rattle.schedule.proofs.Alike.{alike-cut}
 use Rattle.schedule.proofs.Swaps.{swap-cut}
 use Rattle.tables.specs.Tables.{sheetOf}
 use Rattle.placement.specs.declared.Part.{Part}
 use Rattle.placement.specs.Part.{wordOf}
-use Rattle.branching.specs.Branching.{ComesFirst, TurnsRound, PassedOver, EachStart}
+use Rattle.branching.specs.Branching.{AreAlike, TurnsRound, PassedOver, EachStart}
 use Rattle.branching.proofs.Candidates.{started}
 use Rattle.search.specs.Search.{Fails, SettledAt, SettledSo, Searching, TriedSo}
 
@@ -69,13 +68,9 @@ module _ (need minutes earlier later tails worth most : List ℕ) (jobs modules 
   -- ---- another job that was tried
 
   module _ (i : ℕ) (m : i < jobs) (t : bit tried i ≡ true) where
-    come-first : ComesFirst (getD need i 0) (getD need job 0) (getD minutes i 0) (getD minutes job 0) (getD later i 0) (getD later job 0)
-        (getD at i 0) (getD at job 0) → Fails S target (w ++ (job ∷ []))
-    come-first (inl h) =
-        let b = before i m t in
-        idle-cut S lasting narrow w follows i job (may-come i m (b .1 .0))
-        (omega (arith, h, starts-at i m (b .1 .0), starts-at job l low)) (suc target) (b .1 .1)
-    come-first (inr (e, (f, g))) = go (same-or-not i job)
+    come-first : AreAlike (getD need i 0) (getD need job 0) (getD minutes i 0) (getD minutes job 0) (getD later i 0) (getD later job 0)
+        → Fails S target (w ++ (job ∷ []))
+    come-first (e, (f, g)) = go (same-or-not i job)
       where
         go : (i ≡ job) ⊎ (¬ (i ≡ job)) → Fails S target (w ++ (job ∷ []))
         go (inl z) = subst (λ (k : ℕ). Fails S target (w ++ (k ∷ []))) z (before i m t .1 .1)

@@ -17,13 +17,14 @@ use Rattle.bits.proofs.Ones.{ones-without}
 use Rattle.schedule.specs.Plan.{Sheet}
 use Rattle.schedule.specs.ListPlan.{PartPlan, ready, partOf}
 use Rattle.schedule.proofs.Starts.{ready-says}
+use Rattle.schedule.proofs.Idle.{idle-cut}
 use Rattle.schedule.proofs.Alone.{alone-cut}
 use Rattle.tables.specs.Tables.{sheetOf}
 use Rattle.placement.specs.declared.Part.{Part}
 use Rattle.placement.specs.Part.{wordOf}
 use Rattle.placement.proofs.Parts.{start-short}
 use Rattle.branching.specs.declared.Choice.{Choice}
-use Rattle.branching.specs.Branching.{Known, ToTry, EachStart, ChoiceOf}
+use Rattle.branching.specs.Branching.{Known, ComesBefore, ToTry, Trying, EachStart, ChoiceOf}
 use Rattle.branching.proofs.Candidates.{started}
 use Rattle.search.specs.declared.Found.{Found}
 use Rattle.search.specs.Search.{Fails, Outcome, noneFound, TriedSo}
@@ -135,14 +136,42 @@ module _ (need minutes earlier : List ℕ) (jobs modules : ℕ) (part : Part) (k
           absurd (omega (arith, s .choice .first j l b, starts j l .here r))
 
   -- Where the jobs to be tried lead nowhere, no job does.
-  pub all-tried : (least : ℕ) → ((j : ℕ) → j < jobs → least ≤ getD at j 0) → ToTry need at least (part .unplaced) jobs modules first
+  pub all-tried : ToTry need minutes at (part .unplaced) jobs modules first
       → ((j : ℕ) → j < jobs → bit first j ≡ true → ready S (P .placed) j ≡ true → Fails S target (w ++ (j ∷ [])))
       → (j : ℕ) → j < jobs → ready S (P .placed) j ≡ true → Fails S target (w ++ (j ∷ []))
-  all-tried least low (inl e) h j l r =
-      h j l (ap (λ (x : ℕ). bit x j) e ∙ known .is .figures .set j l ∙ ap not (ready-says S (P .placed) j r .new)) r
-  all-tried least low (inr (i, m, (e, ((a, k), alone)))) h j l r =
-      let ri = started (starts i m) (omega arith) in
-      let in-first : bit first i ≡ true = ap (λ (x : ℕ). bit x i) e ∙ bit-with 0 i i ∙ ap (λ b. b || bit 0 i) (eq-eqb i i refl) in
-      alone-cut S (known .fit .lasting) (known .fit .narrow) w (known .is .follows) i j ri
-      (omega (arith, low j l, starts i m .here ri, starts j l .here r))
-      (λ x y p d. alone x y (known .is .figures .set x y ∙ ap not p) d) (suc target) (h i m in-first ri)
+  all-tried try h j l r = go (try j l (known .is .figures .set j l ∙ ap not (ready-says S (P .placed) j r .new)))
+    where
+      go : (bit first j ≡ true)
+          ⊎ ((i : ℕ) × (i < jobs)
+          × ((bit first i ≡ true) × ((getD at i 0 < 65535) × ComesBefore need minutes at (part .unplaced) jobs modules i j)))
+          → Fails S target (w ++ (j ∷ []))
+      go (inl b) = h j l b r
+      go (inr (i, m, (b, (low, before)))) = which before
+        where
+          ri : ready S (P .placed) i ≡ true
+          ri = started (starts i m) low
+
+          which : ComesBefore need minutes at (part .unplaced) jobs modules i j → Fails S target (w ++ (j ∷ []))
+          which (inl e) =
+              idle-cut S (known .fit .lasting) (known .fit .narrow) w (known .is .follows) i j ri
+              (omega (arith, starts i m .here ri, starts j l .here r)) (suc target) (h i m b ri)
+          which (inr (e, alone)) =
+              alone-cut S (known .fit .lasting) (known .fit .narrow) w (known .is .follows) i j ri
+              (omega (arith, starts i m .here ri, starts j l .here r))
+              (λ x y p d. alone x y (known .is .figures .set x y ∙ ap not p) d) (suc target) (h i m b ri)
+
+  -- what is known of the starts
+  pub trying : (least : ℕ) → ((j : ℕ) → j < jobs → least ≤ getD at j 0) → Trying minutes at least (part .unplaced) jobs
+  trying least low = record {
+    few = known .fit .few;
+    low = low;
+    top = λ j l. top j l (true-or-false (ready S (P .placed) j));
+    inside = λ j l k. known .is .figures .set j l ∙ ap not (ready-says S (P .placed) j (started (starts j l) k) .new);
+    lasting = known .fit .lasting;
+  }
+    where
+      top : (j : ℕ) → (l : j < jobs) → (ready S (P .placed) j ≡ true) ⊎ (ready S (P .placed) j ≡ false) → getD at j 0 ≤ 65535
+      top j l (inl r) =
+          let short = start-short need minutes earlier jobs modules (known .fit) part w (known .is) j r in
+          omega (arith, starts j l .here r)
+      top j l (inr r) = omega (arith, starts j l .none r)

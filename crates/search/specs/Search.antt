@@ -7,7 +7,7 @@ use Prim.Native.Nat.{ℕ, suc, _/_, _≤_, _<_}
 use lib.Dec.{ltb}
 use lib.ListN.{length, getD, take, replicate}
 use Rattle.counting.specs.Counting.{only, largest}
-use Rattle.bits.specs.Bits.{bit}
+use Rattle.bits.specs.Bits.{bit, setOf}
 use Rattle.schedule.specs.Plan.{Sheet, finish, Circular}
 use Rattle.schedule.specs.ListPlan.{Order, noJobs, ready, Follows, startOf, partOf}
 use Rattle.schedule.specs.TieRule as tie
@@ -35,9 +35,8 @@ abbrev pub Laters : List ℕ → ℕ → List ℕ → Type 0
 Laters earlier jobs later = (i k : ℕ) → i < jobs → k < jobs → bit (getD later i 0) k ≡ bit (getD earlier k 0) i
 
 -- the later jobs of job i
-pub record LaterOf (earlier : List ℕ) (i n r : ℕ) : Type 0 where
-  pub each : (k : ℕ) → k < n → bit r k ≡ bit (getD earlier k 0) i
-  pub above : (k : ℕ) → n ≤ k → bit r k ≡ false
+abbrev pub LaterOf : List ℕ → ℕ → ℕ → ℕ → Type 0
+LaterOf earlier i n r = r ≡ setOf n (λ k. bit (getD earlier k 0) i)
 
 -- ---- working memory
 

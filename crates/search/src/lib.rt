@@ -114,7 +114,7 @@ fn visit(
     if memory::recall(memory, &part.ends, jobs, unplaced, least) {
         return none_found();
     }
-    let first = branching::to_try(need, &at, least, unplaced, jobs, modules);
+    let first = branching::to_try(need, minutes, &at, least, unplaced, jobs, modules);
     let mut left = first;
     let mut tried: u32 = 0;
     let mut c = branching::next_choice(&at, tails, left, jobs);

@@ -1,8 +1,8 @@
 -- `bounds::crowded` meets its contract.
-use Prim.Native.Nat.{_+_, _*_, _≤_}
+use Prim.Native.Nat.{_+_, _*_, _<_}
 use native.Mathlib.Omega.{arith}
 use native.Mathlib.Nat.{mul-le-mul-right}
-use borrow.Author.Tests.{leb-true}
+use borrow.Author.Tests.{ltb-true}
 use borrow.Author.Needs.{needs}
 use Rattle.bounds.proofs.crowded.Statement.{statement}
 use Rattle.bounds.proofs.crowded.Tie as tie
@@ -10,8 +10,8 @@ use Rattle.bounds.proofs.crowded.Tie as tie
 mul-result : tie.Need-mul-result
 mul-result c =
     let a = c .args in
-    let f = mul-le-mul-right (a .end) (c .pre .1 .1) in
-    record { fits = omega (arith, c .fits .end .fits) }
+    let f = mul-le-mul-right (a .target) (c .pre .1 .1) in
+    record { fits = omega (arith, c .fits .target .fits) }
 
 mul-result-2 : tie.Need-mul-result-2
 mul-result-2 c =
@@ -38,7 +38,7 @@ returns c =
     let args = c .before .args in
     let a = args in
     let h = c .held-after in
-    λ e. let f : a .modules * a .end ≤ a .modules * a .l + (h .result + a .left) = leb-true _ _ e in omega (arith, h .ensures)
+    λ e. let f : a .modules * a .target < a .modules * a .l + (h .result + a .left) = ltb-true _ _ e in omega (arith, h .ensures)
 
 pub crowded-spec : {M : Type 1} → statement M
 crowded-spec =

@@ -5,9 +5,6 @@ use borrow.Author.Needs.{needs}
 use Rattle.bounds.proofs.hopeless.Statement.{statement}
 use Rattle.bounds.proofs.hopeless.Tie as tie
 
-add-end : tie.Need-add-end
-add-end c = record { fits = omega (arith, c .pre .1 .low) }
-
 crowded-requires : tie.Need-crowded-requires
 crowded-requires c κs =
     let pre = c .before .before .before .pre in
@@ -15,6 +12,11 @@ crowded-requires c κs =
 
 returns : tie.Need-returns
 returns c = λ _. inl (c .before .crowded .ensures (c .if1 .taken))
+
+add-some-too-long : tie.Need-add-some-too-long
+add-some-too-long c =
+    let pre = c .before .before .before .before .before .pre in
+    record { fits = omega (arith, pre .1 .low) }
 
 some-too-long-requires : tie.Need-some-too-long-requires
 some-too-long-requires c κs = search needs
@@ -34,9 +36,9 @@ pub hopeless-spec : {M : Type 1} → statement M
 hopeless-spec =
     tie.close
     (tie.spec
-    add-end
     crowded-requires
     returns
+    add-some-too-long
     some-too-long-requires
     returns-2
     too-few-requires

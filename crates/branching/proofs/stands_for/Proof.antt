@@ -10,62 +10,50 @@ use Rattle.branching.proofs.stands_for.Tie as tie
 test32-requires : tie.Need-test32-requires
 test32-requires c κs = search needs
 
-mul-comes-first : tie.Need-mul-comes-first
-mul-comes-first c = search needs
+mul-alike : tie.Need-mul-alike
+mul-alike c = search needs
 
-element-copy-out-comes-first : tie.Need-element-copy-out-comes-first
-element-copy-out-comes-first c = search needs
+element-copy-out-alike : tie.Need-element-copy-out-alike
+element-copy-out-alike c = search needs
 
-mul-comes-first-2 : tie.Need-mul-comes-first-2
-mul-comes-first-2 c = search needs
+mul-alike-2 : tie.Need-mul-alike-2
+mul-alike-2 c = search needs
 
-element-copy-out-comes-first-2 : tie.Need-element-copy-out-comes-first-2
-element-copy-out-comes-first-2 c = search needs
+element-copy-out-alike-2 : tie.Need-element-copy-out-alike-2
+element-copy-out-alike-2 c = search needs
 
-mul-comes-first-3 : tie.Need-mul-comes-first-3
-mul-comes-first-3 c = search needs
+mul-alike-3 : tie.Need-mul-alike-3
+mul-alike-3 c = search needs
 
-element-copy-out-comes-first-3 : tie.Need-element-copy-out-comes-first-3
-element-copy-out-comes-first-3 c = search needs
+element-copy-out-alike-3 : tie.Need-element-copy-out-alike-3
+element-copy-out-alike-3 c = search needs
 
-mul-comes-first-4 : tie.Need-mul-comes-first-4
-mul-comes-first-4 c = search needs
+mul-alike-4 : tie.Need-mul-alike-4
+mul-alike-4 c = search needs
 
-element-copy-out-comes-first-4 : tie.Need-element-copy-out-comes-first-4
-element-copy-out-comes-first-4 c = search needs
+element-copy-out-alike-4 : tie.Need-element-copy-out-alike-4
+element-copy-out-alike-4 c = search needs
 
-mul-comes-first-5 : tie.Need-mul-comes-first-5
-mul-comes-first-5 c = search needs
+mul-alike-5 : tie.Need-mul-alike-5
+mul-alike-5 c = search needs
 
-element-copy-out-comes-first-5 : tie.Need-element-copy-out-comes-first-5
-element-copy-out-comes-first-5 c = search needs
+element-copy-out-alike-5 : tie.Need-element-copy-out-alike-5
+element-copy-out-alike-5 c = search needs
 
-mul-comes-first-6 : tie.Need-mul-comes-first-6
-mul-comes-first-6 c = search needs
+mul-alike-6 : tie.Need-mul-alike-6
+mul-alike-6 c = search needs
 
-element-copy-out-comes-first-6 : tie.Need-element-copy-out-comes-first-6
-element-copy-out-comes-first-6 c = search needs
+element-copy-out-alike-6 : tie.Need-element-copy-out-alike-6
+element-copy-out-alike-6 c = search needs
 
-mul-comes-first-7 : tie.Need-mul-comes-first-7
-mul-comes-first-7 c = search needs
-
-element-copy-out-comes-first-7 : tie.Need-element-copy-out-comes-first-7
-element-copy-out-comes-first-7 c = search needs
-
-mul-comes-first-8 : tie.Need-mul-comes-first-8
-mul-comes-first-8 c = search needs
-
-element-copy-out-comes-first-8 : tie.Need-element-copy-out-comes-first-8
-element-copy-out-comes-first-8 c = search needs
-
-comes-first-requires : tie.Need-comes-first-requires
-comes-first-requires c κs = search needs
+alike-requires : tie.Need-alike-requires
+alike-requires c κs = search needs
 
 returns : tie.Need-returns
 returns c = λ e. inl (
   sym
-      (c .before .before .before .before .before .before .before .before .before .before .test32 .ensures) ∙ c .before .before .before .before .before .before .before .before .before .if1 .taken,
-  c .comes-first .ensures e,
+      (c .before .before .before .before .before .before .before .before .test32 .ensures) ∙ c .before .before .before .before .before .before .before .if1 .taken,
+  c .alike .ensures e,
 )
 
 test32-requires-2 : tie.Need-test32-requires-2
@@ -142,23 +130,19 @@ stands-for-spec =
     tie.close
     (tie.spec
     test32-requires
-    mul-comes-first
-    element-copy-out-comes-first
-    mul-comes-first-2
-    element-copy-out-comes-first-2
-    mul-comes-first-3
-    element-copy-out-comes-first-3
-    mul-comes-first-4
-    element-copy-out-comes-first-4
-    mul-comes-first-5
-    element-copy-out-comes-first-5
-    mul-comes-first-6
-    element-copy-out-comes-first-6
-    mul-comes-first-7
-    element-copy-out-comes-first-7
-    mul-comes-first-8
-    element-copy-out-comes-first-8
-    comes-first-requires
+    mul-alike
+    element-copy-out-alike
+    mul-alike-2
+    element-copy-out-alike-2
+    mul-alike-3
+    element-copy-out-alike-3
+    mul-alike-4
+    element-copy-out-alike-4
+    mul-alike-5
+    element-copy-out-alike-5
+    mul-alike-6
+    element-copy-out-alike-6
+    alike-requires
     returns
     test32-requires-2
     returns-2

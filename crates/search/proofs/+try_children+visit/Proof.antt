@@ -13,7 +13,7 @@ use Rattle.search.proofs.Turns.{visit-leaf, recall-cut, visit-all, visi
 use Rattle.search.proofs.Turns.{child-placeable, child-fewer, child-known, child-word}
 use Rattle.search.proofs.Steps.{one-less}
 use Rattle.search.proofs.Passing.{passed-cut, settled-more}
-use Rattle.search.proofs.Sweeps.{none-outcome, found-below, Sweep, sweep-first, chosen-in, sweep-next, sweep-all, all-tried}
+use Rattle.search.proofs.Sweeps.{none-outcome, found-below, Sweep, sweep-first, chosen-in, sweep-next, sweep-all, all-tried, trying}
 use borrow.Fn.Kinds.{In}
 use borrow.Fn.PlainCycle.{Measures, is, falls, and}
 use Rattle.search.proofs.try_children.Reads as try-children
@@ -304,7 +304,13 @@ visit-returns-3 t c =
     (rw (c .none-found2 .ensures) (none-outcome _ (a .target) _ cut), p .remembered)
 
 visit-to-try-requires : (t : ℕ) → visit-lts.Need-to-try-requires (visit-claims t) (visit-at t) visit.Post visit-Inv-loop visit-μ-loop
-visit-to-try-requires t c κs = c .before .before .before .before .before .before .before .before .before .before .before .before .before .pre .1 .known .fit .few
+visit-to-try-requires t c κs =
+    let start = c .before .before .before .before .before .before .before .before .before .before .before .before .before in
+    let a = start .args in
+    let p = start .pre .1 in
+    let r = c .before .before .before .before .before .before .before .before .before .before .ready-starts in
+    trying (a .need .now) (a .minutes .now) (a .earlier .now) (a .jobs) (a .modules) (a .t10) (p .known) (a .target) (r .result .at)
+    (r .ensures .each) 0 (r .result .least) (r .ensures .first)
 
 visit-next-choice-requires : (t : ℕ)
     → visit-lts.Need-next-choice-requires (visit-claims t) (visit-at t) visit.Post visit-Inv-loop visit-μ-loop
@@ -447,7 +453,7 @@ visit-returns-5 t c =
     (r .result .at) (r .ensures .each) (first .result) (loop .left) (loop .tried) (loop .c) (loop .inv .0)
     (c .before .before .before .before .before .before .before .if4 .left) in
     let all = all-tried (a .need .now) (a .minutes .now) (a .earlier .now) (a .jobs) (a .modules) (a .t10) (p .known) (a .target)
-    (r .result .at) (r .ensures .each) (first .result) (r .result .least) (r .ensures .first) (first .ensures) swept in
+    (r .result .at) (r .ensures .each) (first .result) (first .ensures) swept in
     let cut = visit-all (a .need .now) (a .minutes .now) (a .earlier .now) (a .jobs) (a .modules) (a .t10) (p .known)
     (a .target) (pos-of-ne-zero
     (c .before .before .before .before .before .before .before .before .before .before .before .before .before .before .before .before .before .before .before .before .before .before .before .before .if1 .left)) all in (

@@ -1,10 +1,13 @@
 -- `search::later_of` meets its contract.
-use mathlib.Core.Path.{_≡_}
-use Prim.Native.Nat.{_-_, _≤_}
+use mathlib.Core.Path.{_≡_, ap, _∙_}
+use mathlib.Core.Bool.{Bool, cond}
+use Prim.Native.Nat.{ℕ, _-_, _≤_}
 use native.Mathlib.Omega.{arith}
+use lib.ListN.{getD}
 use borrow.Author.Needs.{needs}
 use Rattle.search.specs.Search.{LaterOf}
-use Rattle.search.proofs.Waiting.{later-none, later-more}
+use Rattle.bits.specs.Bits.{bit, withBit}
+use Rattle.bits.proofs.Sets.{setOf-none, setOf-more}
 use Rattle.search.proofs.later_of.Statement.{statement}
 use Rattle.search.proofs.later_of.Tie as tie
 
@@ -15,7 +18,7 @@ abbrev μ-loop : tie.MeasureT-loop
 μ-loop earlier jobs i set₀ k₀ set k = jobs - k
 
 loop-holds : tie.Need-loop-holds Inv-loop μ-loop
-loop-holds c = (omega arith, later-none _ _)
+loop-holds c = (omega arith, setOf-none _)
 
 mul-with-later : tie.Need-mul-with-later Inv-loop μ-loop
 mul-with-later c = search needs
@@ -35,7 +38,12 @@ loop-less c = search needs
 loop-again : tie.Need-loop-again Inv-loop μ-loop
 loop-again c =
     let loop = c .before .before .before .loop in
-    (omega arith, rw (c .with-later .ensures) (later-more (loop .inv .1)))
+    let a = c .before .before .before .before .args in
+    let in-set : ℕ → Bool = λ k. bit (getD (a .earlier .now) k 0) (a .i) in (
+      omega arith,
+      c .with-later .ensures ∙ ap (λ (x : ℕ). cond (in-set (loop .k)) (withBit x (loop .k)) x) (loop .inv .1)
+          ∙ setOf-more (loop .k) in-set,
+    )
 
 returns : tie.Need-returns Inv-loop μ-loop
 returns c =
