@@ -15,7 +15,7 @@ pub struct Weights {
 /// The weight of a job: one that fills j of parts equal parts of the cabinet weighs less than one that overruns them.
 fn weight(need: u16, parts: u16, modules: u16) -> u32 {
     let filled = parts * need / modules;
-    u32::from(if parts * need % modules == 0 { (parts - 1) * filled } else { parts * filled })
+    u32::from(if (parts * need).is_multiple_of(modules) { (parts - 1) * filled } else { parts * filled })
 }
 
 impl Weights {

@@ -1,4 +1,5 @@
 //! Measures the library: planning by size and working memory beside the same search in plain Rust, the stack, and the other calls.
+mod ablation;
 mod child;
 mod clock;
 mod desk_calls;
@@ -6,9 +7,11 @@ mod options;
 mod planning;
 mod sheet_calls;
 mod stack_need;
+mod usage;
 
-use options::{Options, Part, USAGE};
+use options::{Options, Part};
 use std::{env, process};
+use usage::USAGE;
 
 fn main() {
     let words: Vec<String> = env::args().skip(1).collect();
@@ -26,6 +29,8 @@ fn main() {
     for part in &options.parts {
         match part {
             Part::Plans => planning::measure(&options),
+            Part::Ablation => ablation::measure(&options),
+            Part::Gecode => {}
             Part::Stack => stack_need::measure(),
             Part::Sheets => sheet_calls::measure(),
             Part::Desk => desk_calls::measure(),

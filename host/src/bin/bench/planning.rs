@@ -2,7 +2,10 @@
 use crate::child::{call, Side, Took};
 use crate::options::{Group, Options};
 use depot_host::lists::List;
+use depot_host::units::in_bytes;
 use std::time::Duration;
+
+const MEMORY: [usize; 5] = [0, 4 << 10, 64 << 10, 1 << 20, 16 << 20];
 
 /// A list that the library solved before the cut-off, and the same search in plain Rust where it did too.
 struct Solved {
@@ -21,12 +24,12 @@ pub fn measure(options: &Options) {
         "lists", "memory", "solved", "median", "worst", "part-plans", "rate", "/plain"
     );
     for group in &options.groups {
-        for memory in &options.memory {
-            let runs: Vec<Option<Solved>> = group.lists.iter().map(|list| solve(list, *memory, cutoff)).collect();
+        for memory in options.memory_or(&MEMORY) {
+            let runs: Vec<Option<Solved>> = group.lists.iter().map(|list| solve(list, memory, cutoff)).collect();
             if options.each {
                 group.lists.iter().zip(&runs).for_each(|(list, run)| print_one(list, run));
             }
-            print_line(group, *memory, &runs, cutoff);
+            print_line(group, memory, &runs, cutoff);
         }
     }
 }
@@ -62,7 +65,7 @@ fn print_line(group: &Group, memory: usize, runs: &[Option<Solved>], cutoff: Dur
     println!(
         "{:14} {:>7} {:>9} {:>10} {:>10} {:>14} {:>6.2} {:>7.2}",
         group.name,
-        length(memory),
+        in_bytes(memory),
         format!("{solved}/{}", runs.len()),
         time(runs.len() / 2),
         time(runs.len() - 1),
@@ -70,12 +73,4 @@ fn print_line(group: &Group, memory: usize, runs: &[Option<Solved>], cutoff: Dur
         visited as f64 / library / 1e6,
         library / plain,
     );
-}
-
-fn length(bytes: usize) -> String {
-    match bytes {
-        b if b >= 1 << 20 && b % (1 << 20) == 0 => format!("{}M", b >> 20),
-        b if b >= 1 << 10 && b % (1 << 10) == 0 => format!("{}K", b >> 10),
-        b => b.to_string(),
-    }
 }
