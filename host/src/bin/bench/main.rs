@@ -4,6 +4,7 @@ mod child;
 mod clock;
 mod desk_calls;
 mod options;
+mod picture;
 mod planning;
 mod sheet_calls;
 mod stack_need;

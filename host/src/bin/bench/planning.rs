@@ -1,8 +1,10 @@
 //! Planning: a line for each group of lists and each length of the working memory.
 use crate::child::{call, Side, Took};
 use crate::options::{Group, Options};
+use crate::picture::{self, Line, Panel};
 use depot_host::lists::List;
 use depot_host::units::in_bytes;
+use std::fs;
 use std::time::Duration;
 
 const MEMORY: [usize; 5] = [0, 4 << 10, 64 << 10, 1 << 20, 16 << 20];
@@ -23,15 +25,39 @@ pub fn measure(options: &Options) {
         "{:14} {:>7} {:>9} {:>10} {:>10} {:>14} {:>6} {:>7}",
         "lists", "memory", "solved", "median", "worst", "part-plans", "rate", "/plain"
     );
-    for group in &options.groups {
-        for memory in options.memory_or(&MEMORY) {
-            let runs: Vec<Option<Solved>> = group.lists.iter().map(|list| solve(list, memory, cutoff)).collect();
-            if options.each {
-                group.lists.iter().zip(&runs).for_each(|(list, run)| print_one(list, run));
-            }
-            print_line(group, memory, &runs, cutoff);
-        }
+    let panels: Vec<Panel> = options.groups.iter().map(|group| measure_group(group, options)).collect();
+    if let Some(file) = &options.svg {
+        fs::write(file, picture::draw(&panels, cutoff.as_secs_f64())).unwrap_or_else(|why| panic!("{file}: {why}"));
     }
+}
+
+/// The group's lines of the table; what the picture shows of them.
+fn measure_group(group: &Group, options: &Options) -> Panel {
+    let mut panel = Panel { name: group.name.clone(), lists: group.lists.len(), lines: Vec::new() };
+    for memory in options.memory_or(&MEMORY) {
+        let runs: Vec<Option<Solved>> = group.lists.iter().map(|list| solve(list, memory, options.cutoff)).collect();
+        if options.each {
+            group.lists.iter().zip(&runs).for_each(|(list, run)| print_one(list, run));
+        }
+        print_line(group, memory, &runs, options.cutoff);
+        panel.lines.push(Line { name: memory_in_words(memory), times: times(&runs) });
+    }
+    panel
+}
+
+fn memory_in_words(bytes: usize) -> String {
+    match in_bytes(bytes) {
+        length if length == "0" => "none".into(),
+        length if length.ends_with(['K', 'M']) => length.replace('K', " KiB").replace('M', " MiB"),
+        length => length + " bytes",
+    }
+}
+
+/// The library's times on the lists that it solved, sorted.
+fn times(runs: &[Option<Solved>]) -> Vec<f64> {
+    let mut times: Vec<f64> = runs.iter().flatten().map(|run| run.library.seconds).collect();
+    times.sort_by(f64::total_cmp);
+    times
 }
 
 fn solve(list: &List, memory: usize, cutoff: Duration) -> Option<Solved> {
@@ -52,8 +78,7 @@ fn print_one(list: &List, run: &Option<Solved>) {
 }
 
 fn print_line(group: &Group, memory: usize, runs: &[Option<Solved>], cutoff: Duration) {
-    let mut times: Vec<f64> = runs.iter().flatten().map(|run| run.library.seconds).collect();
-    times.sort_by(f64::total_cmp);
+    let times = times(runs);
     let solved = times.len();
     let beyond = format!("> {}", cutoff.as_secs_f64());
     let time = |place: usize| times.get(place).map_or(beyond.clone(), |seconds| format!("{seconds:.6}"));
