@@ -3,15 +3,19 @@ mod ablation;
 mod child;
 mod clock;
 mod desk_calls;
+mod gecode;
+mod model;
 mod options;
 mod picture;
 mod planning;
+mod process;
 mod sheet_calls;
 mod stack_need;
+mod times;
 mod usage;
 
 use options::{Options, Part};
-use std::{env, process};
+use std::env;
 use usage::USAGE;
 
 fn main() {
@@ -24,14 +28,14 @@ fn main() {
         Ok(None) => return print!("{USAGE}"),
         Err(why) => {
             eprint!("bench: {why}\n\n{USAGE}");
-            process::exit(2);
+            std::process::exit(2);
         }
     };
     for part in &options.parts {
         match part {
             Part::Plans => planning::measure(&options),
             Part::Ablation => ablation::measure(&options),
-            Part::Gecode => {}
+            Part::Gecode => gecode::measure(&options),
             Part::Stack => stack_need::measure(),
             Part::Sheets => sheet_calls::measure(),
             Part::Desk => desk_calls::measure(),
