@@ -1,4 +1,5 @@
 //! What the command line asks for.
+use crate::picture::TINTS;
 use depot_host::{families, lists, lists::List, units};
 use std::fs;
 use std::time::Duration;
@@ -73,6 +74,9 @@ impl Options {
                 "--help" | "-h" => return Ok(None),
                 _ => return Err(format!("{word} is no part and no option")),
             }
+        }
+        if options.svg.is_some() && options.memory.as_ref().is_some_and(|lengths| lengths.len() > TINTS) {
+            return Err(format!("--svg shows at most {TINTS} lengths of the working memory"));
         }
         if options.parts.is_empty() {
             options.parts = vec![Part::Plans, Part::Stack, Part::Sheets, Part::Desk];

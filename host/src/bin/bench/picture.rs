@@ -2,7 +2,7 @@
 //! within a time.
 use depot_host::drawing::colours::{self, Palette, LIGHT};
 use depot_host::drawing::markup::escaped;
-use depot_host::drawing::words::{anchored, at, width};
+use depot_host::drawing::words::{anchored, at, width, within, BOLD};
 use std::fmt::Write;
 
 /// A group's lists: how many, and a line for each working memory.
@@ -29,8 +29,8 @@ const LEFT: f64 = 52.0;
 const ABOVE: f64 = 34.0;
 /// Panels side by side.
 const ACROSS: usize = 3;
-/// How many colours there are for lines.
-const TINTS: usize = 5;
+/// How many colours there are for lines: a panel has at most so many.
+pub const TINTS: usize = 5;
 const SIZE: f64 = 11.0;
 /// Where the time axis begins.
 const FIRST: f64 = 1e-5;
@@ -77,7 +77,7 @@ fn tints(palette: &Palette) -> [&'static str; TINTS] {
 }
 
 fn class(place: usize) -> String {
-    format!("curve c{}", place % TINTS)
+    format!("curve c{place}")
 }
 
 fn legend(lines: &[Line]) -> String {
@@ -98,8 +98,9 @@ fn panel(panel: &Panel, cutoff: f64) -> String {
     let counts = || panel.lines.iter().map(|line| line.times.len());
     let (least, most) = (counts().min().unwrap_or(0), counts().max().unwrap_or(0));
     let solved = if least == most { most.to_string() } else { format!("{least} to {most}") };
-    let mut svg = at("strong", LEFT, ABOVE - 12.0, &panel.name);
     let solved = format!("{solved} of {} solved", panel.lists);
+    let room = CURVES_WIDE - width(&solved, SIZE) - 10.0;
+    let mut svg = within("strong", SIZE * BOLD, LEFT, ABOVE - 12.0, &panel.name, room);
     svg += &anchored("soft", "end", LEFT + CURVES_WIDE, ABOVE - 12.0, &solved);
     svg += &axes(cutoff);
     let (x, middle) = (10.0, y(0.5));
