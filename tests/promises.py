@@ -7,7 +7,7 @@ import sys
 ROOT = pathlib.Path(__file__).parent.parent
 CRATES = ROOT / 'crates'
 # the documents, and how many rows each has at least
-DOCUMENTS = {'docs/PROMISES.md': 50, 'docs/PAGE-TWELVE.md': 30}
+DOCUMENTS = {'docs/PROMISES.md': 50, 'docs/PAGE-TWELVE.md': 30, 'docs/SEARCH.md': 12}
 
 
 def tokens(path):

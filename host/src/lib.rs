@@ -10,6 +10,7 @@ mod refusal;
 mod sheet;
 
 pub mod compare;
+pub mod drawing;
 pub mod families;
 pub mod guarded;
 pub mod lists;

@@ -1,6 +1,6 @@
-//! The search in plain Rust against the library: the same order and end, whatever the memory.
+//! The search in plain Rust against the library: the same order and end, whatever the memory and whichever rule is left out.
 use crate::families::Family;
-use crate::plain_search::{run, Tables};
+use crate::plain_search::{run_with, Found, Outcome, Rules, Tables};
 use crate::{card_length, plan};
 
 const MEMORY: [usize; 4] = [0, 735, 4096, 1 << 16];
@@ -8,6 +8,16 @@ const MEMORY: [usize; 4] = [0, 735, 4096, 1 << 16];
 /// Plans a list of the family and this seed, of 2 to 9 jobs, both ways.
 pub fn compare(family: &Family, seed: u64) {
     let n = (seed % 8) as usize + 2;
+    compare_with(family, seed, n, &[("no rule", Rules::default())]);
+}
+
+/// The same for a list of 2 to 7 jobs, with each rule left out.
+pub fn compare_each_left_out(family: &Family, seed: u64) {
+    let n = (seed % 6) as usize + 2;
+    compare_with(family, seed, n, &Rules::each_left_out());
+}
+
+fn compare_with(family: &Family, seed: u64, n: usize, all: &[(&str, Rules)]) {
     let list = family.list(seed, n);
     let n = list.jobs.len();
     let length = MEMORY[(seed % MEMORY.len() as u64) as usize];
@@ -15,9 +25,19 @@ pub fn compare(family: &Family, seed: u64) {
     let mut work = vec![0x5A; length];
     let about = || format!("{}, sheet {:02x?}, memory {length}", list.name, list.sheet());
     plan(&list.sheet(), &mut card, &mut work).unwrap_or_else(|refusal| panic!("{}: {refusal}", about()));
-    work.fill(0xA5);
-    let found = run(&Tables::of(&list), &mut work).expect("no family has circles");
-    assert_eq!(found.order, card[12 * n..13 * n], "{}", about());
-    assert_eq!(found.end.to_le_bytes(), card[13 * n + 4..13 * n + 6], "{}", about());
-    assert!(work.iter().all(|byte| *byte == 0), "{}", about());
+    for (left_out, rules) in all {
+        work.fill(0xA5);
+        let found = found(run_with(&Tables::of(&list), &mut work, rules));
+        assert_eq!(found.order, card[12 * n..13 * n], "{}, {left_out} left out", about());
+        assert_eq!(found.end.to_le_bytes(), card[13 * n + 4..13 * n + 6], "{}, {left_out} left out", about());
+        assert!(work.iter().all(|byte| *byte == 0), "{}, {left_out} left out", about());
+    }
+}
+
+fn found(outcome: Outcome) -> Found {
+    match outcome {
+        Outcome::Found(found) => found,
+        Outcome::GivenUp => panic!("given up without a limit"),
+        Outcome::NoOrder => panic!("no family has circles"),
+    }
 }

@@ -10,8 +10,8 @@ pub struct Memory<'a> {
     jobs: usize,
 }
 
-fn number(entry: &[u8], at: usize) -> u16 {
-    u16::from_le_bytes([entry[at], entry[at + 1]])
+fn number(bytes: &[u8]) -> u16 {
+    u16::from_le_bytes([bytes[0], bytes[1]])
 }
 
 impl Memory<'_> {
@@ -33,17 +33,15 @@ impl Memory<'_> {
     pub fn recall(&self, part: &Part, minute: u16) -> bool {
         self.group(part.unplaced).is_some_and(|at| {
             let entries = self.bytes[at..at + GROUP].chunks_exact(ENTRY);
-            entries.into_iter().any(|entry| self.ahead(entry, part, minute))
+            let set = part.unplaced.to_le_bytes();
+            entries.filter(|entry| entry[..4] == set).any(|entry| self.ahead(entry, part, minute))
         })
     }
 
     fn ahead(&self, entry: &[u8], part: &Part, minute: u16) -> bool {
-        let unplaced = u32::from(number(entry, 0)) | u32::from(number(entry, 2)) << 16;
-        let within = |(i, end): (usize, &u16)| {
-            let remembered = number(entry, 6 + 2 * i);
-            remembered <= *end || remembered <= minute
-        };
-        unplaced == part.unplaced && number(entry, 4) <= minute && part.ends[..self.jobs].iter().enumerate().all(within)
+        let within = |(remembered, end): (&[u8], &u16)| number(remembered) <= minute.max(*end);
+        let ends = entry[6..].chunks_exact(2).zip(&part.ends[..self.jobs]);
+        number(&entry[4..]) <= minute && ends.map(within).fold(true, |all, one| all & one)
     }
 
     pub fn remember(&mut self, part: &Part) {
@@ -60,7 +58,7 @@ impl Memory<'_> {
 
     /// Which of a group's entries is written: one that the figures choose.
     fn way(&self, part: &Part) -> usize {
-        let mixed = |hash: usize, end: &u16| (hash * 31 + usize::from(*end)) % 65536;
-        part.ends[..self.jobs].iter().fold(usize::from(part.last), mixed) / 8 % WAYS
+        let mixed = |hash: u16, end: &u16| hash.wrapping_mul(31).wrapping_add(*end);
+        usize::from(part.ends[..self.jobs].iter().fold(part.last, mixed)) / 8 % WAYS
     }
 }

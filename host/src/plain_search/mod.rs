@@ -1,16 +1,22 @@
 //! The library's search in plain Rust: the same cuts, the same memory, the same order of work. The benchmark measures by it what
-//! the proved code costs, and counts the part-plans that it visits.
+//! the proved code costs, counts the part-plans that it visits, and leaves out one rule after another.
 mod bounds;
 mod memory;
 mod part;
+mod relations;
+mod rules;
+mod sums;
 mod tables;
 
 use crate::MOST_JOBS;
-use bounds::{rounded, unserved, Weights};
+use bounds::Weights;
 use memory::Memory;
 use part::Part;
+use relations::Relations;
+pub use rules::Rules;
+use sums::{rounded, Sums};
 pub use tables::Tables;
-use tables::{has, Ordered, Starts, NONE};
+use tables::{jobs_of, Ordered, Starts};
 
 /// What the search finds.
 #[derive(Clone, Debug, PartialEq, Eq)]
@@ -21,11 +27,24 @@ pub struct Found {
     pub visited: u64,
 }
 
+#[derive(Clone, Debug, PartialEq, Eq)]
+pub enum Outcome {
+    Found(Found),
+    /// More part-plans would have to be visited than the rules allow.
+    GivenUp,
+    /// Some job would have to end before itself.
+    NoOrder,
+}
+
+/// The bound by modules looks at sets of at most 8 jobs: at so many sums.
+const SUMS: usize = 1 << 8;
+
 struct Search<'a> {
     tables: &'a Tables,
-    tails: [u16; MOST_JOBS],
-    later: [u32; MOST_JOBS],
+    rules: Rules,
+    relations: Relations,
     weights: Weights,
+    sums: Sums<SUMS>,
     memory: Memory<'a>,
     /// For each placed job the jobs that were tried before it was chosen: none of them leads to an order that ends by the target.
     settled: [u32; MOST_JOBS],
@@ -41,6 +60,9 @@ impl Search<'_> {
 
     fn visit(&mut self, part: &Part, target: u16) -> Option<Ordered> {
         self.visited += 1;
+        if self.is_given_up() {
+            return None;
+        }
         if part.unplaced == 0 {
             return Some(part.ordered()).filter(|found| found.end <= target);
         }
@@ -48,65 +70,74 @@ impl Search<'_> {
         if self.hopeless(part, &starts, target) || self.memory.recall(part, starts.least) {
             return None;
         }
-        let first = self.tables.to_try(part.unplaced, &starts);
+        let mut left = self.to_try(part, &starts);
         let mut tried = 0;
-        while let Some(job) = starts.next(first & !tried, &self.tails) {
-            if !self.passed_over(part, &starts, tried, job) {
+        while let Some(job) = starts.next(left, &self.relations.tails) {
+            if !self.passed_over(part, tried, job, starts.at[job]) {
                 self.settled[job] = tried;
-                let found = self.visit(&self.tables.place(part, job, starts.at[job]), target);
+                let found = self.visit(&part.with(self.tables, job, starts.at[job]), target);
                 if found.is_some() {
                     return found;
                 }
             }
+            left &= !(1 << job);
             tried |= 1 << job;
         }
         self.memory.remember(part);
         None
     }
 
+    /// Whether the limit is passed: what comes back from here on is no answer.
+    fn is_given_up(&self) -> bool {
+        self.visited > self.rules.most_visited
+    }
+
     /// Whether no order that goes on from here can end by the target: by the area, by a chain, or because the free modules are too few.
-    fn hopeless(&self, part: &Part, starts: &Starts, target: u16) -> bool {
-        let modules = u32::from(self.tables.modules);
-        let taken = modules * u32::from(starts.least) + part.held_after(starts.least) + part.left;
-        let too_long = |(start, tail): (&u16, &u16)| *start != NONE && target < start + tail;
-        modules * u32::from(target + 1) <= taken
-            || starts.at.iter().zip(&self.tails).any(too_long)
+    fn hopeless(&mut self, part: &Part, starts: &Starts, target: u16) -> bool {
+        self.rules.area && self.crowded(part, starts.least, target)
+            || self.rules.chains && self.some_chain_too_long(starts, target)
             || self.too_few(part, starts.least, target)
     }
 
-    fn too_few(&self, part: &Part, minute: u16, target: u16) -> bool {
+    fn crowded(&self, part: &Part, minute: u16, target: u16) -> bool {
+        let modules = u32::from(self.tables.modules);
+        modules * u32::from(target) < modules * u32::from(minute) + part.held_after(minute) + part.left
+    }
+
+    fn some_chain_too_long(&self, starts: &Starts, target: u16) -> bool {
+        jobs_of(starts.ready).any(|j| target < starts.at[j] + self.relations.tails[j])
+    }
+
+    fn too_few(&mut self, part: &Part, minute: u16, target: u16) -> bool {
         let free = part.free_at(minute);
-        self.weights.outweighed(part, self.tables.jobs, &free, target) || unserved(self.tables, part, &free, target)
+        self.rules.weights && self.weights.outweighed(part, &free, target)
+            || self.rules.modules && self.sums.unserved(self.tables, part, &free, target)
     }
 
-    /// Whether some job stands for job j, which need not be tried then.
-    fn passed_over(&self, part: &Part, starts: &Starts, tried: u32, j: usize) -> bool {
-        (0..self.tables.jobs).any(|i| {
-            if has(part.unplaced, i) {
-                has(tried, i) && self.comes_first(i, j, starts)
-            } else {
-                has(self.settled[i], j) && self.turns_round(i, j, part.ends[i], starts.at[j])
-            }
-        })
+    /// The jobs to be tried: one that starts first and can run beside no other, or all that start before another one can have ended.
+    fn to_try(&self, part: &Part, starts: &Starts) -> u32 {
+        let alone = |j: &usize| starts.at[*j] == starts.least && self.relations.beside[*j] & part.unplaced == 0;
+        if let Some(j) = jobs_of(starts.ready).find(alone).filter(|_| self.rules.alone) {
+            return 1 << j;
+        }
+        if !self.rules.idle {
+            return starts.ready;
+        }
+        jobs_of(starts.ready).filter(|j| starts.at[*j] < starts.first_end).map(|j| 1 << j).sum()
     }
 
-    /// Whether job i, which was tried, may as well come before job j: it can end before that one starts, or the two are alike.
-    fn comes_first(&self, i: usize, j: usize, starts: &Starts) -> bool {
-        let Tables { need, minutes, .. } = self.tables;
-        let alike = || need[i] == need[j] && minutes[i] == minutes[j] && self.later_within(j, i);
-        starts.at[i] + minutes[i] <= starts.at[j] || alike()
+    /// Whether some job stands for job j, which need not be tried then: an alike one that was tried, or one further up.
+    fn passed_over(&self, part: &Part, tried: u32, j: usize, start: u16) -> bool {
+        let placed = !part.unplaced & ((1 << self.tables.jobs) - 1);
+        self.rules.alike && tried & self.relations.alike[j] != 0
+            || jobs_of(placed).any(|i| self.settled[i] >> j & 1 == 1 && self.turns_round(i, j, part.ends[i], start))
     }
 
     /// Whether job j, which was settled when job i was chosen, may as well have come in its place: it would start with it, or as
     /// soon as it has ended, with its width.
     fn turns_round(&self, i: usize, j: usize, end: u16, start: u16) -> bool {
-        let Tables { need, minutes, .. } = self.tables;
-        start + minutes[i] == end || need[i] == need[j] && start == end && self.later_within(i, j)
-    }
-
-    /// Whether every job that waits for job i waits for job j as well.
-    fn later_within(&self, i: usize, j: usize) -> bool {
-        self.later[i] & !self.later[j] == 0
+        self.rules.same_minute && start + self.tables.minutes[i] == end
+            || self.rules.swap && start == end && self.relations.turning[i] >> j & 1 == 1
     }
 
     /// An order that ends first of all.
@@ -114,7 +145,8 @@ impl Search<'_> {
         let first = Part::first(self.tables);
         let mut best = listed;
         while let Some(earlier) = best.end.checked_sub(1) {
-            match self.decide(&first, rounded(self.tables, earlier)) {
+            let target = if self.rules.rounded_targets { rounded(self.tables, earlier) } else { earlier };
+            match self.decide(&first, target) {
                 Some(found) => best = found,
                 None => break,
             }
@@ -138,15 +170,27 @@ impl Search<'_> {
 
 /// The tie rule's order and its end, or none where some job would have to end before itself.
 pub fn run(tables: &Tables, memory: &mut [u8]) -> Option<Found> {
+    match run_with(tables, memory, &Rules::default()) {
+        Outcome::Found(found) => Some(found),
+        _ => None,
+    }
+}
+
+/// The same with these rules alone.
+pub fn run_with(tables: &Tables, memory: &mut [u8], rules: &Rules) -> Outcome {
     let mut memory = Memory::new(memory, tables.jobs);
     memory.clear();
-    let tails = tables.tails();
-    let listed = tables.listed(&tails)?;
+    let relations = Relations::of(tables);
+    let Some(listed) = tables.listed(&relations.tails, rules.three_list_plans) else { return Outcome::NoOrder };
     let weights = Weights::of(tables);
-    let mut search = Search { tables, tails, later: tables.later(), weights, memory, settled: [0; MOST_JOBS], visited: 0 };
+    let settled = [0; MOST_JOBS];
+    let mut search = Search { tables, rules: *rules, relations, weights, sums: Sums::new(), memory, settled, visited: 0 };
     let least = search.lowest(listed);
     search.memory.clear();
     let Ordered { end, order } = search.first_order(least);
     search.memory.clear();
-    Some(Found { end, order: order[..tables.jobs].to_vec(), visited: search.visited })
+    if search.is_given_up() {
+        return Outcome::GivenUp;
+    }
+    Outcome::Found(Found { end, order: order[..tables.jobs].to_vec(), visited: search.visited })
 }

@@ -1,14 +1,11 @@
 //! A call in a process of its own: nothing interrupts the library, so the process is killed at the cut-off.
-use crate::clock;
+use crate::{clock, process};
 use depot_host::lists::{self, List};
 use depot_host::plain_search::{self, Tables};
-use depot_host::{card_length, plan};
-use std::io::{self, Read, Write};
-use std::process::{Command, Stdio};
-use std::sync::mpsc;
-use std::thread;
+use depot_host::{card_length, plan, Card};
+use std::process::Command;
 use std::time::Duration;
-use std::{env, hint};
+use std::{env, hint, io};
 
 /// The option by which the program calls itself: the side, the length of the working memory, and the list on standard input.
 pub const OPTION: &str = "--child";
@@ -16,6 +13,8 @@ pub const OPTION: &str = "--child";
 /// Short calls are made again, and the shortest time counts.
 const SHORT: f64 = 0.02;
 const TIMES: usize = 5;
+/// More than all calls that are made again need.
+const AGAIN: Duration = Duration::from_millis(150);
 
 #[derive(Clone, Copy)]
 pub enum Side {
@@ -23,11 +22,12 @@ pub enum Side {
     Plain,
 }
 
-/// How much processor time a call took, and how many part-plans it visited (0: not counted).
+/// How much processor time a call took, how many part-plans it visited (0: not counted), and the end of its plan.
 #[derive(Clone, Copy)]
 pub struct Took {
     pub seconds: f64,
     pub visited: u64,
+    pub end: u16,
 }
 
 /// Makes the call in a child process; none at the cut-off.
@@ -37,59 +37,49 @@ pub fn call(side: Side, list: &List, memory: usize, cutoff: Duration) -> Option<
         Side::Plain => "plain",
     };
     let program = env::current_exe().expect("the program has a path");
-    let mut child = Command::new(program)
-        .args([OPTION, side, &memory.to_string()])
-        .stdin(Stdio::piped())
-        .stdout(Stdio::piped())
-        .spawn()
-        .expect("the program runs itself");
-    let mut input = child.stdin.take().expect("a piped input");
-    input.write_all(list.text().as_bytes()).expect("the child reads its list");
-    drop(input);
-    let mut output = child.stdout.take().expect("a piped output");
-    let (send, receive) = mpsc::channel();
-    let reader = thread::spawn(move || {
-        let mut said = String::new();
-        output.read_to_string(&mut said).map(|_| send.send(said))
-    });
-    let mut said = receive.recv_timeout(cutoff);
-    while said.is_err() {
-        let left = clock::of_process(child.id()).map_or(Duration::ZERO, |used| cutoff.saturating_sub(used));
-        if left.is_zero() {
-            child.kill().expect("the child can be killed");
-            break;
-        }
-        said = receive.recv_timeout(left);
-    }
-    child.wait().expect("the child ends");
-    reader.join().expect("the reader ends").ok();
-    let said = said.ok()?;
-    let (seconds, visited) = said.trim().split_once(' ').unwrap_or_else(|| panic!("{}: the child failed", list.name));
-    Some(Took { seconds: seconds.parse().expect("seconds"), visited: visited.parse().expect("a count") })
+    let mut command = Command::new(program);
+    command.args([OPTION, side, &memory.to_string()]);
+    let said = process::output(&mut command, &list.text(), cutoff + AGAIN).expect("the program runs itself")?;
+    let took = Took::read(&said).unwrap_or_else(|| panic!("{}: the child failed", list.name));
+    Some(took).filter(|took| took.seconds <= cutoff.as_secs_f64())
 }
 
-/// The child: makes the call and writes how long it took and how many part-plans it visited.
+impl Took {
+    fn text(&self) -> String {
+        format!("{:.9} {} {}", self.seconds, self.visited, self.end)
+    }
+
+    fn read(text: &str) -> Option<Took> {
+        let mut words = text.split_whitespace();
+        let seconds = words.next()?.parse().ok()?;
+        Some(Took { seconds, visited: words.next()?.parse().ok()?, end: words.next()?.parse().ok()? })
+    }
+}
+
+/// The child: makes the call and writes what it took.
 pub fn answer(words: &[String]) {
     let [side, memory] = words else { panic!("{OPTION} takes a side and a length") };
     let mut work = vec![0xA5; memory.parse().expect("a length")];
     let text = io::read_to_string(io::stdin()).expect("a list");
     let list = lists::read(&text).expect("a list").remove(0);
     let took = if side == "plain" { plain(&list, &mut work) } else { library(&list, &mut work) };
-    println!("{:.9} {}", took.seconds, took.visited);
+    println!("{}", took.text());
 }
 
 fn library(list: &List, work: &mut [u8]) -> Took {
     let sheet = list.sheet();
     let mut card = vec![0; card_length(list.jobs.len())];
     let seconds = shortest(|| plan(&sheet, &mut card, work).unwrap_or_else(|refusal| panic!("{}: {refusal}", list.name)));
-    Took { seconds, visited: 0 }
+    let end = Card::of(&card).expect("a card").end;
+    Took { seconds, visited: 0, end }
 }
 
 fn plain(list: &List, work: &mut [u8]) -> Took {
     let tables = Tables::of(list);
-    let mut visited = 0;
-    let seconds = shortest(|| visited = plain_search::run(&tables, work).expect("the list has an order").visited);
-    Took { seconds, visited }
+    let mut found = None;
+    let seconds = shortest(|| found = plain_search::run(&tables, work));
+    let found = found.expect("the list has an order");
+    Took { seconds, visited: found.visited, end: found.end }
 }
 
 fn shortest(mut call: impl FnMut()) -> f64 {

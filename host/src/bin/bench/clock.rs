@@ -16,12 +16,35 @@ extern "C" {
 
 const PROCESS: c_int = 2;
 
+/// What C calls `struct rusage`: user and system time in seconds and microseconds, and 14 other figures.
+#[repr(C)]
+#[derive(Default)]
+struct Usage {
+    times: [i64; 4],
+    others: [i64; 14],
+}
+
+extern "C" {
+    fn getrusage(who: c_int, usage: *mut Usage) -> c_int;
+}
+
+const ENDED_CHILDREN: c_int = -1;
+
 /// The processor time of this process so far, in seconds.
 pub fn now() -> f64 {
     let mut time = Timespec { seconds: 0, nanoseconds: 0 };
     // SAFETY: a live place for the answer.
     assert_eq!(unsafe { clock_gettime(PROCESS, &mut time) }, 0);
     time.seconds as f64 + time.nanoseconds as f64 / 1e9
+}
+
+/// The processor time of all programs that were started and have ended so far, in seconds.
+pub fn of_ended() -> f64 {
+    let mut usage = Usage::default();
+    // SAFETY: a live place for the answer.
+    assert_eq!(unsafe { getrusage(ENDED_CHILDREN, &mut usage) }, 0);
+    let [user, user_micros, system, system_micros] = usage.times.map(|figure| figure as f64);
+    user + system + (user_micros + system_micros) / 1e6
 }
 
 /// The processor time of another process so far, none once it is gone.

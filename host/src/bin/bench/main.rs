@@ -1,14 +1,22 @@
 //! Measures the library: planning by size and working memory beside the same search in plain Rust, the stack, and the other calls.
+mod ablation;
 mod child;
 mod clock;
 mod desk_calls;
+mod gecode;
+mod model;
 mod options;
+mod picture;
 mod planning;
+mod process;
 mod sheet_calls;
 mod stack_need;
+mod times;
+mod usage;
 
-use options::{Options, Part, USAGE};
-use std::{env, process};
+use options::{Options, Part};
+use std::env;
+use usage::USAGE;
 
 fn main() {
     let words: Vec<String> = env::args().skip(1).collect();
@@ -20,12 +28,14 @@ fn main() {
         Ok(None) => return print!("{USAGE}"),
         Err(why) => {
             eprint!("bench: {why}\n\n{USAGE}");
-            process::exit(2);
+            std::process::exit(2);
         }
     };
     for part in &options.parts {
         match part {
             Part::Plans => planning::measure(&options),
+            Part::Ablation => ablation::measure(&options),
+            Part::Gecode => gecode::measure(&options),
             Part::Stack => stack_need::measure(),
             Part::Sheets => sheet_calls::measure(),
             Part::Desk => desk_calls::measure(),

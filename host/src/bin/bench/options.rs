@@ -1,30 +1,14 @@
 //! What the command line asks for.
+use crate::picture::TINTS;
 use depot_host::{families, lists, lists::List, units};
 use std::fs;
 use std::time::Duration;
 
-pub const USAGE: &str = "\
-usage: bench [PART..] [OPTION..]
-
-parts, all of them where none is named:
-  plans            planning, a line for each size and working memory
-  stack            the stack that each call needs, planning at 20 jobs
-  sheets           reading, labels and writing of the longest sheet
-  desk             the desk's calls
-
-options of plans:
-  --sizes N,N..    sizes of the lists (10,12)
-  --family WORD    only families whose name has this word
-  --seed NUMBER    seed of the lists (1)
-  --lists FILE     lists from a file instead: 'name n N', then n lines 'modules minutes earlier-jobs-in-hexadecimal'
-  --memory B,B..   lengths of the working memory, in bytes or with K or M (0,64K,1M,16M)
-  --cutoff S       processor seconds until a call is given up (1)
-  --each           a line for each list too
-";
-
 #[derive(Clone, Copy, PartialEq, Eq)]
 pub enum Part {
     Plans,
+    Ablation,
+    Gecode,
     Stack,
     Sheets,
     Desk,
@@ -39,9 +23,11 @@ pub struct Group {
 pub struct Options {
     pub parts: Vec<Part>,
     pub groups: Vec<Group>,
-    pub memory: Vec<usize>,
+    memory: Option<Vec<usize>>,
     pub cutoff: Duration,
+    pub limit: u64,
     pub each: bool,
+    pub svg: Option<String>,
 }
 
 /// What is read before the lists are made.
@@ -58,9 +44,11 @@ impl Options {
         let mut options = Options {
             parts: Vec::new(),
             groups: Vec::new(),
-            memory: vec![0, 64 << 10, 1 << 20, 16 << 20],
+            memory: None,
             cutoff: Duration::from_secs(1),
+            limit: 300_000,
             each: false,
+            svg: None,
         };
         let mut asked = Asked { sizes: vec![10, 12], family: String::new(), seed: 1, file: None };
         let mut words = words.iter();
@@ -68,6 +56,8 @@ impl Options {
             let mut value = || words.next().ok_or(format!("{word} needs a value"));
             match word.as_str() {
                 "plans" => options.parts.push(Part::Plans),
+                "ablation" => options.parts.push(Part::Ablation),
+                "gecode" => options.parts.push(Part::Gecode),
                 "stack" => options.parts.push(Part::Stack),
                 "sheets" => options.parts.push(Part::Sheets),
                 "desk" => options.parts.push(Part::Desk),
@@ -75,20 +65,31 @@ impl Options {
                 "--family" => asked.family = value()?.clone(),
                 "--seed" => asked.seed = value()?.parse().map_err(|_| "--seed takes a number")?,
                 "--lists" => asked.file = Some(value()?.clone()),
-                "--memory" => options.memory = numbers(value()?, units::bytes)?,
+                "--memory" => options.memory = Some(numbers(value()?, units::bytes)?),
                 "--cutoff" => options.cutoff = seconds(value()?).ok_or("--cutoff takes seconds above 0")?,
+                "--limit" => options.limit = value()?.parse().map_err(|_| "--limit takes a number")?,
+                "--full" => asked.sizes = vec![10, 12, 14, 16, 20],
+                "--svg" => options.svg = Some(value()?.clone()),
                 "--each" => options.each = true,
                 "--help" | "-h" => return Ok(None),
                 _ => return Err(format!("{word} is no part and no option")),
             }
         }
+        if options.svg.is_some() && options.memory.as_ref().is_some_and(|lengths| lengths.len() > TINTS) {
+            return Err(format!("--svg shows at most {TINTS} lengths of the working memory"));
+        }
         if options.parts.is_empty() {
             options.parts = vec![Part::Plans, Part::Stack, Part::Sheets, Part::Desk];
         }
-        if options.parts.contains(&Part::Plans) {
+        if options.parts.iter().any(|part| matches!(part, Part::Plans | Part::Ablation | Part::Gecode)) {
             options.groups = asked.groups()?;
         }
         Ok(Some(options))
+    }
+
+    /// The lengths of the working memory: those that are asked for, or a part's own.
+    pub fn memory_or(&self, usual: &[usize]) -> Vec<usize> {
+        self.memory.clone().unwrap_or(usual.to_vec())
     }
 }
 

@@ -1,8 +1,14 @@
 //! Planning: a line for each group of lists and each length of the working memory.
 use crate::child::{call, Side, Took};
 use crate::options::{Group, Options};
+use crate::picture::{self, Line, Panel};
+use crate::times::{Times, HEADS};
 use depot_host::lists::List;
+use depot_host::units::in_bytes;
+use std::fs;
 use std::time::Duration;
+
+const MEMORY: [usize; 5] = [0, 4 << 10, 64 << 10, 1 << 20, 16 << 20];
 
 /// A list that the library solved before the cut-off, and the same search in plain Rust where it did too.
 struct Solved {
@@ -16,19 +22,38 @@ pub fn measure(options: &Options) {
         "planning, cut-off {} s; times in seconds of the processor, 'rate' in millions of part-plans a second",
         cutoff.as_secs_f64()
     );
-    println!(
-        "{:14} {:>7} {:>9} {:>10} {:>10} {:>14} {:>6} {:>7}",
-        "lists", "memory", "solved", "median", "worst", "part-plans", "rate", "/plain"
-    );
-    for group in &options.groups {
-        for memory in &options.memory {
-            let runs: Vec<Option<Solved>> = group.lists.iter().map(|list| solve(list, *memory, cutoff)).collect();
-            if options.each {
-                group.lists.iter().zip(&runs).for_each(|(list, run)| print_one(list, run));
-            }
-            print_line(group, *memory, &runs, cutoff);
-        }
+    println!("{:14} {:>7} {HEADS} {:>14} {:>6} {:>7}", "lists", "memory", "part-plans", "rate", "/plain");
+    let panels: Vec<Panel> = options.groups.iter().map(|group| measure_group(group, options)).collect();
+    if let Some(file) = &options.svg {
+        fs::write(file, picture::draw(&panels, cutoff.as_secs_f64())).unwrap_or_else(|why| panic!("{file}: {why}"));
     }
+}
+
+/// The group's lines of the table; what the picture shows of them.
+fn measure_group(group: &Group, options: &Options) -> Panel {
+    let mut panel = Panel { name: group.name.clone(), lists: group.lists.len(), lines: Vec::new() };
+    for memory in options.memory_or(&MEMORY) {
+        let runs: Vec<Option<Solved>> = group.lists.iter().map(|list| solve(list, memory, options.cutoff)).collect();
+        if options.each {
+            group.lists.iter().zip(&runs).for_each(|(list, run)| print_one(list, run));
+        }
+        print_line(group, memory, &runs, options.cutoff);
+        panel.lines.push(Line { name: memory_in_words(memory), times: times(&runs, options.cutoff).ended });
+    }
+    panel
+}
+
+fn memory_in_words(bytes: usize) -> String {
+    match in_bytes(bytes) {
+        length if length == "0" => "none".into(),
+        length if length.ends_with(['K', 'M']) => length.replace('K', " KiB").replace('M', " MiB"),
+        length => length + " bytes",
+    }
+}
+
+fn times(runs: &[Option<Solved>], cutoff: Duration) -> Times {
+    let seconds: Vec<Option<f64>> = runs.iter().map(|run| run.as_ref().map(|run| run.library.seconds)).collect();
+    Times::of(&seconds, cutoff)
 }
 
 fn solve(list: &List, memory: usize, cutoff: Duration) -> Option<Solved> {
@@ -49,33 +74,17 @@ fn print_one(list: &List, run: &Option<Solved>) {
 }
 
 fn print_line(group: &Group, memory: usize, runs: &[Option<Solved>], cutoff: Duration) {
-    let mut times: Vec<f64> = runs.iter().flatten().map(|run| run.library.seconds).collect();
-    times.sort_by(f64::total_cmp);
-    let solved = times.len();
-    let beyond = format!("> {}", cutoff.as_secs_f64());
-    let time = |place: usize| times.get(place).map_or(beyond.clone(), |seconds| format!("{seconds:.6}"));
     // the part-plans of the plain search are the library's: both make the same cuts in the same order
     let both: Vec<(Took, Took)> = runs.iter().flatten().filter_map(|run| Some((run.library, run.plain?))).collect();
     let visited: u64 = both.iter().map(|(_, plain)| plain.visited).sum();
     let library: f64 = both.iter().map(|(library, _)| library.seconds).sum();
     let plain: f64 = both.iter().map(|(_, plain)| plain.seconds).sum();
     println!(
-        "{:14} {:>7} {:>9} {:>10} {:>10} {:>14} {:>6.2} {:>7.2}",
+        "{:14} {:>7} {} {visited:>14} {:>6.2} {:>7.2}",
         group.name,
-        length(memory),
-        format!("{solved}/{}", runs.len()),
-        time(runs.len() / 2),
-        time(runs.len() - 1),
-        visited,
+        in_bytes(memory),
+        times(runs, cutoff),
         visited as f64 / library / 1e6,
         library / plain,
     );
-}
-
-fn length(bytes: usize) -> String {
-    match bytes {
-        b if b >= 1 << 20 && b % (1 << 20) == 0 => format!("{}M", b >> 20),
-        b if b >= 1 << 10 && b % (1 << 10) == 0 => format!("{}K", b >> 10),
-        b => b.to_string(),
-    }
 }

@@ -7,7 +7,6 @@ mod explain;
 mod help;
 mod json;
 mod list;
-mod markup;
 mod outcome;
 mod page;
 mod plan_json;

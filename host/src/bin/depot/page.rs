@@ -1,8 +1,8 @@
 //! The plan as a page in one file: the picture and the table, for a screen, light or dark, and for paper.
 use crate::chart;
-use crate::markup::escaped;
 use crate::plan_text::{cells, summary, RIGHT};
 use crate::planned::Planned;
+use depot_host::drawing::markup::escaped;
 
 const RULES: &str = "\
 @page{size:A4 landscape;margin:10mm}\

@@ -2,8 +2,8 @@
 use super::frame::{self, Frame};
 use super::tints::classes;
 use super::words::{self, Side, Word, BOLD};
-use crate::markup::escaped;
 use crate::planned::{lateness_in_words, ranges, runs, Planned, PlannedJob};
+use depot_host::drawing::markup::escaped;
 use std::fmt::Write;
 
 const SIZE: f64 = 11.0;

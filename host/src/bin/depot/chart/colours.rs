@@ -1,54 +1,13 @@
-//! The colours, and the rules that give them to the parts of a picture.
+//! The rules that give colours to the parts of a plan's picture.
+use depot_host::drawing::colours::{self, Palette};
 use std::fmt::Write;
-
-/// Colours for a kind of paper.
-pub struct Palette {
-    paper: &'static str,
-    ink: &'static str,
-    soft: &'static str,
-    grid: &'static str,
-    /// Fill and edge of bars that lie beside each other.
-    bars: [(&'static str, &'static str); TINTS],
-    late: (&'static str, &'static str),
-    end: &'static str,
-}
-
-/// How many tints tell neighbours apart.
-pub const TINTS: usize = 4;
-
-pub const LIGHT: Palette = Palette {
-    paper: "#ffffff",
-    ink: "#16202c",
-    soft: "#4d5a69",
-    grid: "#d5dbe3",
-    bars: [("#cfe2f6", "#2a5f96"), ("#d3ecdc", "#2c7148"), ("#e2dcf5", "#5c4a9e"), ("#d2ebee", "#1f6d78")],
-    late: ("#fde3c4", "#a1430a"),
-    end: "#16202c",
-};
-
-pub const DARK: Palette = Palette {
-    paper: "#12181f",
-    ink: "#eef2f6",
-    soft: "#aab6c3",
-    grid: "#303b47",
-    bars: [("#1f4166", "#8cc0f2"), ("#1d4a31", "#86d3a5"), ("#3a2f66", "#b9a9f3"), ("#164650", "#7fd0dc")],
-    late: ("#5a3111", "#ffb26b"),
-    end: "#eef2f6",
-};
 
 /// The rules for a picture on this paper.
 pub fn rules(palette: &Palette) -> String {
-    let Palette { paper, ink, soft, grid, bars, late, end } = palette;
+    let Palette { ink, soft, bars, late, end, .. } = palette;
+    let words = colours::rules(palette);
     let mut css = format!(
-        ".chart text{{font-family:\"Liberation Sans\",Arial,Helvetica,\"DejaVu Sans\",sans-serif;font-size:11px;fill:{ink}}}\
-         .chart .paper{{fill:{paper}}}\
-         .chart .title{{font-size:19px;font-weight:bold}}\
-         .chart .lead{{font-size:13px}}\
-         .chart .strong{{font-weight:bold}}\
-         .chart .soft{{fill:{soft}}}\
-         .chart .small{{font-size:10px}}\
-         .chart .grid{{stroke:{grid};stroke-width:1;fill:none}}\
-         .chart .leader{{stroke:{soft};stroke-width:0.7;fill:none}}\
+        "{words}.chart .leader{{stroke:{soft};stroke-width:0.7;fill:none}}\
          .chart .join{{stroke-width:1.2;stroke-dasharray:2 2;fill:none}}\
          .chart .mark{{fill:{ink};stroke:none}}\
          .chart .late-mark{{stroke:{1};stroke-width:2.2;fill:none}}\

@@ -7,13 +7,14 @@ mod marks;
 mod tints;
 mod words;
 
-use crate::markup::escaped;
 use crate::plan_text;
 use crate::planned::Planned;
+use depot_host::drawing::markup::escaped;
 use frame::Frame;
 use std::fmt::Write;
 
-pub use colours::{page_rules, DARK, LIGHT};
+pub use colours::page_rules;
+pub use depot_host::drawing::colours::{DARK, LIGHT};
 
 /// A file of its own.
 pub fn file(plan: &Planned) -> String {

@@ -1,6 +1,6 @@
 //! Which tint each bar has: bars that touch differ where there are tints enough.
-use super::colours::TINTS;
 use crate::planned::{Planned, PlannedJob};
+use depot_host::drawing::colours::TINTS;
 use depot_host::Row;
 
 /// The class of each job's bars: `late`, or a tint.

@@ -1,33 +1,6 @@
-//! Words in a picture: how wide they are at most, and where they go so that none covers another.
-use crate::markup::escaped;
-
-/// How wide a text is at most at this size: sans-serif faces differ, so the widest usual one counts.
-pub fn width(text: &str, size: f64) -> f64 {
-    let of = |c: char| match c {
-        'i' | 'j' | 'l' | 'I' | '.' | ',' | ':' | ';' | '\'' | '|' | '!' | ' ' | '(' | ')' | '/' => 0.36,
-        'm' | 'w' | 'M' | 'W' | '@' | '%' => 1.0,
-        'A'..='Z' | '&' | '+' | '<' | '>' | '=' | '~' | '^' | '#' | '$' => 0.74,
-        _ => 0.6,
-    };
-    size * text.chars().map(of).sum::<f64>()
-}
-
-/// A text that begins here.
-pub fn at(class: &str, x: f64, y: f64, text: &str) -> String {
-    format!("<text class=\"{class}\" x=\"{x:.1}\" y=\"{y:.1}\">{}</text>\n", escaped(text))
-}
-
-/// A text whose middle or end is here.
-pub fn anchored(class: &str, anchor: &str, x: f64, y: f64, text: &str) -> String {
-    format!("<text class=\"{class}\" text-anchor=\"{anchor}\" x=\"{x:.1}\" y=\"{y:.1}\">{}</text>\n", escaped(text))
-}
-
-/// A text that begins here, in smaller letters where it would be wider than the room.
-pub fn within(class: &str, size: f64, x: f64, y: f64, text: &str, room: f64) -> String {
-    let wide = width(text, size);
-    let smaller = if wide > room { format!(" style=\"font-size:{:.1}px\"", size * room / wide) } else { String::new() };
-    format!("<text class=\"{class}\" x=\"{x:.1}\" y=\"{y:.1}\"{smaller}>{}</text>\n", escaped(text))
-}
+//! Words that belong to places on a line: where they go so that none covers another.
+use depot_host::drawing::markup::escaped;
+pub use depot_host::drawing::words::{anchored, at, width, within, BOLD};
 
 /// A word that belongs to a place on a line.
 #[derive(Clone)]
@@ -66,9 +39,6 @@ pub fn fan_height(words: &[Word]) -> f64 {
 pub fn reach(text: &str) -> f64 {
     ALONG * width(text, 11.0 * BOLD) + 9.0
 }
-
-/// Bold letters are wider.
-pub const BOLD: f64 = 1.08;
 
 /// The feet of words: as near to their places as may be, apart from each other, and within the bounds.
 pub fn feet(words: &[Word], left: f64, right: f64) -> Vec<f64> {

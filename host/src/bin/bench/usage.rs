@@ -1,0 +1,25 @@
+//! What the program says of itself.
+
+pub const USAGE: &str = "\
+usage: bench [PART..] [OPTION..]
+
+parts; plans, stack, sheets and desk where none is named:
+  plans            planning, a line for each size and working memory
+  ablation         what each rule of the search pays: the search in plain Rust with one rule left out
+  gecode           the earliest end by MiniZinc's solver Gecode beside planning, where minizinc is installed
+  stack            the stack that each call needs, planning at 20 jobs
+  sheets           reading, labels and writing of the longest sheet
+  desk             the desk's calls
+
+options of plans, ablation and gecode:
+  --sizes N,N..    sizes of the lists (10,12)
+  --family WORD    only families whose name has this word
+  --seed NUMBER    seed of the lists (1)
+  --lists FILE     lists from a file instead: 'name n N', then n lines 'modules minutes earlier-jobs-in-hexadecimal'
+  --memory B,B..   lengths of the working memory, in bytes or with K or M (plans 0,4K,64K,1M,16M; the others 1M)
+  --cutoff S       plans, gecode: processor seconds until a call is given up (1)
+  --limit N        ablation: part-plans until a search is given up (300000)
+  --full           sizes 10,12,14,16,20
+  --each           plans, gecode: a line for each list too
+  --svg FILE       plans: a picture too, the share of the lists that are solved within a time
+";

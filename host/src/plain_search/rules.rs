@@ -1,0 +1,69 @@
+//! The rules of the search. Each makes it shorter and changes no answer, so each may be left out to see what it pays.
+
+/// Which rules are in use. The memory is one more: its length 0 leaves it out.
+#[derive(Clone, Copy, Debug)]
+pub struct Rules {
+    /// Cut: the module-minutes that are left have no room up to the target.
+    pub area: bool,
+    /// Cut: a job that may come next begins a chain that is too long.
+    pub chains: bool,
+    /// Cut: the jobs that are left weigh more than the free modules can hold.
+    pub weights: bool,
+    /// Cut: each module serves some of the jobs one after another, and all modules together serve too little.
+    pub modules: bool,
+    /// The target is lowered to a sum of minutes of some of the jobs, as every end is one.
+    pub rounded_targets: bool,
+    /// Choice: of two jobs that start in the same minute, one order is enough.
+    pub same_minute: bool,
+    /// Choice: of two jobs of one width, one behind the other, one order is enough.
+    pub swap: bool,
+    /// Choice: no job that starts only when another one could have run before it.
+    pub idle: bool,
+    /// Choice: of two alike jobs one is enough.
+    pub alike: bool,
+    /// Choice: a job that starts first and can run beside no other comes next.
+    pub alone: bool,
+    /// The best of three list plans to begin with, or the first of them.
+    pub three_list_plans: bool,
+    /// A search that would visit more part-plans is given up.
+    pub most_visited: u64,
+}
+
+impl Default for Rules {
+    fn default() -> Rules {
+        Rules {
+            area: true,
+            chains: true,
+            weights: true,
+            modules: true,
+            rounded_targets: true,
+            same_minute: true,
+            swap: true,
+            idle: true,
+            alike: true,
+            alone: true,
+            three_list_plans: true,
+            most_visited: u64::MAX,
+        }
+    }
+}
+
+impl Rules {
+    /// For each rule its name and the rules without it.
+    pub fn each_left_out() -> Vec<(&'static str, Rules)> {
+        let all = Rules::default();
+        vec![
+            ("area", Rules { area: false, ..all }),
+            ("chains", Rules { chains: false, ..all }),
+            ("weights", Rules { weights: false, ..all }),
+            ("modules", Rules { modules: false, ..all }),
+            ("rounded targets", Rules { rounded_targets: false, ..all }),
+            ("same minute", Rules { same_minute: false, ..all }),
+            ("swap", Rules { swap: false, ..all }),
+            ("idle", Rules { idle: false, ..all }),
+            ("alike", Rules { alike: false, ..all }),
+            ("alone", Rules { alone: false, ..all }),
+            ("three list plans", Rules { three_list_plans: false, ..all }),
+        ]
+    }
+}
