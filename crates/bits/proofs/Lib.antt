@@ -3,3 +3,4 @@ pub mod Digits
 pub mod Members
 pub mod Sets
 pub mod Ones
+pub mod Walks

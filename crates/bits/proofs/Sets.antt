@@ -77,6 +77,10 @@ setOf-mod (suc n) x =
 pub setOf-bit : (n x : ℕ) → x < 2 ^ n → setOf n (bit x) ≡ x
 setOf-bit n x l = setOf-mod n x ∙ mod-eq-of-lt l
 
+-- the members below n, cut out by the number of n ones
+pub and-below : (n x : ℕ) → bitAnd x (2 ^ n - 1) ≡ setOf n (bit x)
+and-below n x = and-mask x n ∙ sym (setOf-mod n x)
+
 -- ---- by members
 
 pub bits-same : (n x y : ℕ) → x < 2 ^ n → y < 2 ^ n → ((i : ℕ) → i < n → bit x i ≡ bit y i) → x ≡ y

@@ -1,8 +1,9 @@
 // Sets of small numbers in one word: a u32 holds jobs, a u64 modules. Member i is bit i, and bit 0 is the lowest.
 ghost use mathlib.Core.Path.{_≡_};
+ghost use mathlib.Core.Bool.{true};
 ghost use Prim.Native.Nat.{_<_};
 ghost use lib.Count.{ones};
-ghost use Rattle.bits.specs.Bits.{bit, withBit, withoutBit};
+ghost use Rattle.bits.specs.Bits.{bit, withBit, withoutBit, setOf};
 
 // Whether i is a member.
 pub fn test32(set: u32, i: usize) -> bool
@@ -33,6 +34,22 @@ pub fn ones32(set: u32) -> u32
     ensures { λ r. ⌜ r ≡ ones set ⌝ }
 {
     u32::count_ones(set)
+}
+
+// The lowest member of a set that is not empty.
+pub fn lowest32(set: u32) -> usize
+    requires { ⌜ 0 < set ⌝ }
+    ensures { λ r. ⌜ (r < 32) × (bit set r ≡ true) ⌝ }
+{
+    u32::trailing_zeros(set) as usize
+}
+
+// The members below n.
+pub fn below32(set: u32, n: usize) -> u32
+    requires { ⌜ n < 32 ⌝ }
+    ensures { λ r. ⌜ r ≡ setOf n (bit set) ⌝ }
+{
+    set & ((1u32 << n) - 1)
 }
 
 // Whether i is a member.

@@ -1,0 +1,73 @@
+-- A walk over the members of a set: the lowest is taken out until none is left.
+use mathlib.Core.Path.{_≡_, refl, sym, ap, _∙_}
+use mathlib.Core.Logic.{_⊎_, inl, inr}
+use mathlib.Core.Bool.{Bool, true, false, _&&_}
+use Prim.Native.Nat.{ℕ, zero, suc, _/_, _%_, _^_, _≤_, _<_}
+use native.Mathlib.Omega.{arith}
+use lib.Dec.{eqb}
+use lib.Count.{ones, trailingZeros}
+use borrow.Author.Tests.{eqb-true}
+use Rattle.counting.proofs.Tests.{clash, and-left, less-or-not}
+use Rattle.bits.specs.Bits.{bit, withoutBit, setOf}
+use Rattle.bits.proofs.Digits.{bit-first, bit-suc}
+use Rattle.bits.proofs.Members.{bit-without}
+use Rattle.bits.proofs.Sets.{bit-setOf, bit-setOf-above}
+use Rattle.bits.proofs.Ones.{ones-without}
+
+-- ---- the lowest member
+
+pub lowest-member : (k x : ℕ) → 0 < x → x < 2 ^ k → (trailingZeros k x < k) × (bit x (trailingZeros k x) ≡ true)
+unfolding trailingZeros
+lowest-member zero x p l = absurd (omega arith)
+lowest-member (suc k) x p l = go (x % 2) refl (lowest-member k (x / 2))
+  where
+    go : (d : ℕ) → x % 2 ≡ d
+        → (0 < x / 2 → x / 2 < 2 ^ k → (trailingZeros k (x / 2) < k) × (bit (x / 2) (trailingZeros k (x / 2)) ≡ true))
+        → (trailingZeros (suc k) x < suc k) × (bit x (trailingZeros (suc k) x) ≡ true)
+    go zero e h =
+        let r = h (omega arith) (omega arith) in
+        rw e (omega (arith, r .0), bit-suc x (trailingZeros k (x / 2)) ∙ r .1)
+    go (suc d) e h = rw e (omega arith, bit-first x ∙ ap (λ (y : ℕ). eqb y 1) (let f : x % 2 ≡ 1 = omega arith in f))
+
+-- ---- the walk
+
+-- the members that are still to come, of those below n
+pub record Walk (set n rest : ℕ) : Type 0 where
+  pub below : (i : ℕ) → bit rest i ≡ true → i < n
+  pub inside : (i : ℕ) → bit rest i ≡ true → bit set i ≡ true
+
+pub walk-first : (n set : ℕ) → Walk set n (setOf n (bit set))
+walk-first n set = record { below = λ i b. below i b (less-or-not i n); inside = λ i b. inside i b (less-or-not i n) }
+  where
+    below : (i : ℕ) → bit (setOf n (bit set)) i ≡ true → (i < n) ⊎ (n ≤ i) → i < n
+    below i b (inl l) = l
+    below i b (inr l) = clash (bit (setOf n (bit set)) i) b (bit-setOf-above n (bit set) i l)
+
+    inside : (i : ℕ) → bit (setOf n (bit set)) i ≡ true → (i < n) ⊎ (n ≤ i) → bit set i ≡ true
+    inside i b (inl l) = sym (bit-setOf n (bit set) i l) ∙ b
+    inside i b (inr l) = clash (bit (setOf n (bit set)) i) b (bit-setOf-above n (bit set) i l)
+
+-- a member below n that does not come at first is none
+pub walk-none : (n set i : ℕ) → i < n → bit (setOf n (bit set)) i ≡ false → bit set i ≡ false
+walk-none n set i l b = sym (bit-setOf n (bit set) i l) ∙ b
+
+pub walk-next : {set n rest : ℕ} (j : ℕ) → Walk set n rest → Walk set n (withoutBit rest j)
+walk-next {set} {n} {rest} j h = record { below = λ i b. h .below i (still i b); inside = λ i b. h .inside i (still i b) }
+  where
+    still : (i : ℕ) → bit (withoutBit rest j) i ≡ true → bit rest i ≡ true
+    still i b = and-left (bit rest i) _ (sym (bit-without rest j i) ∙ b)
+
+-- what no longer comes: the member taken out, or one that had come before
+pub walk-gone : (rest j i : ℕ) → bit (withoutBit rest j) i ≡ false → (i ≡ j) ⊎ (bit rest i ≡ false)
+walk-gone rest j i b = go (eqb i j) refl
+  where
+    go : (e : Bool) → eqb i j ≡ e → (i ≡ j) ⊎ (bit rest i ≡ false)
+    go true e = inl (eqb-true i j e)
+    go false e = inr (kept (bit rest i) (rw e at (sym (bit-without rest j i) ∙ b)))
+      where
+        kept : (x : Bool) → x && true ≡ false → x ≡ false
+        kept true y = y
+        kept false y = refl
+
+pub walk-less : (rest j : ℕ) → bit rest j ≡ true → ones (withoutBit rest j) < ones rest
+walk-less rest j b = omega (arith, ones-without rest j b)
