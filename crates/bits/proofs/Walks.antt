@@ -4,12 +4,14 @@ use mathlib.Core.Logic.{_⊎_, inl, inr}
 use mathlib.Core.Bool.{Bool, true, false, _&&_}
 use Prim.Native.Nat.{ℕ, zero, suc, _/_, _%_, _^_, _≤_, _<_}
 use native.Mathlib.Omega.{arith}
+use native.Mathlib.Nat.{pos-of-ne-zero}
 use lib.Dec.{eqb}
+use lib.Bits.{bitAnd, and-le-l}
 use lib.Count.{ones, trailingZeros}
 use borrow.Author.Tests.{eqb-true}
-use Rattle.counting.proofs.Tests.{clash, and-left, less-or-not}
+use Rattle.counting.proofs.Tests.{clash, and-left, and-right, less-or-not}
 use Rattle.bits.specs.Bits.{bit, withoutBit, setOf}
-use Rattle.bits.proofs.Digits.{bit-first, bit-suc}
+use Rattle.bits.proofs.Digits.{bit-first, bit-suc, bit-and}
 use Rattle.bits.proofs.Members.{bit-without}
 use Rattle.bits.proofs.Sets.{bit-setOf, bit-setOf-above}
 use Rattle.bits.proofs.Ones.{ones-without}
@@ -28,6 +30,14 @@ lowest-member (suc k) x p l = go (x % 2) refl (lowest-member k (x / 2))
         let r = h (omega arith) (omega arith) in
         rw e (omega (arith, r .0), bit-suc x (trailingZeros k (x / 2)) ∙ r .1)
     go (suc d) e h = rw e (omega arith, bit-first x ∙ ap (λ (y : ℕ). eqb y 1) (let f : x % 2 ≡ 1 = omega arith in f))
+
+-- two sets that are not disjoint have a common member
+pub common-member : (n a b : ℕ) → a < 2 ^ n → ¬ (bitAnd a b ≡ 0) → (i : ℕ) × (bit a i ≡ true) × (bit b i ≡ true)
+common-member n a b l h =
+    let i = trailingZeros n (bitAnd a b) in
+    let both : bit a i && bit b i ≡ true =
+    sym (bit-and a b i) ∙ lowest-member n (bitAnd a b) (pos-of-ne-zero h) (omega (arith, and-le-l a b)) .1 in
+    (i, and-left (bit a i) (bit b i) both, and-right (bit a i) (bit b i) both)
 
 -- ---- the walk
 

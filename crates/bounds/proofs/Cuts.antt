@@ -21,8 +21,8 @@ use Rattle.placement.specs.Profile.{heldAfter}
 use Rattle.placement.specs.Part.{wordOf}
 use Rattle.placement.proofs.Profiles.{profile-later}
 use Rattle.placement.proofs.Parts.{after-is, after-small, left-small, left-count}
-use Rattle.branching.specs.Branching.{Known, theoryPart, JobStarts}
-use Rattle.branching.proofs.Candidates.{started, none-before}
+use Rattle.candidates.specs.Candidates.{Known, theoryPart, JobStarts}
+use Rattle.candidates.proofs.Starting.{started, none-before}
 use Rattle.bounds.specs.Bounds.{Tails, SomeTooLong, Hopeless, Bounding}
 use Rattle.bounds.proofs.Shortages.{short-cut}
 

@@ -24,8 +24,8 @@ use Rattle.placement.specs.Part.{wordOf, Figures}
 use Rattle.placement.proofs.Parts.{occupied-is}
 use Rattle.weights.specs.Weights.{Outweighed}
 use Rattle.sums.specs.Sums.{together, Unserved}
-use Rattle.branching.specs.Branching.{Known, theoryPart, JobStarts}
-use Rattle.branching.proofs.Candidates.{none-before}
+use Rattle.candidates.specs.Candidates.{Known, theoryPart, JobStarts}
+use Rattle.candidates.proofs.Starting.{none-before}
 use Rattle.bounds.specs.Bounds.{TooFew}
 
 times-only : (b : Bool) (x y : ℕ) → only b (x * y) ≡ x * only b y

@@ -70,17 +70,24 @@ fn too_long(start: u16, tail: u16, end: u16) -> bool
     end as u32 <= (start as u32) + (tail as u32)
 }
 
-// Whether that is so of some job.
-fn some_too_long<'a>(at: &'a [u16; 20], tails: &'a [u16; 20], jobs: usize, end: u16) -> bool
+// Whether that is so of some job of the set.
+fn some_too_long<'a>(
+    at: &'a [u16; 20],
+    tails: &'a [u16; 20],
+    set: u32,
+    jobs: usize,
+    end: u16,
+) -> bool
     requires { ⌜ jobs ≤ 20 ⌝ }
     ensures { λ r. ⌜ (r ≡ true → SomeTooLong (now (at .entry)) (now (tails .entry)) jobs end) ⌝ }
 {
-    let mut j: usize = 0;
-    while j < jobs {
+    let mut rest = bits::below32(set, jobs);
+    while rest != 0 {
+        let j = bits::lowest32(rest);
         if too_long(at[j], tails[j], end) {
             return true;
         }
-        j += 1;
+        rest = bits::clear32(rest, j);
     }
     false
 }
@@ -180,7 +187,7 @@ pub fn hopeless<'a>(
     ) {
         return true;
     }
-    if some_too_long(at, tails, jobs, target + 1) {
+    if some_too_long(at, tails, part.unplaced, jobs, target + 1) {
         return true;
     }
     too_few(

@@ -1,4 +1,2 @@
--- Laws of the jobs that may come next, for the proofs here and in the crates above.
-pub mod Candidates
-pub mod Choices
+-- Laws of the jobs that are to be tried, for the proofs here and in the crates above.
 pub mod Trying

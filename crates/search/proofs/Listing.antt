@@ -23,8 +23,8 @@ use Rattle.tables.specs.Tables.{sheetOf, Fit}
 use Rattle.placement.specs.declared.Part.{Part}
 use Rattle.placement.specs.Part.{wordOf, firstPart, Placeable, Placed}
 use Rattle.placement.proofs.Parts.{first-is, left-count, start-short, end-short, all-placed}
-use Rattle.branching.specs.declared.Choice.{Choice}
-use Rattle.branching.specs.Branching.{Known, theoryPart, JobStart, JobStarts, ChoiceOf}
+use Rattle.candidates.specs.declared.Choice.{Choice}
+use Rattle.candidates.specs.Candidates.{Known, theoryPart, JobStart, JobStarts, ChoiceOf}
 use Rattle.search.specs.declared.Found.{Found}
 use Rattle.search.specs.Search.{finishedAs, Listed, OrderOf, Answer}
 use Rattle.search.proofs.Turns.{visit-leaf, child-placeable, child-fewer, child-known}

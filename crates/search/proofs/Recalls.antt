@@ -21,7 +21,7 @@ use Rattle.placement.specs.Part.{wordOf}
 use Rattle.placement.proofs.Parts.{left-count}
 use Rattle.memory.specs.Entries.{setAt, endAt, entryAt, EntryOf, Hit, Adds}
 use Rattle.memory.proofs.Slots.{zero-sets}
-use Rattle.branching.specs.Branching.{Known}
+use Rattle.candidates.specs.Candidates.{Known}
 use Rattle.search.specs.Search.{StandsFor, Remembered}
 
 -- the best so far only falls

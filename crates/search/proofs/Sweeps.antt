@@ -3,7 +3,7 @@ use mathlib.Core.Path.{_≡_, refl, sym, ap, _∙_}
 use mathlib.Core.Logic.{_⊎_, inl, inr}
 use mathlib.Core.Bool.{Bool, true, false, not, _&&_, _||_}
 use mathlib.Core.List.{List, [], _∷_, _++_, append-assoc}
-use Prim.Native.Nat.{ℕ, suc, _≤_, _<_}
+use Prim.Native.Nat.{ℕ, suc, _+_, _≤_, _<_}
 use native.Mathlib.Omega.{arith}
 use lib.Dec.{eqb}
 use lib.Count.{ones}
@@ -13,6 +13,7 @@ use Rattle.counting.proofs.Tests.{true-or-false, clash, and-left, less-or-not}
 use Rattle.bits.specs.Bits.{bit, withBit, withoutBit}
 use Rattle.bits.proofs.Digits.{bit-none}
 use Rattle.bits.proofs.Members.{bit-with, bit-without}
+use Rattle.bits.proofs.Sets.{and-empty}
 use Rattle.bits.proofs.Ones.{ones-without}
 use Rattle.schedule.specs.Plan.{Sheet}
 use Rattle.schedule.specs.ListPlan.{PartPlan, ready, partOf}
@@ -23,9 +24,11 @@ use Rattle.tables.specs.Tables.{sheetOf}
 use Rattle.placement.specs.declared.Part.{Part}
 use Rattle.placement.specs.Part.{wordOf}
 use Rattle.placement.proofs.Parts.{start-short}
-use Rattle.branching.specs.declared.Choice.{Choice}
-use Rattle.branching.specs.Branching.{Known, ComesBefore, ToTry, Trying, EachStart, ChoiceOf}
-use Rattle.branching.proofs.Candidates.{started}
+use Rattle.candidates.specs.declared.Choice.{Choice}
+use Rattle.relations.specs.Relations.{rowAt, Related}
+use Rattle.candidates.specs.Candidates.{Known, EachStart, ChoiceOf}
+use Rattle.branching.specs.Branching.{Alone, ComesBefore, ToTry, Trying}
+use Rattle.candidates.proofs.Starting.{started}
 use Rattle.search.specs.declared.Found.{Found}
 use Rattle.search.specs.Search.{Fails, Outcome, noneFound, TriedSo}
 
@@ -136,14 +139,14 @@ module _ (need minutes earlier : List ℕ) (jobs modules : ℕ) (part : Part) (k
           absurd (omega (arith, s .choice .first j l b, starts j l .here r))
 
   -- Where the jobs to be tried lead nowhere, no job does.
-  pub all-tried : ToTry need minutes at (part .unplaced) jobs modules first
+  pub all-tried : (related : List ℕ) → Related need minutes earlier jobs modules related → ToTry minutes related at (part .unplaced) jobs first
       → ((j : ℕ) → j < jobs → bit first j ≡ true → ready S (P .placed) j ≡ true → Fails S target (w ++ (j ∷ [])))
       → (j : ℕ) → j < jobs → ready S (P .placed) j ≡ true → Fails S target (w ++ (j ∷ []))
-  all-tried try h j l r = go (try j l (known .is .figures .set j l ∙ ap not (ready-says S (P .placed) j r .new)))
+  all-tried related is-related try h j l r = go (try j l (known .is .figures .set j l ∙ ap not (ready-says S (P .placed) j r .new)))
     where
       go : (bit first j ≡ true)
           ⊎ ((i : ℕ) × (i < jobs)
-          × ((bit first i ≡ true) × ((getD at i 0 < 65535) × ComesBefore need minutes at (part .unplaced) jobs modules i j)))
+          × ((bit first i ≡ true) × ((getD at i 0 < 65535) × ComesBefore minutes related at (part .unplaced) i j)))
           → Fails S target (w ++ (j ∷ []))
       go (inl b) = h j l b r
       go (inr (i, m, (b, (low, before)))) = which before
@@ -151,14 +154,21 @@ module _ (need minutes earlier : List ℕ) (jobs modules : ℕ) (part : Part) (k
           ri : ready S (P .placed) i ≡ true
           ri = started (starts i m) low
 
-          which : ComesBefore need minutes at (part .unplaced) jobs modules i j → Fails S target (w ++ (j ∷ []))
+          -- the job and another unplaced one need more modules than there are
+          apart : Alone related (part .unplaced) i → (x : ℕ) → x < jobs → P .placed x ≡ false → ¬ (x ≡ i) → modules < getD need i 0 + getD need x 0
+          apart alone x y p d =
+              let free : bit (rowAt related i .beside) x ≡ false =
+              and-empty (part .unplaced) (rowAt related i .beside) alone x (known .is .figures .set x y ∙ ap not p) in
+              omega (arith, is-related i m .beside x y free d)
+
+          which : ComesBefore minutes related at (part .unplaced) i j → Fails S target (w ++ (j ∷ []))
           which (inl e) =
               idle-cut S (known .fit .lasting) (known .fit .narrow) w (known .is .follows) i j ri
               (omega (arith, starts i m .here ri, starts j l .here r)) (suc target) (h i m b ri)
           which (inr (e, alone)) =
               alone-cut S (known .fit .lasting) (known .fit .narrow) w (known .is .follows) i j ri
               (omega (arith, starts i m .here ri, starts j l .here r))
-              (λ x y p d. alone x y (known .is .figures .set x y ∙ ap not p) d) (suc target) (h i m b ri)
+              (apart alone) (suc target) (h i m b ri)
 
   -- what is known of the starts
   pub trying : (least : ℕ) → ((j : ℕ) → j < jobs → least ≤ getD at j 0) → Trying minutes at least (part .unplaced) jobs

@@ -20,8 +20,8 @@ use Rattle.placement.specs.declared.Part.{Part}
 use Rattle.placement.specs.Part.{wordOf, IsPart, Placeable, Placed}
 use Rattle.placement.proofs.Parts.{left-count, all-placed, placeable, fewer, placed-part}
 use Rattle.memory.specs.Entries.{Hit, Adds}
-use Rattle.branching.specs.Branching.{Known, theoryPart, JobStart, JobStarts}
-use Rattle.branching.proofs.Candidates.{started, none-before}
+use Rattle.candidates.specs.Candidates.{Known, theoryPart, JobStart, JobStarts}
+use Rattle.candidates.proofs.Starting.{started, none-before}
 use Rattle.search.proofs.Recalls.{remembered-adds, hit-cut}
 use Rattle.search.specs.Search.{Remembered, Fails, Outcome, finishedAs}
 

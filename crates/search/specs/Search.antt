@@ -7,36 +7,21 @@ use Prim.Native.Nat.{ℕ, suc, _/_, _≤_, _<_}
 use lib.Dec.{ltb}
 use lib.ListN.{length, getD, take, replicate}
 use Rattle.counting.specs.Counting.{only, largest}
-use Rattle.bits.specs.Bits.{bit, setOf}
+use Rattle.bits.specs.Bits.{bit}
 use Rattle.schedule.specs.Plan.{Sheet, finish, Circular}
 use Rattle.schedule.specs.ListPlan.{Order, noJobs, ready, Follows, startOf, partOf}
 use Rattle.schedule.specs.TieRule as tie
 use Rattle.schedule.specs.TieRule.{endOf}
-use Rattle.schedule.proofs.Chains.{chain}
 use Rattle.schedule.proofs.Places.{Begins, Before, CannotBeat}
 use Rattle.tables.specs.Tables.{sheetOf, Fit}
 use Rattle.placement.specs.declared.Part.{Part}
 use Rattle.placement.specs.Part.{wordOf}
-use Rattle.branching.specs.Branching.{Known}
+use Rattle.relations.specs.Relations.{Related}
+use Rattle.candidates.specs.Candidates.{Known}
 use Rattle.weights.specs.Weights.{Weighted}
 use Rattle.bounds.specs.Bounds.{Tails}
 use Rattle.memory.specs.Entries.{setAt, lastAt, endAt, entryAt}
 use Rattle.search.specs.declared.Found.{Found}
-
--- ---- chains and later jobs
-
--- the longest chains of at most k jobs
-pub record ChainsOf (need minutes earlier : List ℕ) (jobs modules : ℕ) (tails : List ℕ) (k : ℕ) : Type 0 where
-  pub size : length tails ≡ 20
-  pub each : (j : ℕ) → j < jobs → getD tails j 0 ≡ chain (sheetOf need minutes earlier jobs modules) k j
-
--- each job's later jobs: those of which it is an earlier job
-abbrev pub Laters : List ℕ → ℕ → List ℕ → Type 0
-Laters earlier jobs later = (i k : ℕ) → i < jobs → k < jobs → bit (getD later i 0) k ≡ bit (getD earlier k 0) i
-
--- the later jobs of job i
-abbrev pub LaterOf : List ℕ → ℕ → ℕ → ℕ → Type 0
-LaterOf earlier i n r = r ≡ setOf n (λ k. bit (getD earlier k 0) i)
 
 -- ---- working memory
 
@@ -88,21 +73,27 @@ pub record SettledAt (S : Sheet) (target : ℕ) (u : List ℕ) (i x : ℕ) : Typ
   pub soon : startOf S (partOf S u) x ≤ startOf S (partOf S u) i
   pub fails : Fails S target (u ++ (x ∷ []))
 
--- by each job of v, those that were settled when it was chosen
-pub record SettledSo (S : Sheet) (target : ℕ) (v by : List ℕ) : Type 0 where
+-- job x was settled behind u, where i was chosen, which starts at the last start
+abbrev pub SameStart : Sheet → ℕ → List ℕ → ℕ → Type 0
+SameStart S target v x = (u : List ℕ) × (i : ℕ) × (q : List ℕ) × (v ≡ u ++ (i ∷ q))
+    × ((partOf S v .plan .start i ≡ partOf S v .last) × SettledAt S target u i x)
+
+-- by each job of v, those that were settled when it was chosen; `same` has those of the jobs that start at the last start
+pub record SettledSo (S : Sheet) (target : ℕ) (v by : List ℕ) (same : ℕ) : Type 0 where
   pub size : length by ≡ 20
   pub each : (u : List ℕ) (i : ℕ) (q : List ℕ) (x : ℕ) → v ≡ u ++ (i ∷ q) → x < S .jobs → bit (getD by i 0) x ≡ true
       → SettledAt S target u i x
+  pub same-start : (x : ℕ) → x < S .jobs → bit same x ≡ true → SameStart S target v x
 
-pub record Searching (need minutes earlier later tails worth most : List ℕ) (jobs modules : ℕ) (part : Part) (by : List ℕ) (target : ℕ)
-    (memory : List ℕ)
+pub record Searching (need minutes earlier related tails worth most : List ℕ) (jobs modules : ℕ) (part : Part) (by : List ℕ)
+    (same target : ℕ) (memory : List ℕ)
     : Type 0 where
   pub low : target < 65535
   pub known : Known need minutes earlier jobs modules part
   pub chains : Tails (sheetOf need minutes earlier jobs modules) tails
-  pub laters : Laters earlier jobs later
+  pub related-is : Related need minutes earlier jobs modules related
   pub weighted : Weighted need minutes jobs modules worth most
-  pub settled : SettledSo (sheetOf need minutes earlier jobs modules) target (wordOf part) by
+  pub settled : SettledSo (sheetOf need minutes earlier jobs modules) target (wordOf part) by same
   pub remembered : Remembered (sheetOf need minutes earlier jobs modules) memory (suc target)
 
 -- the jobs of this set may come next, start no later than `start`, and lead to no order that ends by the target
@@ -132,10 +123,10 @@ abbrev pub keptAs : Found → Found
 keptAs best = record { hit = false; end = best .end; order = best .order }
 
 -- the tables, an order, and what is remembered of orders that end earlier
-pub record Lowering (need minutes earlier later tails worth most : List ℕ) (jobs modules : ℕ) (best : Found) (memory : List ℕ) : Type 0 where
+pub record Lowering (need minutes earlier related tails worth most : List ℕ) (jobs modules : ℕ) (best : Found) (memory : List ℕ) : Type 0 where
   pub fit : Fit need minutes jobs modules
   pub chains : Tails (sheetOf need minutes earlier jobs modules) tails
-  pub laters : Laters earlier jobs later
+  pub related-is : Related need minutes earlier jobs modules related
   pub weighted : Weighted need minutes jobs modules worth most
   pub best-is : OrderOf (sheetOf need minutes earlier jobs modules) best
   pub remembered : Remembered (sheetOf need minutes earlier jobs modules) memory (best .end)
@@ -152,11 +143,11 @@ pub record Lowest (S : Sheet) (r : Found) : Type 0 where
   pub least : (o : List ℕ) → Order S o → r .end ≤ endOf S o
 
 -- the same, from a part-plan on
-pub record Going (need minutes earlier later tails worth most : List ℕ) (jobs modules : ℕ) (part : Part) (target : ℕ) (memory : List ℕ) : Type 0 where
+pub record Going (need minutes earlier related tails worth most : List ℕ) (jobs modules : ℕ) (part : Part) (target : ℕ) (memory : List ℕ) : Type 0 where
   pub low : target < 65535
   pub known : Known need minutes earlier jobs modules part
   pub chains : Tails (sheetOf need minutes earlier jobs modules) tails
-  pub laters : Laters earlier jobs later
+  pub related-is : Related need minutes earlier jobs modules related
   pub weighted : Weighted need minutes jobs modules worth most
   pub remembered : Remembered (sheetOf need minutes earlier jobs modules) memory (suc target)
 

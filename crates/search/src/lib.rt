@@ -2,19 +2,18 @@
 // end until no order ends earlier, and then it settles the places of the order one after another.
 ghost use mathlib.Core.Path.{_≡_};
 ghost use mathlib.Core.Logic.{_⊎_};
-ghost use mathlib.Core.Bool.{true, cond};
+ghost use mathlib.Core.Bool.{true};
 ghost use mathlib.Core.List.{[], _∷_, _++_};
 ghost use Prim.Native.Nat.{suc, _+_, _<_, _≤_};
 ghost use lib.ListN.{length, getD, take, replicate};
-ghost use Rattle.counting.specs.Counting.{only, largest};
-ghost use Rattle.bits.specs.Bits.{bit, withBit};
+ghost use Rattle.counting.specs.Counting.{largest};
 ghost use Rattle.schedule.specs.ListPlan.{ready};
 ghost use Rattle.schedule.specs.TieRule as tie;
 ghost use Rattle.schedule.specs.TieRule.{endOf};
 ghost use Rattle.tables.specs.Tables.{sheetOf, Fit};
 ghost use Rattle.placement.specs.Part.{wordOf, firstPart};
-ghost use Rattle.branching.specs.Branching.{Known, theoryPart, EachStart};
-ghost use Rattle.search.specs.Search.{Outcome, finishedAs, noneFound, Searching, TriedSo, Remembered, ChainsOf, Laters, LaterOf};
+ghost use Rattle.candidates.specs.Candidates.{Known, theoryPart, EachStart};
+ghost use Rattle.search.specs.Search.{Outcome, finishedAs, noneFound, Searching, TriedSo, Remembered};
 ghost use Rattle.search.specs.Search.{Listed, keptAs, Lowering, Lowered, Lowest, Going, Placing, Answer};
 use branching::Settled;
 use placement::Part;
@@ -71,7 +70,7 @@ fn visit(
     need: &[u16; 20],
     minutes: &[u16; 20],
     earlier: &[u32; 20],
-    later: &[u32; 20],
+    related: &[u32; 60],
     tails: &[u16; 20],
     worth: &[u32; 100],
     most: &[u16; 325],
@@ -82,7 +81,7 @@ fn visit(
     target: u16,
     memory: &mut [u8],
 ) -> Found
-    requires { ⌜ Searching (now need) (now minutes) (now earlier) (now later) (now tails) (now worth) (now most) jobs modules part (settled .by) target
+    requires { ⌜ Searching (now need) (now minutes) (now earlier) (now related) (now tails) (now worth) (now most) jobs modules part (settled .by) (settled .same) target
         (now memory) ⌝ }
     ensures outcome { λ r. ⌜ Outcome (sheetOf (now (need .entry)) (now (minutes .entry)) (now (earlier .entry)) jobs modules) target
         (wordOf part) r ⌝ }
@@ -93,7 +92,7 @@ fn visit(
     if u32::count_ones(unplaced) == 0 {
         return finished(part, jobs, target);
     }
-    let starts = branching::ready_starts(need, minutes, earlier, jobs, modules, part);
+    let starts = candidates::ready_starts(need, minutes, earlier, jobs, modules, part);
     let at = starts.at;
     let least = starts.least;
     if bounds::hopeless(
@@ -114,17 +113,17 @@ fn visit(
     if memory::recall(memory, &part.ends, jobs, unplaced, least) {
         return none_found();
     }
-    let first = branching::to_try(need, minutes, &at, least, unplaced, jobs, modules);
+    let first = branching::to_try(minutes, related, &at, least, unplaced, jobs);
     let mut left = first;
     let mut tried: u32 = 0;
-    let mut c = branching::next_choice(&at, tails, left, jobs);
+    let mut c = candidates::next_choice(&at, tails, left, jobs);
     while c.start != 65535 {
         let job = c.job;
         let found = try_children(
             need,
             minutes,
             earlier,
-            later,
+            related,
             tails,
             worth,
             most,
@@ -143,7 +142,7 @@ fn visit(
         }
         left = bits::clear32(left, job);
         tried = bits::set32(tried, job);
-        c = branching::next_choice(&at, tails, left, jobs);
+        c = candidates::next_choice(&at, tails, left, jobs);
     }
     memory::remember(memory, &part.ends, jobs, unplaced, part.last);
     none_found()
@@ -154,7 +153,7 @@ fn try_children(
     need: &[u16; 20],
     minutes: &[u16; 20],
     earlier: &[u32; 20],
-    later: &[u32; 20],
+    related: &[u32; 60],
     tails: &[u16; 20],
     worth: &[u32; 100],
     most: &[u16; 325],
@@ -168,7 +167,7 @@ fn try_children(
     job: usize,
     memory: &mut [u8],
 ) -> Found
-    requires { ⌜ Searching (now need) (now minutes) (now earlier) (now later) (now tails) (now worth) (now most) jobs modules part (settled .by) target
+    requires { ⌜ Searching (now need) (now minutes) (now earlier) (now related) (now tails) (now worth) (now most) jobs modules part (settled .by) (settled .same) target
         (now memory) ⌝ }
     requires { ⌜ EachStart (now need) (now minutes) (now earlier) jobs modules part (now at) ⌝ }
     requires { ⌜ (TriedSo (now need) (now minutes) (now earlier) jobs modules part target (now at) tried (getD (now at) job 0))
@@ -178,27 +177,28 @@ fn try_children(
     ensures remembered { λ _. ⌜ Remembered (sheetOf (now (need .entry)) (now (minutes .entry)) (now (earlier .entry)) jobs modules)
         (now (memory .exit)) (suc target) ⌝ }
 {
+    let start = at[job];
     if branching::passed_over(
-        need,
-        minutes,
-        later,
-        at,
+        related,
         &part.ends,
         &settled.by,
+        settled.same,
         part.unplaced,
         tried,
+        part.last,
+        start,
         jobs,
         job,
     ) {
         return none_found();
     }
-    let child = placement::place(part, job, at[job], need[job], minutes[job], modules);
-    let next = branching::with_settled(settled, job, tried);
+    let child = placement::place(part, job, start, need[job], minutes[job], modules);
+    let next = branching::with_settled(settled, job, tried, start, part.last);
     visit(
         need,
         minutes,
         earlier,
-        later,
+        related,
         tails,
         worth,
         most,
@@ -209,124 +209,6 @@ fn try_children(
         target,
         memory,
     )
-}
-
-// The chain behind a job j that ends with a job of this set of earlier jobs: its minutes, where j is in the set.
-fn behind(tail: u16, set: u32, j: usize) -> u16
-    requires { ⌜ j < 20 ⌝ }
-    ensures { λ r. ⌜ r ≡ only (bit set j) tail ⌝ }
-{
-    if bits::test32(set, j) {
-        return tail;
-    }
-    0
-}
-
-// The longest chain behind job j.
-fn longest_behind<'a>(tails: &'a [u16; 20], earlier: &[u32; 20], jobs: usize, j: usize) -> u16
-    requires { ⌜ (jobs ≤ 20) × (j < 20) ⌝ }
-    ensures { λ r. ⌜ r ≡ largest jobs (λ i. only (bit (getD (now (earlier .entry)) i 0) j) (getD (now (tails .entry)) i 0)) ⌝ }
-{
-    let mut r: u16 = 0;
-    let mut i: usize = 0;
-    while i < jobs {
-        r = placement::later(r, behind(tails[i], earlier[i], j));
-        i += 1;
-    }
-    r
-}
-
-// The longest chain that begins with each job.
-pub struct Tails {
-    pub at: [u16; 20],
-}
-
-// The longest chains of k + 1 jobs, from those of k.
-fn lengthen(
-    need: &[u16; 20],
-    minutes: &[u16; 20],
-    earlier: &[u32; 20],
-    jobs: usize,
-    modules: u16,
-    tails: Tails,
-    k: usize,
-) -> Tails
-    requires { ⌜ (Fit (now need) (now minutes) jobs modules)
-        × ((ChainsOf (now need) (now minutes) (now earlier) jobs modules (tails .at) k) × (k < 20)) ⌝ }
-    ensures { λ r. ⌜ ChainsOf (now (need .entry)) (now (minutes .entry)) (now (earlier .entry)) jobs modules (r .at) (k + 1) ⌝ }
-{
-    let mut next = [0u16; 20];
-    let mut j: usize = 0;
-    while j < jobs {
-        next[j] = minutes[j] + longest_behind(&tails.at, earlier, jobs, j);
-        j += 1;
-    }
-    Tails { at: next }
-}
-
-// The longest chain that begins with each job.
-fn chains(
-    need: &[u16; 20],
-    minutes: &[u16; 20],
-    earlier: &[u32; 20],
-    jobs: usize,
-    modules: u16,
-) -> Tails
-    requires { ⌜ Fit (now need) (now minutes) jobs modules ⌝ }
-    ensures { λ r. ⌜ ChainsOf (now (need .entry)) (now (minutes .entry)) (now (earlier .entry)) jobs modules (r .at) jobs ⌝ }
-{
-    let mut tails = Tails { at: [0u16; 20] };
-    let mut k: usize = 0;
-    while k < jobs {
-        tails = lengthen(need, minutes, earlier, jobs, modules, tails, k);
-        k += 1;
-    }
-    tails
-}
-
-// ---- the jobs that wait for each job
-
-// The set with k, where job k waits for job i.
-fn with_later(set: u32, earlier: u32, i: usize, k: usize) -> u32
-    requires { ⌜ (i < 20) × (k < 20) ⌝ }
-    ensures { λ r. ⌜ r ≡ cond (bit earlier i) (withBit set k) set ⌝ }
-{
-    if bits::test32(earlier, i) {
-        return bits::set32(set, k);
-    }
-    set
-}
-
-// The later jobs of job i.
-fn later_of(earlier: &[u32; 20], jobs: usize, i: usize) -> u32
-    requires { ⌜ (jobs ≤ 20) × (i < 20) ⌝ }
-    ensures { λ r. ⌜ LaterOf (now (earlier .entry)) i jobs r ⌝ }
-{
-    let mut set: u32 = 0;
-    let mut k: usize = 0;
-    while k < jobs {
-        set = with_later(set, earlier[k], i, k);
-        k += 1;
-    }
-    set
-}
-
-// The later jobs of each job.
-pub struct LaterJobs {
-    pub of: [u32; 20],
-}
-
-fn later_jobs(earlier: &[u32; 20], jobs: usize) -> LaterJobs
-    requires { ⌜ jobs ≤ 20 ⌝ }
-    ensures { λ r. ⌜ Laters (now (earlier .entry)) jobs (r .of) ⌝ }
-{
-    let mut of = [0u32; 20];
-    let mut i: usize = 0;
-    while i < jobs {
-        of[i] = later_of(earlier, jobs, i);
-        i += 1;
-    }
-    LaterJobs { of }
 }
 
 // ---- list heuristics
@@ -345,9 +227,9 @@ pub fn list_order(
 {
     let mut part = placement::first_part(need, minutes, jobs, modules);
     while u32::count_ones(part.unplaced) != 0 {
-        let starts = branching::ready_starts(need, minutes, earlier, jobs, modules, part);
+        let starts = candidates::ready_starts(need, minutes, earlier, jobs, modules, part);
         let at = starts.at;
-        let c = branching::next_choice(&at, weights, part.unplaced, jobs);
+        let c = candidates::next_choice(&at, weights, part.unplaced, jobs);
         if c.start == 65535 {
             return Found {
                 hit: false,
@@ -408,7 +290,7 @@ fn lower(
     need: &[u16; 20],
     minutes: &[u16; 20],
     earlier: &[u32; 20],
-    later: &[u32; 20],
+    related: &[u32; 60],
     tails: &[u16; 20],
     worth: &[u32; 100],
     most: &[u16; 325],
@@ -417,7 +299,7 @@ fn lower(
     best: Found,
     memory: &mut [u8],
 ) -> Found
-    requires { ⌜ Lowering (now need) (now minutes) (now earlier) (now later) (now tails) (now worth) (now most) jobs modules best (now memory) ⌝ }
+    requires { ⌜ Lowering (now need) (now minutes) (now earlier) (now related) (now tails) (now worth) (now most) jobs modules best (now memory) ⌝ }
     ensures lowered { λ r. ⌜ Lowered (sheetOf (now (need .entry)) (now (minutes .entry)) (now (earlier .entry)) jobs modules) best r ⌝ }
     ensures remembered { λ r. ⌜ Remembered (sheetOf (now (need .entry)) (now (minutes .entry)) (now (earlier .entry)) jobs modules)
         (now (memory .exit)) (r .end) ⌝ }
@@ -432,7 +314,7 @@ fn lower(
         need,
         minutes,
         earlier,
-        later,
+        related,
         tails,
         worth,
         most,
@@ -454,7 +336,7 @@ fn lowest(
     need: &[u16; 20],
     minutes: &[u16; 20],
     earlier: &[u32; 20],
-    later: &[u32; 20],
+    related: &[u32; 60],
     tails: &[u16; 20],
     worth: &[u32; 100],
     most: &[u16; 325],
@@ -463,14 +345,14 @@ fn lowest(
     listed: Found,
     memory: &mut [u8],
 ) -> Found
-    requires { ⌜ Lowering (now need) (now minutes) (now earlier) (now later) (now tails) (now worth) (now most) jobs modules listed (now memory) ⌝ }
+    requires { ⌜ Lowering (now need) (now minutes) (now earlier) (now related) (now tails) (now worth) (now most) jobs modules listed (now memory) ⌝ }
     ensures { λ r. ⌜ Lowest (sheetOf (now (need .entry)) (now (minutes .entry)) (now (earlier .entry)) jobs modules) r ⌝ }
 {
     let mut best = lower(
         need,
         minutes,
         earlier,
-        later,
+        related,
         tails,
         worth,
         most,
@@ -484,7 +366,7 @@ fn lowest(
             need,
             minutes,
             earlier,
-            later,
+            related,
             tails,
             worth,
             most,
@@ -504,7 +386,7 @@ fn try_place(
     need: &[u16; 20],
     minutes: &[u16; 20],
     earlier: &[u32; 20],
-    later: &[u32; 20],
+    related: &[u32; 60],
     tails: &[u16; 20],
     worth: &[u32; 100],
     most: &[u16; 325],
@@ -515,14 +397,14 @@ fn try_place(
     j: usize,
     memory: &mut [u8],
 ) -> Found
-    requires { ⌜ (Going (now need) (now minutes) (now earlier) (now later) (now tails) (now worth) (now most) jobs modules part target (now memory))
+    requires { ⌜ (Going (now need) (now minutes) (now earlier) (now related) (now tails) (now worth) (now most) jobs modules part target (now memory))
         × (j < jobs) ⌝ }
     ensures outcome { λ r. ⌜ Outcome (sheetOf (now (need .entry)) (now (minutes .entry)) (now (earlier .entry)) jobs modules) target
         (wordOf part ++ (j ∷ [])) r ⌝ }
     ensures remembered { λ _. ⌜ Remembered (sheetOf (now (need .entry)) (now (minutes .entry)) (now (earlier .entry)) jobs modules)
         (now (memory .exit)) (suc target) ⌝ }
 {
-    let start = branching::start_or_none(need, minutes, earlier, jobs, modules, part, j);
+    let start = candidates::start_or_none(need, minutes, earlier, jobs, modules, part, j);
     if start == 65535 {
         return none_found();
     }
@@ -532,7 +414,7 @@ fn try_place(
         need,
         minutes,
         earlier,
-        later,
+        related,
         tails,
         worth,
         most,
@@ -557,7 +439,7 @@ fn settle_place(
     need: &[u16; 20],
     minutes: &[u16; 20],
     earlier: &[u32; 20],
-    later: &[u32; 20],
+    related: &[u32; 60],
     tails: &[u16; 20],
     worth: &[u32; 100],
     most: &[u16; 325],
@@ -567,7 +449,7 @@ fn settle_place(
     best: Found,
     memory: &mut [u8],
 ) -> Found
-    requires { ⌜ (Going (now need) (now minutes) (now earlier) (now later) (now tails) (now worth) (now most) jobs modules part (best .end) (now memory))
+    requires { ⌜ (Going (now need) (now minutes) (now earlier) (now related) (now tails) (now worth) (now most) jobs modules part (best .end) (now memory))
         × ((Placing (sheetOf (now need) (now minutes) (now earlier) jobs modules) (wordOf part) best) × (part .placed < jobs)) ⌝ }
     ensures placed { λ r. ⌜ Placing (sheetOf (now (need .entry)) (now (minutes .entry)) (now (earlier .entry)) jobs modules)
         (wordOf part ++ (getD (r .order) (part .placed) 0 ∷ [])) r ⌝ }
@@ -582,7 +464,7 @@ fn settle_place(
             need,
             minutes,
             earlier,
-            later,
+            related,
             tails,
             worth,
             most,
@@ -617,7 +499,7 @@ fn go_on(
     ensures { λ r. ⌜ (Known (now (need .entry)) (now (minutes .entry)) (now (earlier .entry)) jobs modules r)
         × ((wordOf r ≡ wordOf part ++ (j ∷ [])) × (r .placed ≡ part .placed + 1)) ⌝ }
 {
-    let start = branching::start_or_none(need, minutes, earlier, jobs, modules, part, j);
+    let start = candidates::start_or_none(need, minutes, earlier, jobs, modules, part, j);
     placement::place(part, j, start, need[j], minutes[j], modules)
 }
 
@@ -626,7 +508,7 @@ fn first_order(
     need: &[u16; 20],
     minutes: &[u16; 20],
     earlier: &[u32; 20],
-    later: &[u32; 20],
+    related: &[u32; 60],
     tails: &[u16; 20],
     worth: &[u32; 100],
     most: &[u16; 325],
@@ -636,7 +518,7 @@ fn first_order(
     memory: &mut [u8],
 ) -> Found
     requires { ⌜ (Lowest (sheetOf (now need) (now minutes) (now earlier) jobs modules) least)
-        × (Going (now need) (now minutes) (now earlier) (now later) (now tails) (now worth) (now most) jobs modules
+        × (Going (now need) (now minutes) (now earlier) (now related) (now tails) (now worth) (now most) jobs modules
         (firstPart (now need) (now minutes) jobs modules) (least .end) (now memory)) ⌝ }
     ensures { λ r. ⌜ (tie.Best (sheetOf (now (need .entry)) (now (minutes .entry)) (now (earlier .entry)) jobs modules)
         (take jobs (r .order)))
@@ -651,7 +533,7 @@ fn first_order(
             need,
             minutes,
             earlier,
-            later,
+            related,
             tails,
             worth,
             most,
@@ -689,10 +571,10 @@ pub fn run(
     ensures cleared { λ _. ⌜ now (memory .exit) ≡ replicate (length (now (memory .entry))) 0 ⌝ }
 {
     memory::clear(memory);
-    let chains = chains(need, minutes, earlier, jobs, modules);
+    let chains = relations::chains(need, minutes, earlier, jobs, modules);
     let tails = chains.at;
-    let laters = later_jobs(earlier, jobs);
-    let later = laters.of;
+    let relations = relations::relate(need, minutes, earlier, jobs, modules);
+    let related = relations.of;
     let weights = weights::weightings(need, minutes, jobs, modules);
     let worth = weights.worth;
     let most = weights.most;
@@ -704,7 +586,7 @@ pub fn run(
         need,
         minutes,
         earlier,
-        &later,
+        &related,
         &tails,
         &worth,
         &most,
@@ -718,7 +600,7 @@ pub fn run(
         need,
         minutes,
         earlier,
-        &later,
+        &related,
         &tails,
         &worth,
         &most,

@@ -1,51 +1,59 @@
 -- `bounds::some_too_long` meets its contract.
 use mathlib.Core.Path.{refl}
 use mathlib.Core.Bool.{false}
-use Prim.Native.Nat.{_-_, _≤_}
-use Rattle.counting.proofs.Tests.{clash}
+use native.Mathlib.Omega.{arith}
+use native.Mathlib.Nat.{pos-of-ne-zero}
+use lib.Count.{ones}
 use borrow.Author.Needs.{needs}
+use Rattle.counting.proofs.Tests.{clash}
+use Rattle.bits.proofs.Walks.{Walk, walk-first, walk-next, walk-less}
 use Rattle.bounds.proofs.some_too_long.Statement.{statement}
 use Rattle.bounds.proofs.some_too_long.Tie as tie
 
 abbrev Inv-loop : tie.InvT-loop
-Inv-loop at tails jobs end j₀ j = j ≤ jobs
+Inv-loop at tails set jobs end rest₀ rest = Walk set jobs rest
 
 abbrev μ-loop : tie.MeasureT-loop
-μ-loop at tails jobs end j₀ j = jobs - j
+μ-loop at tails set jobs end rest₀ rest = ones rest
+
+below32-requires : tie.Need-below32-requires Inv-loop μ-loop
+below32-requires c κs = omega (arith, c .pre)
 
 loop-holds : tie.Need-loop-holds Inv-loop μ-loop
-loop-holds c = search needs
+loop-holds c = rw (c .below32 .ensures) (walk-first _ _)
+
+lowest32-requires : tie.Need-lowest32-requires Inv-loop μ-loop
+lowest32-requires c κs = pos-of-ne-zero (c .loop-test .taken)
 
 mul-too-long : tie.Need-mul-too-long Inv-loop μ-loop
-mul-too-long c = search needs
+mul-too-long c = record { fits = omega (arith, c .lowest32 .ensures .0) }
 
 element-copy-out-too-long : tie.Need-element-copy-out-too-long Inv-loop μ-loop
-element-copy-out-too-long c = search needs
+element-copy-out-too-long c = omega (arith, c .before .before .loop .inv .below _ (c .lowest32 .ensures .1), c .before .before .before .before .pre)
 
 mul-too-long-2 : tie.Need-mul-too-long-2 Inv-loop μ-loop
-mul-too-long-2 c = search needs
+mul-too-long-2 c = record { fits = omega (arith, c .before .lowest32 .ensures .0) }
 
 element-copy-out-too-long-2 : tie.Need-element-copy-out-too-long-2 Inv-loop μ-loop
-element-copy-out-too-long-2 c = search needs
+element-copy-out-too-long-2 c = omega (arith, c .before .before .before .loop .inv .below _ (c .before .lowest32 .ensures .1), c .before .before .before .before .before .pre)
 
 too-long-requires : tie.Need-too-long-requires Inv-loop μ-loop
 too-long-requires c κs = search needs
 
 returns : tie.Need-returns Inv-loop μ-loop
-returns c =
-    let too-long = c .before .too-long in
-    let loop = c .before .before .before .before .before .loop in
-    let loop-test = c .before .before .before .before .loop-test in
-    λ e. let f = too-long .ensures (c .if1 .taken) in (loop .j, loop-test .taken, f .0, f .1)
+returns c = λ e.
+    let f = c .before .too-long .ensures (c .if1 .taken) in
+    let j = c .before .before .before .before .lowest32 in
+    (j .result, c .before .before .before .before .before .before .loop .inv .below _ (j .ensures .1), f .0, f .1)
 
-add-j : tie.Need-add-j Inv-loop μ-loop
-add-j c = search needs
+clear32-requires : tie.Need-clear32-requires Inv-loop μ-loop
+clear32-requires c κs = c .before .before .before .before .lowest32 .ensures .0
 
 loop-less : tie.Need-loop-less Inv-loop μ-loop
-loop-less c = search needs
+loop-less c = rw (c .clear32 .ensures) (walk-less _ _ (c .before .before .before .before .before .lowest32 .ensures .1))
 
 loop-again : tie.Need-loop-again Inv-loop μ-loop
-loop-again c = search needs
+loop-again c = rw (c .clear32 .ensures) (walk-next _ (c .before .before .before .before .before .before .before .loop .inv))
 
 returns-2 : tie.Need-returns-2 Inv-loop μ-loop
 returns-2 c = λ e. clash false e refl
@@ -56,14 +64,16 @@ some-too-long-spec =
     (tie.spec
     Inv-loop
     μ-loop
+    below32-requires
     loop-holds
+    lowest32-requires
     mul-too-long
     element-copy-out-too-long
     mul-too-long-2
     element-copy-out-too-long-2
     too-long-requires
     returns
-    add-j
+    clear32-requires
     loop-less
     loop-again
     returns-2)

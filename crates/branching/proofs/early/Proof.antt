@@ -1,54 +1,56 @@
 -- `branching::early` meets its contract.
-use mathlib.Core.Path.{_≡_, ap, _∙_}
-use mathlib.Core.Bool.{cond}
-use Prim.Native.Nat.{ℕ, _-_, _≤_}
 use native.Mathlib.Omega.{arith}
-use Rattle.bits.specs.Bits.{withBit, setOf}
-use Rattle.bits.proofs.Sets.{setOf-none, setOf-more}
-use Rattle.branching.specs.Branching.{startsBefore}
-use borrow.Author.Needs.{needs}
+use native.Mathlib.Nat.{pos-of-ne-zero}
+use lib.Count.{ones}
+use Rattle.bits.proofs.Walks.{walk-less}
+use Rattle.branching.proofs.Trying.{Sifting, sifting-none, sifting-step, sifting-all}
 use Rattle.branching.proofs.early.Statement.{statement}
 use Rattle.branching.proofs.early.Tie as tie
 
 abbrev Inv-loop : tie.InvT-loop
-Inv-loop at end set jobs r₀ j₀ r j = (j ≤ jobs) × (r ≡ setOf j (startsBefore at end set))
+Inv-loop at end set jobs r₀ rest₀ r rest = Sifting at end set jobs r rest
 
 abbrev μ-loop : tie.MeasureT-loop
-μ-loop at end set jobs r₀ j₀ r j = jobs - j
+μ-loop at end set jobs r₀ rest₀ r rest = ones rest
+
+below32-requires : tie.Need-below32-requires Inv-loop μ-loop
+below32-requires c κs = omega (arith, c .pre)
 
 loop-holds : tie.Need-loop-holds Inv-loop μ-loop
-loop-holds c = (omega arith, setOf-none _)
+loop-holds c =
+    let a = c .before .args in
+    rw (c .below32 .ensures) (sifting-none (a .at .now) (a .end) (a .set) (a .jobs))
+
+lowest32-requires : tie.Need-lowest32-requires Inv-loop μ-loop
+lowest32-requires c κs = pos-of-ne-zero (c .loop-test .taken)
 
 mul-with-early : tie.Need-mul-with-early Inv-loop μ-loop
-mul-with-early c = search needs
+mul-with-early c = record { fits = omega (arith, c .lowest32 .ensures .0) }
 
 element-copy-out-with-early : tie.Need-element-copy-out-with-early Inv-loop μ-loop
-element-copy-out-with-early c = search needs
+element-copy-out-with-early c = omega (arith, c .before .before .loop .inv .walk .below _ (c .lowest32 .ensures .1), c .before .before .before .before .pre)
 
 with-early-requires : tie.Need-with-early-requires Inv-loop μ-loop
-with-early-requires c κs = search needs
+with-early-requires c κs = omega (arith, c .before .before .before .loop .inv .walk .below _ (c .before .lowest32 .ensures .1), c .before .before .before .before .before .pre)
 
-add-j : tie.Need-add-j Inv-loop μ-loop
-add-j c = search needs
+clear32-requires : tie.Need-clear32-requires Inv-loop μ-loop
+clear32-requires c κs = c .before .before .lowest32 .ensures .0
 
 loop-less : tie.Need-loop-less Inv-loop μ-loop
-loop-less c = search needs
+loop-less c = rw (c .clear32 .ensures) (walk-less _ _ (c .before .before .before .lowest32 .ensures .1))
 
 loop-again : tie.Need-loop-again Inv-loop μ-loop
 loop-again c =
-    let loop = c .before .before .before .loop in
-    let a = c .before .before .before .before .args in
-    let test = startsBefore (a .at .now) (a .end) (a .set) in (
-      omega arith,
-      c .with-early .ensures ∙ ap (λ (x : ℕ). cond (test (loop .j)) (withBit x (loop .j)) x) (loop .inv .1)
-          ∙ setOf-more (loop .j) test,
-    )
+    let a = c .before .before .before .before .before .before .before .args in
+    let loop = c .before .before .before .before .before .loop in
+    rw (c .clear32 .ensures, c .before .with-early .ensures) (sifting-step (a .at .now) (a .end) (a .set) (a .jobs) (loop .r) (loop .rest)
+    (c .before .before .before .lowest32 .result) (loop .inv))
 
 returns : tie.Need-returns Inv-loop μ-loop
 returns c =
+    let a = c .before .before .before .args in
     let loop = c .before .loop in
-    let e : loop .j ≡ c .before .before .args .jobs = omega (arith, loop .inv .0, c .loop-test .left) in
-    rw e at (loop .inv .1)
+    sifting-all (a .at .now) (a .end) (a .set) (a .jobs) (loop .r) (loop .rest) (loop .inv) (c .loop-test .left)
 
 pub early-spec : {M : Type 1} → statement M
 early-spec =
@@ -56,11 +58,13 @@ early-spec =
     (tie.spec
     Inv-loop
     μ-loop
+    below32-requires
     loop-holds
+    lowest32-requires
     mul-with-early
     element-copy-out-with-early
     with-early-requires
-    add-j
+    clear32-requires
     loop-less
     loop-again
     returns)

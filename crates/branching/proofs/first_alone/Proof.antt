@@ -1,39 +1,46 @@
 -- `branching::first_alone` meets its contract.
-use Prim.Native.Nat.{_-_, _≤_}
 use native.Mathlib.Omega.{arith}
-use borrow.Author.Needs.{needs}
+use native.Mathlib.Nat.{pos-of-ne-zero}
+use lib.Count.{ones}
+use Rattle.bits.proofs.Walks.{Walk, walk-first, walk-next, walk-less}
 use Rattle.branching.proofs.first_alone.Statement.{statement}
 use Rattle.branching.proofs.first_alone.Tie as tie
 
 abbrev Inv-loop : tie.InvT-loop
-Inv-loop need at least set jobs modules i₀ i = i ≤ jobs
+Inv-loop related at least set jobs rest₀ rest = Walk set jobs rest
 
 abbrev μ-loop : tie.MeasureT-loop
-μ-loop need at least set jobs modules i₀ i = jobs - i
+μ-loop related at least set jobs rest₀ rest = ones rest
+
+below32-requires : tie.Need-below32-requires Inv-loop μ-loop
+below32-requires c κs = omega (arith, c .pre)
 
 loop-holds : tie.Need-loop-holds Inv-loop μ-loop
-loop-holds c = search needs
+loop-holds c = rw (c .below32 .ensures) (walk-first _ _)
+
+lowest32-requires : tie.Need-lowest32-requires Inv-loop μ-loop
+lowest32-requires c κs = pos-of-ne-zero (c .loop-test .taken)
 
 mul-alone-at : tie.Need-mul-alone-at Inv-loop μ-loop
-mul-alone-at c = search needs
+mul-alone-at c = record { fits = omega (arith, c .lowest32 .ensures .0) }
 
 element-copy-out-alone-at : tie.Need-element-copy-out-alone-at Inv-loop μ-loop
-element-copy-out-alone-at c = search needs
+element-copy-out-alone-at c = omega (arith, c .before .before .loop .inv .below _ (c .lowest32 .ensures .1), c .before .before .before .before .pre)
 
 alone-at-requires : tie.Need-alone-at-requires Inv-loop μ-loop
-alone-at-requires c κs = search needs
+alone-at-requires c κs = omega (arith, c .before .before .before .loop .inv .below _ (c .before .lowest32 .ensures .1), c .before .before .before .before .before .pre)
 
 returns : tie.Need-returns Inv-loop μ-loop
 returns c = λ l. c .before .alone-at .ensures (c .if1 .taken)
 
-add-i : tie.Need-add-i Inv-loop μ-loop
-add-i c = search needs
+clear32-requires : tie.Need-clear32-requires Inv-loop μ-loop
+clear32-requires c κs = c .before .before .before .lowest32 .ensures .0
 
 loop-less : tie.Need-loop-less Inv-loop μ-loop
-loop-less c = search needs
+loop-less c = rw (c .clear32 .ensures) (walk-less _ _ (c .before .before .before .before .lowest32 .ensures .1))
 
 loop-again : tie.Need-loop-again Inv-loop μ-loop
-loop-again c = search needs
+loop-again c = rw (c .clear32 .ensures) (walk-next _ (c .before .before .before .before .before .before .loop .inv))
 
 returns-2 : tie.Need-returns-2 Inv-loop μ-loop
 returns-2 c = λ l. absurd (omega arith)
@@ -44,12 +51,14 @@ first-alone-spec =
     (tie.spec
     Inv-loop
     μ-loop
+    below32-requires
     loop-holds
+    lowest32-requires
     mul-alone-at
     element-copy-out-alone-at
     alone-at-requires
     returns
-    add-i
+    clear32-requires
     loop-less
     loop-again
     returns-2)

@@ -1,54 +1,64 @@
 -- `branching::first_end` meets its contract.
-use Prim.Native.Nat.{_-_, _≤_}
-use mathlib.Core.Path.{_≡_}
+use mathlib.Core.Path.{refl}
+use mathlib.Core.Logic.{inl}
 use native.Mathlib.Omega.{arith}
-use Rattle.branching.specs.Branching.{FirstEnd}
-use Rattle.branching.proofs.Trying.{first-none, first-more}
+use native.Mathlib.Nat.{pos-of-ne-zero}
+use lib.Count.{ones}
 use borrow.Author.Needs.{needs}
+use Rattle.bits.proofs.Walks.{Walk, walk-first, walk-next, walk-less}
+use Rattle.branching.specs.Branching.{EndOfOne}
+use Rattle.branching.proofs.Trying.{or-ends}
 use Rattle.branching.proofs.first_end.Statement.{statement}
 use Rattle.branching.proofs.first_end.Tie as tie
 
 abbrev Inv-loop : tie.InvT-loop
-Inv-loop minutes at jobs r₀ j₀ r j = (j ≤ jobs) × FirstEnd minutes at j r
+Inv-loop minutes at set jobs r₀ rest₀ r rest = Walk set jobs rest × EndOfOne minutes at jobs r
 
 abbrev μ-loop : tie.MeasureT-loop
-μ-loop minutes at jobs r₀ j₀ r j = jobs - j
+μ-loop minutes at set jobs r₀ rest₀ r rest = ones rest
+
+below32-requires : tie.Need-below32-requires Inv-loop μ-loop
+below32-requires c κs = omega (arith, c .pre)
 
 loop-holds : tie.Need-loop-holds Inv-loop μ-loop
-loop-holds c = (omega arith, first-none (c .args .minutes .now) (c .args .at .now))
+loop-holds c = (rw (c .below32 .ensures) (walk-first _ _), inl refl)
+
+lowest32-requires : tie.Need-lowest32-requires Inv-loop μ-loop
+lowest32-requires c κs = pos-of-ne-zero (c .loop-test .taken)
 
 mul-or-ends : tie.Need-mul-or-ends Inv-loop μ-loop
-mul-or-ends c = search needs
+mul-or-ends c = record { fits = omega (arith, c .lowest32 .ensures .0) }
 
 element-copy-out-or-ends : tie.Need-element-copy-out-or-ends Inv-loop μ-loop
-element-copy-out-or-ends c = search needs
+element-copy-out-or-ends c = omega (arith, c .before .before .loop .inv .0 .below _ (c .lowest32 .ensures .1), c .before .before .before .before .pre)
 
 mul-or-ends-2 : tie.Need-mul-or-ends-2 Inv-loop μ-loop
-mul-or-ends-2 c = search needs
+mul-or-ends-2 c = record { fits = omega (arith, c .before .lowest32 .ensures .0) }
 
 element-copy-out-or-ends-2 : tie.Need-element-copy-out-or-ends-2 Inv-loop μ-loop
-element-copy-out-or-ends-2 c = search needs
+element-copy-out-or-ends-2 c = omega (arith, c .before .before .before .loop .inv .0 .below _ (c .before .lowest32 .ensures .1), c .before .before .before .before .before .pre)
 
 or-ends-requires : tie.Need-or-ends-requires Inv-loop μ-loop
 or-ends-requires c κs = search needs
 
-add-j : tie.Need-add-j Inv-loop μ-loop
-add-j c = search needs
+clear32-requires : tie.Need-clear32-requires Inv-loop μ-loop
+clear32-requires c κs = c .before .before .before .lowest32 .ensures .0
 
 loop-less : tie.Need-loop-less Inv-loop μ-loop
-loop-less c = search needs
+loop-less c = rw (c .clear32 .ensures) (walk-less _ _ (c .before .before .before .before .lowest32 .ensures .1))
 
 loop-again : tie.Need-loop-again Inv-loop μ-loop
 loop-again c =
-    let loop = c .before .before .before .before .loop in
-    let a = c .before .before .before .before .before .args in
-    (omega arith, rw (c .or-ends .ensures) (first-more (a .minutes .now) (a .at .now) (loop .j) (loop .r) (loop .inv .1)))
+    let a = c .before .before .before .before .before .before .before .before .args in
+    let loop = c .before .before .before .before .before .before .loop in
+    let j = c .before .before .before .before .lowest32 in (
+      rw (c .clear32 .ensures) (walk-next _ (loop .inv .0)),
+      rw (c .before .or-ends .ensures) (or-ends (a .minutes .now) (a .at .now) (a .jobs) (j .result) (loop .r)
+          (loop .inv .0 .below _ (j .ensures .1)) (loop .inv .1)),
+    )
 
 returns : tie.Need-returns Inv-loop μ-loop
-returns c =
-    let loop = c .before .loop in
-    let e : loop .j ≡ c .before .before .args .jobs = omega (arith, loop .inv .0, c .loop-test .left) in
-    rw e at (loop .inv .1)
+returns c = c .before .loop .inv .1
 
 pub first-end-spec : {M : Type 1} → statement M
 first-end-spec =
@@ -56,13 +66,15 @@ first-end-spec =
     (tie.spec
     Inv-loop
     μ-loop
+    below32-requires
     loop-holds
+    lowest32-requires
     mul-or-ends
     element-copy-out-or-ends
     mul-or-ends-2
     element-copy-out-or-ends-2
     or-ends-requires
-    add-j
+    clear32-requires
     loop-less
     loop-again
     returns)

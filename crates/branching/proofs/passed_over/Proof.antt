@@ -1,52 +1,28 @@
 -- `branching::passed_over` meets its contract.
-use mathlib.Core.Path.{refl}
-use mathlib.Core.Bool.{false}
-use Prim.Native.Nat.{_-_, _≤_}
+use mathlib.Core.Path.{sym, _∙_}
+use mathlib.Core.Logic.{inl, inr}
 use native.Mathlib.Omega.{arith}
 use borrow.Author.Needs.{needs}
-use Rattle.counting.proofs.Tests.{clash}
 use Rattle.branching.proofs.passed_over.Statement.{statement}
 use Rattle.branching.proofs.passed_over.Tie as tie
 
-abbrev Inv-loop : tie.InvT-loop
-Inv-loop need minutes later at ends by unplaced tried jobs j i₀ i = i ≤ jobs
+alike-tried-requires : tie.Need-alike-tried-requires
+alike-tried-requires c κs = c .pre .1
 
-abbrev μ-loop : tie.MeasureT-loop
-μ-loop need minutes later at ends by unplaced tried jobs j i₀ i = jobs - i
+returns : tie.Need-returns
+returns c = λ e. inl (c .before .alike-tried .ensures (c .if1 .taken))
 
-loop-holds : tie.Need-loop-holds Inv-loop μ-loop
-loop-holds c = omega arith
+test32-requires : tie.Need-test32-requires
+test32-requires c κs = omega (arith, c .before .before .before .pre .1)
 
-stands-for-requires : tie.Need-stands-for-requires Inv-loop μ-loop
-stands-for-requires c κs = search needs
+returns-2 : tie.Need-returns-2
+returns-2 c = λ e. inr (inl (c .before .before .if2 .taken, sym (c .before .test32 .ensures) ∙ c .if3 .taken))
 
-returns : tie.Need-returns Inv-loop μ-loop
-returns c = λ e.
-    let l = c .before .before .before in
-    (l .loop .i, c .before .before .loop-test .taken, c .before .stands-for .ensures (c .if1 .taken))
+swapped-requires : tie.Need-swapped-requires
+swapped-requires c κs = c .before .before .before .pre
 
-add-i : tie.Need-add-i Inv-loop μ-loop
-add-i c = search needs
-
-loop-less : tie.Need-loop-less Inv-loop μ-loop
-loop-less c = search needs
-
-loop-again : tie.Need-loop-again Inv-loop μ-loop
-loop-again c = search needs
-
-returns-2 : tie.Need-returns-2 Inv-loop μ-loop
-returns-2 c = λ e. clash false e refl
+returns-3 : tie.Need-returns-3
+returns-3 c = λ e. inr (inr (c .swapped .ensures e))
 
 pub passed-over-spec : {M : Type 1} → statement M
-passed-over-spec =
-    tie.close
-    (tie.spec
-    Inv-loop
-    μ-loop
-    loop-holds
-    stands-for-requires
-    returns
-    add-i
-    loop-less
-    loop-again
-    returns-2)
+passed-over-spec = tie.close (tie.spec alike-tried-requires returns test32-requires returns-2 swapped-requires returns-3)

@@ -1,7 +1,6 @@
 -- `branching::to_try` meets its contract.
 use mathlib.Core.Logic.{inl}
 use native.Mathlib.Omega.{arith}
-use borrow.Author.Needs.{needs}
 use Rattle.branching.proofs.Trying.{try-alone, try-early}
 use Rattle.branching.proofs.to_try.Statement.{statement}
 use Rattle.branching.proofs.to_try.Tie as tie
@@ -23,7 +22,7 @@ returns-2 c =
     let l = c .before .if2 .taken in
     let found = i .ensures l in
     let low = c .before .before .before .if1 .left in
-    rw (c .set32 .ensures) (try-alone (a .need .now) (a .minutes .now) (a .at .now) (a .least) (a .set) (a .jobs) (a .modules) (start .pre)
+    rw (c .set32 .ensures) (try-alone (a .minutes .now) (a .related .now) (a .at .now) (a .least) (a .set) (a .jobs) (start .pre)
     (i .result) l (found .0) (omega (arith, start .fits .least .fits)) (found .1))
 
 first-end-requires : tie.Need-first-end-requires
@@ -37,8 +36,8 @@ returns-3 c =
     let start = c .before .before .before .before .before in
     let a = start .args in
     let end = c .before .first-end in
-    rw (c .early .ensures) (try-early (a .need .now) (a .minutes .now) (a .at .now) (a .least) (a .set) (a .jobs) (a .modules) (start .pre)
-    (end .result) (end .ensures))
+    try-early (a .minutes .now) (a .related .now) (a .at .now) (a .least) (a .set) (a .jobs) (start .pre)
+    (end .result) (c .early .result) (end .ensures) (c .early .ensures)
 
 pub to-try-spec : {M : Type 1} → statement M
 to-try-spec =

@@ -11,7 +11,7 @@ use Rattle.bounds.proofs.Cuts.{bounding, hopeless-cut}
 use Rattle.search.specs.Search.{Remembered}
 use Rattle.search.proofs.Turns.{visit-leaf, recall-cut, visit-all, visit-remember}
 use Rattle.search.proofs.Turns.{child-placeable, child-fewer, child-known, child-word}
-use Rattle.search.proofs.Steps.{one-less}
+use Rattle.relations.proofs.Steps.{one-less}
 use Rattle.search.proofs.Passing.{passed-cut, settled-more}
 use Rattle.search.proofs.Sweeps.{none-outcome, found-below, Sweep, sweep-first, chosen-in, sweep-next, sweep-all, all-tried, trying}
 use borrow.Fn.Kinds.{In}
@@ -21,9 +21,9 @@ use Rattle.search.proofs.visit.Reads as visit
 use Rattle.bits.proofs.clear32.Reads as clear32-reads
 use Rattle.bits.proofs.set32.Reads as set32-reads
 use Rattle.bounds.proofs.hopeless.Reads as hopeless-reads
-use Rattle.branching.proofs.next_choice.Reads as next-choice-reads
+use Rattle.candidates.proofs.next_choice.Reads as next-choice-reads
 use Rattle.branching.proofs.passed_over.Reads as passed-over-reads
-use Rattle.branching.proofs.ready_starts.Reads as ready-starts-reads
+use Rattle.candidates.proofs.ready_starts.Reads as ready-starts-reads
 use Rattle.branching.proofs.to_try.Reads as to-try-reads
 use Rattle.branching.proofs.with_settled.Reads as with-settled-reads
 use Rattle.memory.proofs.recall.Reads as recall-reads
@@ -103,10 +103,21 @@ visit-claims t = (
   remember-reads.Learnt,
 )
 
+try-children-mul-start : (t : ℕ) → try-children-lts.Need-mul-start (try-children-claims t) (try-children-at t) try-children.Post
+try-children-mul-start t c =
+    let p = c .before .pre .1 in
+    record { fits = omega (arith, p .1 .1 .1 .0, p .0 .known .fit .few) }
+
+try-children-element-copy-out-start : (t : ℕ)
+    → try-children-lts.Need-element-copy-out-start (try-children-claims t) (try-children-at t) try-children.Post
+try-children-element-copy-out-start t c =
+    let p = c .before .pre .1 in
+    omega (arith, p .1 .1 .1 .0, p .0 .known .fit .few)
+
 try-children-passed-over-requires : (t : ℕ)
     → try-children-lts.Need-passed-over-requires (try-children-claims t) (try-children-at t) try-children.Post
 try-children-passed-over-requires t c κs =
-    let p = c .before .before .before .before .before .pre .1 in
+    let p = c .before .before .before .before .before .before .pre .1 in
     (p .0 .known .fit .few, omega (arith, p .1 .1 .1 .0, p .0 .known .fit .few))
 
 try-children-none-found-requires : (t : ℕ)
@@ -115,46 +126,34 @@ try-children-none-found-requires t c κs = tt
 
 try-children-returns : (t : ℕ) → try-children-lts.Need-returns (try-children-claims t) (try-children-at t) try-children.Post
 try-children-returns t c =
-    let start = c .before .before .before .before .before .before .before .before in
+    let start = c .before .before .before .before .before .before .before .before .before in
     let a = start .args in
     let p = start .pre .1 in
-    let known = p .0 .known in
-    let cut = passed-cut (a .need .now) (a .minutes .now) (a .earlier .now) (a .later .now) (a .tails .now) (a .worth .now) (a .most .now) (a .jobs) (a .modules)
-    (a .t10) (a .t11 .by) (a .target) (a .memory .now) (a .at .now) (a .tried) (a .job)
+    let cut = passed-cut (a .need .now) (a .minutes .now) (a .earlier .now) (a .related .now) (a .tails .now) (a .worth .now) (a .most .now)
+    (a .jobs) (a .modules) (a .t10) (a .t11 .by) (a .t11 .same) (a .target) (a .memory .now) (a .at .now) (a .tried) (a .job)
     (p .0) (p .1 .0) (p .1 .1 .0) (p .1 .1 .1 .0) (p .1 .1 .1 .1)
     (c .before .before .passed-over .ensures (c .before .if1 .taken)) in
     (rw (c .none-found .ensures) (none-outcome _ (a .target) _ cut), p .0 .remembered)
 
 try-children-mul-place : (t : ℕ) → try-children-lts.Need-mul-place (try-children-claims t) (try-children-at t) try-children.Post
 try-children-mul-place t c =
-    let p = c .before .before .before .before .before .before .before .pre .1 in
+    let p = c .before .before .before .before .before .before .before .before .pre .1 in
     record { fits = omega (arith, p .1 .1 .1 .0, p .0 .known .fit .few) }
 
 try-children-element-copy-out-place : (t : ℕ)
     → try-children-lts.Need-element-copy-out-place (try-children-claims t) (try-children-at t) try-children.Post
 try-children-element-copy-out-place t c =
-    let p = c .before .before .before .before .before .before .before .pre .1 in
+    let p = c .before .before .before .before .before .before .before .before .pre .1 in
     omega (arith, p .1 .1 .1 .0, p .0 .known .fit .few)
 
 try-children-mul-place-2 : (t : ℕ) → try-children-lts.Need-mul-place-2 (try-children-claims t) (try-children-at t) try-children.Post
 try-children-mul-place-2 t c =
-    let p = c .before .before .before .before .before .before .before .before .pre .1 in
+    let p = c .before .before .before .before .before .before .before .before .before .pre .1 in
     record { fits = omega (arith, p .1 .1 .1 .0, p .0 .known .fit .few) }
 
 try-children-element-copy-out-place-2 : (t : ℕ)
     → try-children-lts.Need-element-copy-out-place-2 (try-children-claims t) (try-children-at t) try-children.Post
 try-children-element-copy-out-place-2 t c =
-    let p = c .before .before .before .before .before .before .before .before .pre .1 in
-    omega (arith, p .1 .1 .1 .0, p .0 .known .fit .few)
-
-try-children-mul-place-3 : (t : ℕ) → try-children-lts.Need-mul-place-3 (try-children-claims t) (try-children-at t) try-children.Post
-try-children-mul-place-3 t c =
-    let p = c .before .before .before .before .before .before .before .before .before .pre .1 in
-    record { fits = omega (arith, p .1 .1 .1 .0, p .0 .known .fit .few) }
-
-try-children-element-copy-out-place-3 : (t : ℕ)
-    → try-children-lts.Need-element-copy-out-place-3 (try-children-claims t) (try-children-at t) try-children.Post
-try-children-element-copy-out-place-3 t c =
     let p = c .before .before .before .before .before .before .before .before .before .pre .1 in
     omega (arith, p .1 .1 .1 .0, p .0 .known .fit .few)
 
@@ -163,8 +162,7 @@ try-children-place-requires t c κs =
     let start = c .before .before .before .before .before .before .before .before .before .before in
     let a = start .args in
     let p = start .pre .1 in
-    let known = p .0 .known in
-    child-placeable (a .need .now) (a .minutes .now) (a .earlier .now) (a .jobs) (a .modules) (a .t10) known (a .job)
+    child-placeable (a .need .now) (a .minutes .now) (a .earlier .now) (a .jobs) (a .modules) (a .t10) (p .0 .known) (a .job)
     (p .1 .1 .1 .0) (getD (a .at .now) (a .job) 0)
     (p .1 .0 (a .job) (p .1 .1 .1 .0)) (p .1 .1 .1 .1)
 
@@ -194,11 +192,11 @@ try-children-visit-requires t c κs =
             (a .job) (p .1 .1 .1 .0) (getD (a .at .now) (a .job) 0)
             (p .1 .0 (a .job) (p .1 .1 .1 .0)) (p .1 .1 .1 .1) (place .result) (place .ensures);
         chains = p .0 .chains;
-        laters = p .0 .laters;
+        related-is = p .0 .related-is;
         weighted = p .0 .weighted;
         settled = rw (c .before .with-settled .ensures, word) (settled-more (a .need .now) (a .minutes .now) (a .earlier .now)
-            (a .later .now) (a .tails .now) (a .worth .now) (a .most .now) (a .jobs) (a .modules) (a .t10) (a .t11 .by) (a .target) (a .memory .now) (a .at .now)
-            (a .tried) (a .job)
+            (a .related .now) (a .tails .now) (a .worth .now) (a .most .now) (a .jobs) (a .modules) (a .t10) (a .t11 .by) (a .t11 .same) (a .target)
+            (a .memory .now) (a .at .now) (a .tried) (a .job)
             (p .0) (p .1 .0) (p .1 .1 .0) (p .1 .1 .1 .0) (p .1 .1 .1 .1));
         remembered = p .0 .remembered;
       },
@@ -223,12 +221,12 @@ try-children-returns-2 t c =
     (rw word at (visit .ensures .0), visit .ensures .1)
 
 abbrev visit-Inv-loop : visit-lts.InvT-loop
-visit-Inv-loop need minutes earlier later tails worth most jobs modules settled target memory₀ part unplaced at least first left₀ tried₀ c₀ memory left tried c =
+visit-Inv-loop need minutes earlier related tails worth most jobs modules settled target memory₀ part unplaced at least first left₀ tried₀ c₀ memory left tried c =
     Sweep need minutes earlier jobs modules part target at first left tried c
     × (Remembered (sheetOf need minutes earlier jobs modules) memory (suc target) × (length memory ≡ length memory₀))
 
 abbrev visit-μ-loop : visit-lts.MeasureT-loop
-visit-μ-loop need minutes earlier later tails worth most jobs modules settled target memory₀ part unplaced at least first left₀ tried₀ c₀ memory left tried c =
+visit-μ-loop need minutes earlier related tails worth most jobs modules settled target memory₀ part unplaced at least first left₀ tried₀ c₀ memory left tried c =
     ones left
 
 visit-finished-requires : (t : ℕ) → visit-lts.Need-finished-requires (visit-claims t) (visit-at t) visit.Post visit-Inv-loop visit-μ-loop
@@ -346,7 +344,7 @@ visit-try-children-requires t c κs =
           low = p .low;
           known = p .known;
           chains = p .chains;
-          laters = p .laters;
+          related-is = p .related-is;
           weighted = p .weighted;
           settled = p .settled;
           remembered = loop .inv .1 .0;
@@ -453,7 +451,7 @@ visit-returns-5 t c =
     (r .result .at) (r .ensures .each) (first .result) (loop .left) (loop .tried) (loop .c) (loop .inv .0)
     (c .before .before .before .before .before .before .before .if4 .left) in
     let all = all-tried (a .need .now) (a .minutes .now) (a .earlier .now) (a .jobs) (a .modules) (a .t10) (p .known) (a .target)
-    (r .result .at) (r .ensures .each) (first .result) (first .ensures) swept in
+    (r .result .at) (r .ensures .each) (first .result) (a .related .now) (p .related-is) (first .ensures) swept in
     let cut = visit-all (a .need .now) (a .minutes .now) (a .earlier .now) (a .jobs) (a .modules) (a .t10) (p .known)
     (a .target) (pos-of-ne-zero
     (c .before .before .before .before .before .before .before .before .before .before .before .before .before .before .before .before .before .before .before .before .before .before .before .before .if1 .left)) all in (
@@ -477,6 +475,8 @@ pub +try-children+visit-spec : {M : Type 1} → statement M
 )
     (try-children-at t)
     try-children.Post
+    (try-children-mul-start t)
+    (try-children-element-copy-out-start t)
     (try-children-passed-over-requires t)
     (try-children-none-found-requires t)
     (try-children-returns t)
@@ -484,8 +484,6 @@ pub +try-children+visit-spec : {M : Type 1} → statement M
     (try-children-element-copy-out-place t)
     (try-children-mul-place-2 t)
     (try-children-element-copy-out-place-2 t)
-    (try-children-mul-place-3 t)
-    (try-children-element-copy-out-place-3 t)
     (try-children-place-requires t)
     (try-children-with-settled-requires t)
     (try-children-visit-requires t)

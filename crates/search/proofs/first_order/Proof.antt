@@ -9,11 +9,11 @@ use Rattle.search.proofs.first_order.Statement.{statement}
 use Rattle.search.proofs.first_order.Tie as tie
 
 abbrev Inv-loop : tie.InvT-loop
-Inv-loop need minutes earlier later tails worth most jobs modules memory₀ best₀ part₀ k₀ memory best part k =
-    Standing need minutes earlier later tails worth most jobs modules part best memory k × (length memory ≡ length memory₀)
+Inv-loop need minutes earlier related tails worth most jobs modules memory₀ best₀ part₀ k₀ memory best part k =
+    Standing need minutes earlier related tails worth most jobs modules part best memory k × (length memory ≡ length memory₀)
 
 abbrev μ-loop : tie.MeasureT-loop
-μ-loop need minutes earlier later tails worth most jobs modules memory₀ best₀ part₀ k₀ memory best part k = jobs - k
+μ-loop need minutes earlier related tails worth most jobs modules memory₀ best₀ part₀ k₀ memory best part k = jobs - k
 
 first-part-requires : tie.Need-first-part-requires Inv-loop μ-loop
 first-part-requires c κs = c .before .pre .1 .known .fit

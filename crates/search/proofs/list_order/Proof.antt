@@ -2,8 +2,8 @@
 use mathlib.Core.Path.{refl}
 use native.Mathlib.Nat.{pos-of-ne-zero}
 use lib.Count.{ones}
-use Rattle.branching.specs.Branching.{Known}
-use Rattle.search.proofs.Steps.{in-20, at-2, one-less}
+use Rattle.candidates.specs.Candidates.{Known}
+use Rattle.relations.proofs.Steps.{in-20, at-2, one-less}
 use Rattle.search.proofs.Listing.{first-known, list-stuck, list-done, next-job, next-placeable, next-fewer, next-known}
 use Rattle.search.proofs.list_order.Statement.{statement}
 use Rattle.search.proofs.list_order.Tie as tie

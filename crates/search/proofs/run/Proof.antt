@@ -14,8 +14,8 @@ clear-requires c κs = search needs
 chains-requires : tie.Need-chains-requires
 chains-requires c κs = search needs
 
-later-jobs-requires : tie.Need-later-jobs-requires
-later-jobs-requires c κs = search needs
+relate-requires : tie.Need-relate-requires
+relate-requires c κs = c .before .before .before .before .before .before .before .pre .few
 
 weightings-requires : tie.Need-weightings-requires
 weightings-requires c κs = search needs
@@ -40,7 +40,7 @@ lowest-requires c κs =
     record {
       fit = start .pre;
       chains = c .before .before .before .before .before .before .before .before .before .before .before .before .before .before .before .chains .ensures .each;
-      laters = c .before .before .before .before .before .before .before .before .before .before .before .before .before .later-jobs .ensures;
+      related-is = c .before .before .before .before .before .before .before .before .before .before .before .before .before .relate .ensures;
       weighted = c .before .before .before .before .before .before .before .before .before .before .before .weightings .ensures;
       best-is = listed-order (c .before .before .before .before .before .before .before .first-listed .ensures) (c .before .before .before .before .before .if1 .left);
       remembered = remembered-none _ _ (length (a .memory .now)) _
@@ -60,7 +60,7 @@ first-order-requires c κs =
         low = lowest .is .low;
         known = first-known (a .need .now) (a .minutes .now) (a .earlier .now) (a .jobs) (a .modules) (start .pre);
         chains = c .before .before .before .before .before .before .before .before .before .before .before .before .before .before .before .before .before .before .before .before .before .before .before .before .before .before .before .chains .ensures .each;
-        laters = c .before .before .before .before .before .before .before .before .before .before .before .before .before .before .before .before .before .before .before .before .before .before .before .before .before .later-jobs .ensures;
+        related-is = c .before .before .before .before .before .before .before .before .before .before .before .before .before .before .before .before .before .before .before .before .before .before .before .before .before .relate .ensures;
         weighted = c .before .before .before .before .before .before .before .before .before .before .before .before .before .before .before .before .before .before .before .before .before .before .before .weightings .ensures;
         remembered = remembered-none _ _ (length
             (c .before .before .before .before .before .before .before .before .before .before .before .lowest .last .1 .1 .1 .1 .1 .1 .1 .1 .1 .1 .0)) _
@@ -94,7 +94,7 @@ run-spec =
     (tie.spec
     clear-requires
     chains-requires
-    later-jobs-requires
+    relate-requires
     weightings-requires
     first-listed-requires
     same-length

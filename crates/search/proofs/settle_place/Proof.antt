@@ -13,13 +13,13 @@ use Rattle.search.proofs.settle_place.Statement.{statement}
 use Rattle.search.proofs.settle_place.Tie as tie
 
 abbrev Inv-loop : tie.InvT-loop
-Inv-loop need minutes earlier later tails worth most jobs modules part memory₀ best k stop j₀ memory j =
+Inv-loop need minutes earlier related tails worth most jobs modules part memory₀ best k stop j₀ memory j =
     (j ≤ stop)
     × (NoneUpto (sheetOf need minutes earlier jobs modules) (best .end) (wordOf part) j
     × (Remembered (sheetOf need minutes earlier jobs modules) memory (suc (best .end)) × (length memory ≡ length memory₀)))
 
 abbrev μ-loop : tie.MeasureT-loop
-μ-loop need minutes earlier later tails worth most jobs modules part memory₀ best k stop j₀ memory j = stop - j
+μ-loop need minutes earlier related tails worth most jobs modules part memory₀ best k stop j₀ memory j = stop - j
 
 element-copy-out-wide : tie.Need-element-copy-out-wide Inv-loop μ-loop
 element-copy-out-wide c = omega (arith, c .before .pre .1 .1, c .before .pre .0 .known .fit .few)
@@ -49,7 +49,7 @@ try-place-requires c κs =
       job-below h
           (a .part .placed) (word-length (g .known)) (start .pre .1 .1),
     ) in (
-      record { low = g .low; known = g .known; chains = g .chains; laters = g .laters; weighted = g .weighted; remembered = loop .inv .1 .1 .0 },
+      record { low = g .low; known = g .known; chains = g .chains; related-is = g .related-is; weighted = g .weighted; remembered = loop .inv .1 .1 .0 },
       below,
     )
 

@@ -1,0 +1,3 @@
+-- The laws of the jobs that may come next.
+pub mod Starting
+pub mod Choices

@@ -1,0 +1,2 @@
+-- The jobs that may come next.
+pub mod Candidates
