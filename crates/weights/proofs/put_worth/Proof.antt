@@ -13,7 +13,7 @@ use Rattle.weights.proofs.put_worth.Tie as tie
 abbrev Inv-loop : tie.InvT-loop
 Inv-loop q need minutes jobs modules next₀ k₀ next k =
     (k ≤ jobs) × (
-    Put (next₀ .worth) (next .worth) (q * 20) k (λ i. getD minutes i 0 * weightIn modules q (getD need i 0)) × (next .most ≡ next₀ .most))
+    Put (λ i. i * 5 + q) (next₀ .worth) (next .worth) k (λ i. getD minutes i 0 * weightIn modules q (getD need i 0)) × (next .most ≡ next₀ .most))
 
 abbrev μ-loop : tie.MeasureT-loop
 μ-loop q need minutes jobs modules next₀ k₀ next k = jobs - k
@@ -89,9 +89,9 @@ loop-again c =
     let loop = c .before .before .before .before .loop in
     let pre = c .before .before .before .before .before .pre in
     let loop-test = c .before .before .before .loop-test in
-    let low : args .q * 20 + loop .k < 100 = omega (arith, pre .0 .1, pre .0 .0 .few, loop-test .taken) in
+    let low : loop .k * 5 + args .q < 100 = omega (arith, pre .0 .1, pre .0 .0 .few, loop-test .taken) in
     let same = ap (λ (w : ℕ). getD (args .minutes .now) (loop .k) 0 * w) (c .weight-of .ensures) in
-    (search needs, (put-more (loop .inv .1 .0) _ _ refl (omega (arith, pre .1)) same, loop .inv .1 .1))
+    (search needs, (put-more (loop .inv .1 .0) _ (λ i m e. omega arith) (omega (arith, pre .1)) same, loop .inv .1 .1))
 
 returns : tie.Need-returns Inv-loop μ-loop
 returns c =
