@@ -76,9 +76,8 @@ module _ {until held : List ℕ} {placed modules T at f i : ℕ} (w : Walk until
   pub walk-fits : i < placed → f + getD held i 0 ≤ 64
   walk-fits m = omega (arith, w .rest, w .narrow, held-from-step until held placed i m)
 
-  pub walk-step : i < placed → (f′ : ℕ) → f′ ≡ f + getD held i 0
-      → Walk until held placed modules T (max at (min (getD until i 0) T)) f′ (i + 1)
-  walk-step m f′ e = record {
+  pub walk-step : i < placed → Walk until held placed modules T (max at (min (getD until i 0) T)) (f + getD held i 0) (i + 1)
+  walk-step m = record {
     narrow = w .narrow;
     sorted = w .sorted;
     few = w .few;

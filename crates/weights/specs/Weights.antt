@@ -58,12 +58,6 @@ Weighted need minutes jobs modules worth most = WeightedTo need minutes jobs mod
 unfoldable pub roomFor : (ℕ → ℕ) → List ℕ → List ℕ → ℕ → ℕ → ℕ → ℕ → ℕ
 roomFor most until held modules placed l T = sum T (λ t. only (leb l t) (most (modules - heldAt until held placed t)))
 
--- in one of five weightings the room is less than the weight
-pub record SomeLess (room weight : List ℕ) : Type 0 where
-  pub number : ℕ
-  pub low : number < 5
-  pub less : getD room number 0 < getD weight number 0
-
 -- the jobs of the set outweigh what can stand on the modules that are free from minute l up to minute T
 pub record Outweighed (need minutes until held : List ℕ) (jobs modules placed set l T : ℕ) : Type 0 where
   pub weight : ℕ → ℕ

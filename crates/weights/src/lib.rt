@@ -1,13 +1,13 @@
 // Weights of jobs, and the bound by weights: what the jobs that are left weigh against what the free modules can hold, minute by minute.
 ghost use mathlib.Core.Path.{_≡_};
 ghost use mathlib.Core.Bool.{true};
-ghost use Prim.Native.Nat.{ℕ, _+_, _*_, _<_, _≤_, min};
+ghost use Prim.Native.Nat.{ℕ, _+_, _*_, _<_, _≤_, min, max};
 ghost use lib.ListN.{length, getD, replicate};
 ghost use Rattle.counting.specs.Counting.{only, sum};
 ghost use Rattle.bits.specs.Bits.{bit};
 ghost use Rattle.tables.specs.Tables.{Fit};
 ghost use Rattle.placement.specs.Profile.{Profile};
-ghost use Rattle.weights.specs.Weights.{weightIn, mostWith, Put, MostOf, WeightedTo, Weighted, roomFor, SomeLess, Outweighed};
+ghost use Rattle.weights.specs.Weights.{weightIn, mostWith, Put, WeightedTo, Weighted, roomFor, Outweighed};
 
 // Five weightings side by side: place k * 5 + q of `worth` is job k's minutes times its weight, place x * 5 + q of `most` the most that
 // can stand on x modules.
@@ -24,6 +24,13 @@ pub struct Most {
 // A total in each weighting.
 struct Totals {
     of: [u32; 5],
+}
+
+// The product of two numbers.
+fn times(a: u16, b: u16) -> u32
+    ensures { λ r. ⌜ r ≡ a * b ⌝ }
+{
+    (a as u32) * (b as u32)
 }
 
 // ---- the weightings of a sheet
@@ -46,12 +53,13 @@ fn most_with(old: &[u16; 65], width: usize, weight: u16, x: usize) -> u16
     requires { ⌜ ((p : ℕ) → getD (now old) p 0 ≤ 684) × ((weight ≤ 36) × (x < 65)) ⌝ }
     ensures { λ r. ⌜ r ≡ mostWith (now (old .entry)) width weight x ⌝ }
 {
+    let without = old[x];
     if x < width {
-        return old[x];
+        return without;
     }
     let with = weight + old[x - width];
-    if with < old[x] {
-        return old[x];
+    if with < without {
+        return without;
     }
     with
 }
@@ -68,42 +76,6 @@ fn with_job(table: Most, width: u16, weight: u16, modules: u16) -> Most
         x += 1;
     }
     Most { at: next }
-}
-
-// The most of all jobs that can stand on each number of modules, in weighting q.
-fn most_of(need: &[u16; 20], minutes: &[u16; 20], jobs: usize, modules: u16, q: usize) -> Most
-    requires { ⌜ (Fit (now need) (now minutes) jobs modules) × (q < 5) ⌝ }
-    ensures { λ r. ⌜ MostOf (now (need .entry)) jobs modules q (r .at) ⌝ }
-{
-    let mut table = Most { at: [0u16; 65] };
-    let mut k: usize = 0;
-    while k < jobs {
-        table = with_job(table, need[k], weight_of(need[k], q, modules), modules);
-        k += 1;
-    }
-    table
-}
-
-// The weightings with the minutes of each job times its weight put in as the q-th.
-fn put_worth(
-    all: Weights,
-    q: usize,
-    need: &[u16; 20],
-    minutes: &[u16; 20],
-    jobs: usize,
-    modules: u16,
-) -> Weights
-    requires { ⌜ ((Fit (now need) (now minutes) jobs modules) × (q < 5)) × (length (all .worth) ≡ 100) ⌝ }
-    ensures { λ r. ⌜ (Put (λ k. k * 5 + q) (all .worth) (r .worth) jobs
-        (λ k. getD (now (minutes .entry)) k 0 * weightIn modules q (getD (now (need .entry)) k 0))) × (r .most ≡ all .most) ⌝ }
-{
-    let mut next = all;
-    let mut k: usize = 0;
-    while k < jobs {
-        next.worth[k * 5 + q] = (minutes[k] as u32) * (weight_of(need[k], q, modules) as u32);
-        k += 1;
-    }
-    next
 }
 
 // The weightings with the table put in as the q-th.
@@ -133,9 +105,17 @@ fn with_weighting(
         × ((q < 5) × (WeightedTo (now need) (now minutes) jobs modules (all .worth) (all .most) q)) ⌝ }
     ensures { λ r. ⌜ WeightedTo (now (need .entry)) (now (minutes .entry)) jobs modules (r .worth) (r .most) (q + 1) ⌝ }
 {
-    let table = most_of(need, minutes, jobs, modules, q);
-    let first = put_worth(all, q, need, minutes, jobs, modules);
-    put_most(first, q, &table.at)
+    let mut next = all;
+    let mut table = Most { at: [0u16; 65] };
+    let mut k: usize = 0;
+    while k < jobs {
+        let width = need[k];
+        let weight = weight_of(width, q, modules);
+        table = with_job(table, width, weight, modules);
+        next.worth[k * 5 + q] = times(minutes[k], weight);
+        k += 1;
+    }
+    put_most(next, q, &table.at)
 }
 
 // The five weightings of a sheet.
@@ -187,23 +167,26 @@ fn set_worth(worth: &[u32; 100], set: u32, jobs: usize) -> Totals
     weight
 }
 
-// The earlier of two minutes.
-fn sooner(a: u16, b: u16) -> u16
-    ensures { λ r. ⌜ r ≡ min a b ⌝ }
+// The next minute from `at` on at which a job has ended or the target is reached.
+fn next_end(at: u16, until: u16, target: u16) -> u16
+    ensures { λ r. ⌜ r ≡ max at (min until target) ⌝ }
 {
-    if a <= b { a } else { b }
+    if until <= target {
+        return placement::later(at, until);
+    }
+    placement::later(at, target)
 }
 
 // The room in each weighting, with what can stand on x modules for so many minutes more.
-fn with_room(room: Totals, most: &[u16; 325], x: usize, minutes: u16) -> Totals
-    requires { ⌜ (((p : ℕ) → getD (now most) p 0 ≤ 720) × (x < 65))
-        × ((q : ℕ) → q < 5 → getD (room .of) q 0 + getD (now most) (x * 5 + q) 0 * minutes ≤ 47185200) ⌝ }
+fn with_room(room: Totals, most: &[u16; 325], x: u16, minutes: u16) -> Totals
+    requires { ⌜ (x < 65) × ((q : ℕ) → q < 5 → getD (room .of) q 0 + getD (now most) (x * 5 + q) 0 * minutes ≤ 47185200) ⌝ }
     ensures { λ r. ⌜ ((q : ℕ) → q < 5 → getD (r .of) q 0 ≡ getD (room .of) q 0 + getD (now (most .entry)) (x * 5 + q) 0 * minutes) ⌝ }
 {
+    let row = (x as usize) * 5;
     let mut next = [0u32; 5];
     let mut q: usize = 0;
     while q < 5 {
-        next[q] = room.of[q] + (most[x * 5 + q] as u32) * (minutes as u32);
+        next[q] = room.of[q] + times(most[row + q], minutes);
         q += 1;
     }
     Totals { of: next }
@@ -228,30 +211,16 @@ fn room_for<'a>(
 {
     let mut room = Totals { of: [0u32; 5] };
     let mut at = least;
-    let mut f = free as usize;
+    let mut f = free;
     let mut i = gone;
     while i < placed {
-        let to = placement::later(at, sooner(until[i], target));
+        let to = next_end(at, until[i], target);
         room = with_room(room, most, f, to - at);
         at = to;
-        f += held[i] as usize;
+        f += held[i];
         i += 1;
     }
     with_room(room, most, f, target - at)
-}
-
-// Whether the room is less than the weight in one of the weightings.
-fn some_less(room: Totals, weight: Totals) -> bool
-    ensures { λ r. ⌜ (r ≡ true → SomeLess (room .of) (weight .of)) ⌝ }
-{
-    let mut q: usize = 0;
-    while q < 5 {
-        if room.of[q] < weight.of[q] {
-            return true;
-        }
-        q += 1;
-    }
-    false
 }
 
 // Whether the jobs of the set outweigh, in one of the weightings, what the free modules can hold between minute `least` and the target.
@@ -291,5 +260,13 @@ pub fn outweighed<'a>(
         least,
         target,
     );
-    some_less(room, set_worth(worth, set, jobs))
+    let weight = set_worth(worth, set, jobs);
+    let mut q: usize = 0;
+    while q < 5 {
+        if room.of[q] < weight.of[q] {
+            return true;
+        }
+        q += 1;
+    }
+    false
 }

@@ -2,38 +2,86 @@
 use native.Mathlib.Omega.{arith}
 use mathlib.Core.Path.{refl}
 use mathlib.Core.Bool.{false}
+use Prim.Native.Nat.{_-_, _≤_}
 use Rattle.counting.proofs.Tests.{clash}
 use Rattle.weights.proofs.Walks.{outweighs}
 use borrow.Author.Needs.{needs}
 use Rattle.weights.proofs.outweighed.Statement.{statement}
 use Rattle.weights.proofs.outweighed.Tie as tie
 
-returns : tie.Need-returns
+abbrev Inv-loop : tie.InvT-loop
+Inv-loop need minutes worth most until held placed gone free modules set jobs least target room weight q₀ q = q ≤ 5
+
+abbrev μ-loop : tie.MeasureT-loop
+μ-loop need minutes worth most until held placed gone free modules set jobs least target room weight q₀ q = 5 - q
+
+returns : tie.Need-returns Inv-loop μ-loop
 returns c = λ e. clash false e refl
 
-room-for-requires : tie.Need-room-for-requires
+room-for-requires : tie.Need-room-for-requires Inv-loop μ-loop
 room-for-requires c κs =
     let pre = c .before .pre in
     ((pre .0 .1 .most-small, pre .1), (pre .0 .0 .most, c .if1 .left))
 
-set-worth-requires : tie.Need-set-worth-requires
+set-worth-requires : tie.Need-set-worth-requires Inv-loop μ-loop
 set-worth-requires c κs =
     let pre = c .before .before .pre in
     (pre .0 .1 .worth-small, pre .0 .0 .few)
 
-some-less-requires : tie.Need-some-less-requires
-some-less-requires c κs = search needs
+loop-holds : tie.Need-loop-holds Inv-loop μ-loop
+loop-holds c = search needs
 
-returns-2 : tie.Need-returns-2
+mul-if2 : tie.Need-mul-if2 Inv-loop μ-loop
+mul-if2 c = search needs
+
+element-copy-out-if2 : tie.Need-element-copy-out-if2 Inv-loop μ-loop
+element-copy-out-if2 c = search needs
+
+mul-if2-2 : tie.Need-mul-if2-2 Inv-loop μ-loop
+mul-if2-2 c = search needs
+
+element-copy-out-if2-2 : tie.Need-element-copy-out-if2-2 Inv-loop μ-loop
+element-copy-out-if2-2 c = search needs
+
+returns-2 : tie.Need-returns-2 Inv-loop μ-loop
 returns-2 c =
-    let pre = c .before .before .before .before .pre in
-    let room-for = c .before .before .room-for in
-    let set-worth = c .before .set-worth in
-    λ e.
-    let s = c .some-less .ensures e in
-    outweighs (pre .0 .1 .each (s .number) (s .low))
-    (omega (arith, s .less, room-for .ensures (s .number) (s .low), set-worth .ensures (s .number) (s .low)))
+    let loop = c .before .before .before .before .loop in
+    let loop-test = c .before .before .before .loop-test in
+    let pre = c .before .before .before .before .before .before .before .before .pre in
+    let room-for = c .before .before .before .before .before .before .room-for in
+    let set-worth = c .before .before .before .before .before .set-worth in
+    let q = loop .q in
+    let low = loop-test .taken in
+    λ e. outweighs (pre .0 .1 .each q low) (omega (arith, c .if2 .taken, room-for .ensures q low, set-worth .ensures q low))
+
+add-q : tie.Need-add-q Inv-loop μ-loop
+add-q c = search needs
+
+loop-less : tie.Need-loop-less Inv-loop μ-loop
+loop-less c = search needs
+
+loop-again : tie.Need-loop-again Inv-loop μ-loop
+loop-again c = search needs
+
+returns-3 : tie.Need-returns-3 Inv-loop μ-loop
+returns-3 c = λ e. clash false e refl
 
 pub outweighed-spec : {M : Type 1} → statement M
 outweighed-spec =
-    tie.close (tie.spec returns room-for-requires set-worth-requires some-less-requires returns-2)
+    tie.close
+    (tie.spec
+    Inv-loop
+    μ-loop
+    returns
+    room-for-requires
+    set-worth-requires
+    loop-holds
+    mul-if2
+    element-copy-out-if2
+    mul-if2-2
+    element-copy-out-if2-2
+    returns-2
+    add-q
+    loop-less
+    loop-again
+    returns-3)

@@ -20,30 +20,25 @@ abbrev μ-loop : tie.MeasureT-loop
 loop-holds : tie.Need-loop-holds Inv-loop μ-loop
 loop-holds c = (walk-start (c .pre .0 .1) (c .pre .1 .0) (c .pre .1 .1), λ q l. room-start (λ x. c .pre .0 .0 (x * 5 + q)) (zeros 5 q))
 
-mul-sooner : tie.Need-mul-sooner Inv-loop μ-loop
-mul-sooner c = search needs
+mul-next-end : tie.Need-mul-next-end Inv-loop μ-loop
+mul-next-end c = search needs
 
-element-copy-out-sooner : tie.Need-element-copy-out-sooner Inv-loop μ-loop
-element-copy-out-sooner c = search needs
+element-copy-out-next-end : tie.Need-element-copy-out-next-end Inv-loop μ-loop
+element-copy-out-next-end c = search needs
 
-sooner-requires : tie.Need-sooner-requires Inv-loop μ-loop
-sooner-requires c κs = search needs
-
-later-requires : tie.Need-later-requires Inv-loop μ-loop
-later-requires c κs = search needs
+next-end-requires : tie.Need-next-end-requires Inv-loop μ-loop
+next-end-requires c κs = search needs
 
 sub-with-room : tie.Need-sub-with-room Inv-loop μ-loop
 sub-with-room c = search needs
 
 with-room-requires : tie.Need-with-room-requires Inv-loop μ-loop
 with-room-requires c κs =
-    let loop = c .before .before .before .before .loop in
-    let pre = c .before .before .before .before .before .pre in
-    let sooner = c .before .sooner in
-    let fits = c .before .before .before .before .before .fits in
+    let loop = c .before .before .before .loop in
+    let fits = c .before .before .before .before .fits in
     let walk = loop .inv .0 in (
-      (pre .0 .0, omega (arith, walk .rest, walk .narrow)),
-      λ q l. omega (arith, room-low walk (loop .inv .1 q l) (c .later .result) (omega (arith, c .later .ensures)), c .later .ensures, sooner .ensures, walk .before, fits .target .fits),
+      omega (arith, walk .rest, walk .narrow),
+      λ q l. omega (arith, room-low walk (loop .inv .1 q l) (c .next-end .result) (omega (arith, c .next-end .ensures)), c .next-end .ensures, walk .before, fits .target .fits),
     )
 
 mul-f : tie.Need-mul-f Inv-loop μ-loop
@@ -52,16 +47,10 @@ mul-f c = search needs
 element-copy-out-f : tie.Need-element-copy-out-f Inv-loop μ-loop
 element-copy-out-f c = search needs
 
-cast-f : tie.Need-cast-f Inv-loop μ-loop
-cast-f c =
-    let loop = c .before .before .before .before .before .before .loop in
-    let loop-test = c .before .before .before .before .before .loop-test in
-    record { fits = omega (arith, walk-fits (loop .inv .0) (loop-test .taken)) }
-
 add-f : tie.Need-add-f Inv-loop μ-loop
 add-f c =
-    let loop = c .before .before .before .before .before .before .loop in
-    let loop-test = c .before .before .before .before .before .loop-test in
+    let loop = c .before .before .before .before .before .loop in
+    let loop-test = c .before .before .before .before .loop-test in
     record { fits = omega (arith, walk-fits (loop .inv .0) (loop-test .taken)) }
 
 add-i : tie.Need-add-i Inv-loop μ-loop
@@ -72,15 +61,14 @@ loop-less c = search needs
 
 loop-again : tie.Need-loop-again Inv-loop μ-loop
 loop-again c =
-    let loop = c .before .before .before .before .before .before .loop in
-    let later = c .before .before .later in
-    let sooner = c .before .before .before .sooner in
-    let loop-test = c .before .before .before .before .before .loop-test in
+    let loop = c .before .before .before .before .before .loop in
+    let next-end = c .before .before .next-end in
+    let loop-test = c .before .before .before .before .loop-test in
     let with-room = c .before .with-room in
     let walk = loop .inv .0 in
-    rw (later .ensures, sooner .ensures) (
-      walk-step walk (loop-test .taken) _ (omega arith),
-      λ q l. rw (with-room .ensures q l, later .ensures, sooner .ensures) (room-step walk (loop .inv .1 q l)),
+    rw (next-end .ensures) (
+      walk-step walk (loop-test .taken),
+      λ q l. rw (with-room .ensures q l, next-end .ensures) (room-step walk (loop .inv .1 q l)),
     )
 
 sub-with-room-2 : tie.Need-sub-with-room-2 Inv-loop μ-loop
@@ -89,11 +77,10 @@ sub-with-room-2 c = search needs
 with-room-requires-2 : tie.Need-with-room-requires-2 Inv-loop μ-loop
 with-room-requires-2 c κs =
     let loop = c .before .loop in
-    let pre = c .before .before .pre in
     let args = c .before .before .args in
     let fits = c .before .before .fits in
     let walk = loop .inv .0 in (
-      (pre .0 .0, omega (arith, walk .rest, walk .narrow)),
+      omega (arith, walk .rest, walk .narrow),
       λ q l. omega (arith, room-low walk (loop .inv .1 q l) (args .target) (walk .before), fits .target .fits),
     )
 
@@ -110,15 +97,13 @@ room-for-spec =
     Inv-loop
     μ-loop
     loop-holds
-    mul-sooner
-    element-copy-out-sooner
-    sooner-requires
-    later-requires
+    mul-next-end
+    element-copy-out-next-end
+    next-end-requires
     sub-with-room
     with-room-requires
     mul-f
     element-copy-out-f
-    cast-f
     add-f
     add-i
     loop-less
