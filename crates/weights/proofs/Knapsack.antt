@@ -5,7 +5,7 @@ use mathlib.Core.Bool.{true, false}
 use mathlib.Core.List.{List}
 use Prim.Native.Nat.{ℕ, suc, _+_, _-_, _*_, _/_, _%_, _≤_, _<_, zero-le}
 use native.Mathlib.Omega.{arith}
-use native.Mathlib.Nat.{le-trans, mul-le-mul, mul-comm, div-le-of-le-mul, zero-add, not-suc-le-zero}
+use native.Mathlib.Nat.{le-trans, mul-le-mul, mul-comm, div-le-of-le-mul, not-suc-le-zero}
 use native.Mathlib.Numerals.{add-one}
 use lib.Dec.{eqb, leb}
 use borrow.Author.Tests.{le-leb}
@@ -90,7 +90,7 @@ unfolding sum
 most-none need modules q = record { weighs = λ X x l fits. zero-le; small = zeros 65 }
 
 pub most-more : {need : List ℕ} {n modules q : ℕ} {old new : List ℕ} → MostOf need n modules q old
-    → Put (replicate 65 0) new 0 (modules + 1) (mostWith old (getD need n 0) (weightIn modules q (getD need n 0)))
+    → Put (λ x. x) (replicate 65 0) new (modules + 1) (mostWith old (getD need n 0) (weightIn modules q (getD need n 0)))
     → weightIn modules q (getD need n 0) ≤ 36 → MostOf need (n + 1) modules q new
 most-more {need} {n} {modules} {q} {old} {new} h put light = record {
   weighs = rw add-one (weighs-more need n modules (λ k. weightIn modules q (getD need k 0)) (λ x. getD old x 0) (λ x. getD new x 0)
@@ -107,18 +107,18 @@ most-more {need} {n} {modules} {q} {old} {new} h put light = record {
     weight = weightIn modules q width
 
     at : (x : ℕ) → x ≤ modules → getD new x 0 ≡ mostWith old width weight x
-    at x l = rw (zero-add x) at (put .each x (omega arith))
+    at x l = put .each x (omega arith)
 
 -- ---- the weightings side by side
 
 -- a weighting of which both parts are kept
-weighting-kept : {need minutes : List ℕ} {jobs modules : ℕ} {worth worth′ most most′ : List ℕ} {q : ℕ} → jobs ≤ 20 → modules ≤ 64
-    → ((p : ℕ) → p < (q + 1) * 20 → getD worth′ p 0 ≡ getD worth p 0) → ((p : ℕ) → p < (q + 1) * 65 → getD most′ p 0 ≡ getD most p 0)
+weighting-kept : {need minutes : List ℕ} {jobs modules : ℕ} {worth worth′ most most′ : List ℕ} {q : ℕ}
+    → ((k : ℕ) → getD worth′ (k * 5 + q) 0 ≡ getD worth (k * 5 + q) 0) → ((x : ℕ) → getD most′ (x * 5 + q) 0 ≡ getD most (x * 5 + q) 0)
     → Weighting need minutes jobs modules worth most q → Weighting need minutes jobs modules worth′ most′ q
-weighting-kept {q = q} few narrow same same′ h = record {
+weighting-kept same same′ h = record {
   weight = h .weight;
-  worth-is = λ k l. same (q * 20 + k) (omega arith) ∙ h .worth-is k l;
-  weighs = λ X x l fits. omega (arith, same′ (q * 65 + x) (omega arith), h .weighs X x l fits);
+  worth-is = λ k l. same k ∙ h .worth-is k l;
+  weighs = λ X x l fits. omega (arith, same′ x, h .weighs X x l fits);
 }
 
 pub weighted-none : (need minutes : List ℕ) (jobs modules : ℕ) → WeightedTo need minutes jobs modules (replicate 100 0) (replicate 325 0) 0
@@ -132,8 +132,8 @@ weighted-none need minutes jobs modules = record {
 
 pub weighted-more : {need minutes : List ℕ} {jobs modules q : ℕ} {worth worth′ most most′ table : List ℕ} → Fit need minutes jobs modules
     → q < 5 → WeightedTo need minutes jobs modules worth most q → MostOf need jobs modules q table
-    → Put worth worth′ (q * 20) jobs (λ k. getD minutes k 0 * weightIn modules q (getD need k 0))
-    → Put most most′ (q * 65) 65 (λ x. getD table x 0) → WeightedTo need minutes jobs modules worth′ most′ (q + 1)
+    → Put (λ k. k * 5 + q) worth worth′ jobs (λ k. getD minutes k 0 * weightIn modules q (getD need k 0))
+    → Put (λ x. x * 5 + q) most most′ 65 (λ x. getD table x 0) → WeightedTo need minutes jobs modules worth′ most′ (q + 1)
 weighted-more {need} {minutes} {jobs} {modules} {q} {worth} {worth′} {most} {most′} {table} fit low h table-is put put′ = record {
   worth-length = put .size ∙ h .worth-length;
   most-length = put′ .size ∙ h .most-length;
@@ -149,4 +149,4 @@ weighted-more {need} {minutes} {jobs} {modules} {q} {worth} {worth′} {most} {m
       weighs = λ X x l fits. omega (arith, put′ .each x (omega (arith, fit .most)), table-is .weighs X x l fits);
     })
     each p (inr l) =
-        weighting-kept (fit .few) (fit .most) (λ i m. put .kept i (omega arith)) (λ i m. put′ .kept i (omega arith)) (h .each p l)
+        weighting-kept (λ k. put .kept (k * 5 + p) (λ i m e. omega arith)) (λ x. put′ .kept (x * 5 + p) (λ i m e. omega arith)) (h .each p l)

@@ -1,6 +1,6 @@
 -- Values put into a list one after another.
-use mathlib.Core.Path.{_≡_, refl, ap, _∙_}
-use mathlib.Core.Logic.{_⊎_, inl, inr}
+use mathlib.Core.Path.{_≡_, refl, _∙_}
+use mathlib.Core.Logic.{_⊎_, inl, inr, _≢_}
 use mathlib.Core.List.{List}
 use Prim.Native.Nat.{ℕ, _+_, _≤_, _<_}
 use native.Mathlib.Omega.{arith}
@@ -17,34 +17,32 @@ zeros n p = go (less-or-not p n)
     go (inl l) = le-of-eq (getD-replicate {A = ℕ} n p 0 0 l)
     go (inr l) = le-of-eq (List·getD-eq-default {A = ℕ} (replicate n 0) 0 (omega (arith, length-replicate {A = ℕ} n 0)))
 
-pub put-none : (l : List ℕ) (from : ℕ) (value : ℕ → ℕ) → Put l l from 0 value
-put-none l from value = record {
+pub put-none : (place : ℕ → ℕ) (l : List ℕ) (value : ℕ → ℕ) → Put place l l 0 value
+put-none place l value = record {
   size = refl;
   kept = λ p m. refl;
   each = λ k m. absurd (not-suc-le-zero m);
   small = λ b before after p. before p;
 }
 
-pub put-more : {old new : List ℕ} {from n : ℕ} {value : ℕ → ℕ} → Put old new from n value → (at x : ℕ) → at ≡ from + n
-    → at < length old → x ≡ value n → Put old (set new at x) from (n + 1) value
-put-more {old} {new} {from} {n} {value} h at x e l v = record {
-  size = length-set new at x ∙ h .size;
-  kept = λ p m. getD-set-other new at p x 0 (λ z. absurd (omega arith)) ∙ h .kept p m;
+pub put-more : {place : ℕ → ℕ} {old new : List ℕ} {n : ℕ} {value : ℕ → ℕ} → Put place old new n value → (x : ℕ)
+    → ((k : ℕ) → k < n → place k ≢ place n) → place n < length old → x ≡ value n → Put place old (set new (place n) x) (n + 1) value
+put-more {place} {old} {new} {n} {value} h x apart l v = record {
+  size = length-set new (place n) x ∙ h .size;
+  kept = λ p m. getD-set-other new (place n) p x 0 (m n (omega arith)) ∙ h .kept p (λ k o. m k (omega arith));
   each = λ k m. each k (last-or-below n k (omega arith));
-  small = λ b before after p. small b before after p (same-or-not p at);
+  small = λ b before after p. small b before after p (same-or-not p (place n));
 }
   where
-    here : getD (set new at x) at 0 ≡ value n
-    here = getD-set-same new at x 0 (omega (arith, h .size)) ∙ v
+    here : getD (set new (place n) x) (place n) 0 ≡ value n
+    here = getD-set-same new (place n) x 0 (omega (arith, h .size)) ∙ v
 
-    each : (k : ℕ) → (k ≡ n) ⊎ (k < n) → getD (set new at x) (from + k) 0 ≡ value k
-    each k (inl z) =
-        let w : from + k ≡ at = omega arith in
-        rw w (here ∙ ap value (omega arith))
-    each k (inr m) = getD-set-other new at (from + k) x 0 (λ z. absurd (omega arith)) ∙ h .each k m
+    each : (k : ℕ) → (k ≡ n) ⊎ (k < n) → getD (set new (place n) x) (place k) 0 ≡ value k
+    each k (inl e) = rw e here
+    each k (inr m) = getD-set-other new (place n) (place k) x 0 (apart k m) ∙ h .each k m
 
-    small : (b : ℕ) → ((p : ℕ) → getD old p 0 ≤ b) → ((k : ℕ) → k < n + 1 → value k ≤ b) → (p : ℕ) → (p ≡ at) ⊎ (¬ (p ≡ at))
-        → getD (set new at x) p 0 ≤ b
+    small : (b : ℕ) → ((p : ℕ) → getD old p 0 ≤ b) → ((k : ℕ) → k < n + 1 → value k ≤ b) → (p : ℕ) → (p ≡ place n) ⊎ (p ≢ place n)
+        → getD (set new (place n) x) p 0 ≤ b
     small b before after p (inl z) = rw z (omega (arith, here, after n (omega arith)))
     small b before after p (inr d) =
-        omega (arith, getD-set-other new at p x 0 d, h .small b before (λ k m. after k (omega arith)) p)
+        omega (arith, getD-set-other new (place n) p x 0 d, h .small b before (λ k m. after k (omega arith)) p)

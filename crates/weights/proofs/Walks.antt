@@ -38,9 +38,10 @@ sum-from T a b c g l m h =
 sum-past : (T : ℕ) (g : ℕ → ℕ) → sum T (λ t. only (leb T t) (g t)) ≡ 0
 sum-past T g = sum-same T _ (λ t. 0) (λ t l. ap (λ b. only b (g t)) (lt-leb T t l)) ∙ sum-zero T
 
--- so far: the room up to minute `at`, from which on f modules are free until the i-th ends
-pub record Walk (most : ℕ → ℕ) (until held : List ℕ) (placed modules l T room at f i : ℕ) : Type 0 where
-  pub small : (x : ℕ) → most x ≤ 720
+-- ---- from one end to the next
+
+-- from minute `at` on f modules are free until the i-th ends
+pub record Walk (until held : List ℕ) (placed modules T at f i : ℕ) : Type 0 where
   pub narrow : modules ≤ 64
   pub sorted : Sorted until placed
   pub few : placed ≤ 20
@@ -48,13 +49,10 @@ pub record Walk (most : ℕ → ℕ) (until held : List ℕ) (placed modules l T
   pub rest : f + heldFrom held placed i ≡ modules
   pub before : at ≤ T
   pub ended : (k : ℕ) → k < i → min (getD until k 0) T ≤ at
-  pub low : room ≤ 720 * at
-  pub all : room + roomFor most until held modules placed at T ≡ roomFor most until held modules placed l T
 
-pub walk-start : {most : ℕ → ℕ} {until held : List ℕ} {placed gone free modules l T : ℕ} → ((x : ℕ) → most x ≤ 720)
-    → Profile until held placed gone free modules l → modules ≤ 64 → l ≤ T → Walk most until held placed modules l T 0 l free gone
-walk-start {l = l} small h narrow before = record {
-  small = small;
+pub walk-start : {until held : List ℕ} {placed gone free modules l T : ℕ} → Profile until held placed gone free modules l
+    → modules ≤ 64 → l ≤ T → Walk until held placed modules T l free gone
+walk-start h narrow before = record {
   narrow = narrow;
   sorted = h .sorted;
   few = h .few;
@@ -62,104 +60,89 @@ walk-start {l = l} small h narrow before = record {
   rest = h .rest;
   before = before;
   ended = λ k m. omega (arith, h .ended k m);
-  low = omega arith;
-  all = omega arith;
 }
 
--- what a turn of the walk can rely on
-pub record Turn (most : ℕ → ℕ) (until held : List ℕ) (T room at f i : ℕ) : Type 0 where
-  pub fits : f + getD held i 0 ≤ 64
-  pub small : most f ≤ 720
-  pub product : most f * (max at (min (getD until i 0) T) - at) ≤ 720 * T
-  pub total : room + most f * (max at (min (getD until i 0) T) - at) ≤ 720 * T
+-- the room up to minute `at`
+pub record Room (most : ℕ → ℕ) (until held : List ℕ) (placed modules l T room at : ℕ) : Type 0 where
+  pub small : (x : ℕ) → most x ≤ 720
+  pub low : room ≤ 720 * at
+  pub all : room + roomFor most until held modules placed at T ≡ roomFor most until held modules placed l T
 
--- what its end can rely on
-pub record Last (most : ℕ → ℕ) (until held : List ℕ) (placed modules l T room at f : ℕ) : Type 0 where
-  pub small : most f ≤ 720
-  pub product : most f * (T - at) ≤ 720 * T
-  pub total : room + most f * (T - at) ≤ 720 * T
-  pub all : room + most f * (T - at) ≡ roomFor most until held modules placed l T
+pub room-start : {most : ℕ → ℕ} {until held : List ℕ} {placed modules l T room : ℕ} → ((x : ℕ) → most x ≤ 720) → room ≤ 0
+    → Room most until held placed modules l T room l
+room-start small none = record { small = small; low = omega arith; all = omega arith }
 
-module _ {most : ℕ → ℕ} {until held : List ℕ} {placed modules l T room at f i : ℕ}
-    (h : Walk most until held placed modules l T room at f i) where
-  -- the modules that are free while the i-th is the next to end
-  free-at : (t : ℕ) → at ≤ t → t < T → ((k : ℕ) → i ≤ k → k < placed → t < getD until k 0) → modules - heldAt until held placed t ≡ f
-  free-at t a b n = omega (
-    arith,
-    h .rest,
-    held-at-le until held placed i t (λ k m. omega (arith, h .ended k m)),
-    held-from-le until held placed i t n,
-  )
+module _ {until held : List ℕ} {placed modules T at f i : ℕ} (w : Walk until held placed modules T at f i) where
+  pub walk-fits : i < placed → f + getD held i 0 ≤ 64
+  walk-fits m = omega (arith, w .rest, w .narrow, held-from-step until held placed i m)
 
-  -- the room up to a minute before which none of the others ends
-  room-to : (b : ℕ) → at ≤ b → b ≤ T → ((t k : ℕ) → at ≤ t → t < b → i ≤ k → k < placed → t < getD until k 0)
-      → room + most f * (b - at) + roomFor most until held modules placed b T ≡ roomFor most until held modules placed l T
-  unfolding roomFor
-  room-to b x y n =
-      let s = sum-from T at b (most f) (λ t. most (modules - heldAt until held placed t)) x y
-      (λ t p q. ap most (free-at t p (omega arith) (λ k m o. n t k p q m o))) in
-      omega (arith, h .all)
-
-  room-low : (b : ℕ) → at ≤ b → room + most f * (b - at) ≤ 720 * b
-  room-low b x = omega (arith, h .low, mul-le-mul-right (b - at) (h .small f))
-
-  pub walk-turn : i < placed → Turn most until held T room at f i
-  walk-turn m =
-      let total = room-low (max at (min (getD until i 0) T)) (omega arith) in
-      record {
-        fits = omega (arith, h .rest, h .narrow, held-from-step until held placed i m);
-        small = h .small f;
-        product = omega (arith, h .before);
-        total = omega (arith, h .before);
-      }
-
-  pub walk-step : i < placed → (f′ : ℕ) → f′ ≡ f + getD held i 0 → Walk most until held placed modules l T
-      (room + most f * (max at (min (getD until i 0) T) - at)) (max at (min (getD until i 0) T)) f′ (i + 1)
-  walk-step m f′ e = record {
-    small = h .small;
-    narrow = h .narrow;
-    sorted = h .sorted;
-    few = h .few;
+  pub walk-step : i < placed → Walk until held placed modules T (max at (min (getD until i 0) T)) (f + getD held i 0) (i + 1)
+  walk-step m = record {
+    narrow = w .narrow;
+    sorted = w .sorted;
+    few = w .few;
     inside = omega arith;
-    rest = omega (arith, h .rest, held-from-step until held placed i m);
-    before = omega (arith, h .before);
+    rest = omega (arith, w .rest, held-from-step until held placed i m);
+    before = omega (arith, w .before);
     ended = λ k n. ended k (last-or-below i k (omega arith));
-    low = room-low (max at (min (getD until i 0) T)) (omega arith);
-    all = room-to (max at (min (getD until i 0) T)) (omega arith) (omega (arith, h .before))
-        (λ t k x y n o. omega (arith, h .sorted i k n o));
   }
     where
       ended : (k : ℕ) → (k ≡ i) ⊎ (k < i) → min (getD until k 0) T ≤ max at (min (getD until i 0) T)
       ended k (inl e) = rw e (omega arith)
-      ended k (inr n) = omega (arith, h .ended k n)
+      ended k (inr n) = omega (arith, w .ended k n)
 
-  pub walk-done : placed ≤ i → Last most until held placed modules l T room at f
-  unfolding roomFor
-  walk-done m =
-      let total = room-low T (h .before) in
-      let all = room-to T (h .before) (le-refl _) (λ t k x y n o. absurd (omega arith)) in
-      record {
-        small = h .small f;
-        product = omega arith;
-        total = total;
-        all = omega (arith, sum-past T (λ t. most (modules - heldAt until held placed t)));
-      }
+  -- the modules that are free while the i-th is the next to end
+  free-at : (t : ℕ) → at ≤ t → t < T → ((k : ℕ) → i ≤ k → k < placed → t < getD until k 0) → modules - heldAt until held placed t ≡ f
+  free-at t a b n = omega (
+    arith,
+    w .rest,
+    held-at-le until held placed i t (λ k m. omega (arith, w .ended k m)),
+    held-from-le until held placed i t n,
+  )
+
+  module _ {most : ℕ → ℕ} {l room : ℕ} (h : Room most until held placed modules l T room at) where
+    pub room-low : (b : ℕ) → at ≤ b → room + most f * (b - at) ≤ 720 * b
+    room-low b x = omega (arith, h .low, mul-le-mul-right (b - at) (h .small f))
+
+    -- the room up to a minute before which none of the others ends
+    room-to : (b : ℕ) → at ≤ b → b ≤ T → ((t k : ℕ) → at ≤ t → t < b → i ≤ k → k < placed → t < getD until k 0)
+        → room + most f * (b - at) + roomFor most until held modules placed b T ≡ roomFor most until held modules placed l T
+    unfolding roomFor
+    room-to b x y n =
+        let s = sum-from T at b (most f) (λ t. most (modules - heldAt until held placed t)) x y
+        (λ t p q. ap most (free-at t p (omega arith) (λ k m o. n t k p q m o))) in
+        omega (arith, h .all)
+
+    pub room-step : Room most until held placed modules l T (room + most f * (max at (min (getD until i 0) T) - at))
+        (max at (min (getD until i 0) T))
+    room-step = record {
+      small = h .small;
+      low = room-low (max at (min (getD until i 0) T)) (omega arith);
+      all = room-to (max at (min (getD until i 0) T)) (omega arith) (omega (arith, w .before))
+          (λ t k x y n o. omega (arith, w .sorted i k n o));
+    }
+
+    pub room-done : placed ≤ i → room + most f * (T - at) ≡ roomFor most until held modules placed l T
+    unfolding roomFor
+    room-done m =
+        let all = room-to T (w .before) (le-refl _) (λ t k x y n o. absurd (omega arith)) in
+        omega (arith, sum-past T (λ t. most (modules - heldAt until held placed t)))
 
 -- ---- the weightings' answer
 
 pub outweighs : {need minutes until held : List ℕ} {jobs modules : ℕ} {worth most : List ℕ} {q placed set l T : ℕ}
     → Weighting need minutes jobs modules worth most q
-    → roomFor (λ x. getD most (q * 65 + x) 0) until held modules placed l T < sum jobs (λ k. only (bit set k) (getD worth (q * 20 + k) 0))
+    → roomFor (λ x. getD most (x * 5 + q) 0) until held modules placed l T < sum jobs (λ k. only (bit set k) (getD worth (k * 5 + q) 0))
     → Outweighed need minutes until held jobs modules placed set l T
 unfolding roomFor
 outweighs {minutes = minutes} {jobs = jobs} {worth = worth} {most = most} {q = q} {set = set} w over = record {
   weight = w .weight;
-  most = λ x. getD most (q * 65 + x) 0;
+  most = λ x. getD most (x * 5 + q) 0;
   weighs = w .weighs;
   over = omega (
     arith,
     over,
-    sum-same jobs (λ k. only (bit set k) (getD worth (q * 20 + k) 0))
+    sum-same jobs (λ k. only (bit set k) (getD worth (k * 5 + q) 0))
         (λ k. only (bit set k) (getD minutes k 0 * w .weight k)) (λ k m. ap (λ (x : ℕ). only (bit set k) x) (w .worth-is k m)),
   );
 }

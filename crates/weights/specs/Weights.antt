@@ -1,5 +1,6 @@
 -- Weights of jobs, and the most that can stand on so many modules.
 use mathlib.Core.Path.{_≡_}
+use mathlib.Core.Logic.{_≢_}
 use mathlib.Core.Bool.{Bool, cond}
 use mathlib.Core.List.{List}
 use Prim.Native.Nat.{ℕ, _+_, _-_, _*_, _/_, _%_, _≤_, _<_, max}
@@ -23,11 +24,11 @@ weightIn modules q width = cond (eqb ((q + 2) * width % modules) 0) ((q + 1) * (
 unfoldable pub mostWith : List ℕ → ℕ → ℕ → ℕ → ℕ
 mostWith old width weight x = max (getD old x 0) (only (leb width x) (weight + getD old (x - width) 0))
 
--- n values are put in from place `from` on, and what stands before them is kept
-pub record Put (old new : List ℕ) (from n : ℕ) (value : ℕ → ℕ) : Type 0 where
+-- n values are put in, each at its place, and what stands at other places is kept
+pub record Put (place : ℕ → ℕ) (old new : List ℕ) (n : ℕ) (value : ℕ → ℕ) : Type 0 where
   pub size : length new ≡ length old
-  pub kept : (p : ℕ) → p < from → getD new p 0 ≡ getD old p 0
-  pub each : (k : ℕ) → k < n → getD new (from + k) 0 ≡ value k
+  pub kept : (p : ℕ) → ((k : ℕ) → k < n → p ≢ place k) → getD new p 0 ≡ getD old p 0
+  pub each : (k : ℕ) → k < n → getD new (place k) 0 ≡ value k
   pub small : (b : ℕ) → ((p : ℕ) → getD old p 0 ≤ b) → ((k : ℕ) → k < n → value k ≤ b) → (p : ℕ) → getD new p 0 ≤ b
 
 -- the most of the first n jobs that can stand on each number of modules, in weighting q
@@ -35,11 +36,11 @@ pub record MostOf (need : List ℕ) (n modules q : ℕ) (table : List ℕ) : Typ
   pub weighs : Weighs need n modules (λ k. weightIn modules q (getD need k 0)) (λ x. getD table x 0)
   pub small : (p : ℕ) → getD table p 0 ≤ 36 * n
 
--- place q * 20 + k of `worth` is job k's minutes times its weight, place q * 65 + x of `most` the most that can stand on x modules
+-- place k * 5 + q of `worth` is job k's minutes times its weight, place x * 5 + q of `most` the most that can stand on x modules
 pub record Weighting (need minutes : List ℕ) (jobs modules : ℕ) (worth most : List ℕ) (q : ℕ) : Type 0 where
   pub weight : ℕ → ℕ
-  pub worth-is : (k : ℕ) → k < jobs → getD worth (q * 20 + k) 0 ≡ getD minutes k 0 * weight k
-  pub weighs : Weighs need jobs modules weight (λ x. getD most (q * 65 + x) 0)
+  pub worth-is : (k : ℕ) → k < jobs → getD worth (k * 5 + q) 0 ≡ getD minutes k 0 * weight k
+  pub weighs : Weighs need jobs modules weight (λ x. getD most (x * 5 + q) 0)
 
 -- so many weightings side by side
 pub record WeightedTo (need minutes : List ℕ) (jobs modules : ℕ) (worth most : List ℕ) (count : ℕ) : Type 0 where

@@ -1,15 +1,15 @@
 // Weights of jobs, and the bound by weights: what the jobs that are left weigh against what the free modules can hold, minute by minute.
 ghost use mathlib.Core.Path.{_≡_};
 ghost use mathlib.Core.Bool.{true};
-ghost use Prim.Native.Nat.{ℕ, _+_, _*_, _<_, _≤_, min};
+ghost use Prim.Native.Nat.{ℕ, _+_, _*_, _<_, _≤_, min, max};
 ghost use lib.ListN.{length, getD, replicate};
 ghost use Rattle.counting.specs.Counting.{only, sum};
 ghost use Rattle.bits.specs.Bits.{bit};
 ghost use Rattle.tables.specs.Tables.{Fit};
 ghost use Rattle.placement.specs.Profile.{Profile};
-ghost use Rattle.weights.specs.Weights.{weightIn, mostWith, Put, MostOf, WeightedTo, Weighted, roomFor, Outweighed};
+ghost use Rattle.weights.specs.Weights.{weightIn, mostWith, Put, WeightedTo, Weighted, roomFor, Outweighed};
 
-// Five weightings side by side: place q * 20 + k of `worth` is job k's minutes times its weight, place q * 65 + x of `most` the most that
+// Five weightings side by side: place k * 5 + q of `worth` is job k's minutes times its weight, place x * 5 + q of `most` the most that
 // can stand on x modules.
 pub struct Weights {
     pub worth: [u32; 100],
@@ -19,6 +19,18 @@ pub struct Weights {
 // The most that can stand on each number of modules.
 pub struct Most {
     pub at: [u16; 65],
+}
+
+// A total in each weighting.
+struct Totals {
+    of: [u32; 5],
+}
+
+// The product of two numbers.
+fn times(a: u16, b: u16) -> u32
+    ensures { λ r. ⌜ r ≡ a * b ⌝ }
+{
+    (a as u32) * (b as u32)
 }
 
 // ---- the weightings of a sheet
@@ -41,12 +53,13 @@ fn most_with(old: &[u16; 65], width: usize, weight: u16, x: usize) -> u16
     requires { ⌜ ((p : ℕ) → getD (now old) p 0 ≤ 684) × ((weight ≤ 36) × (x < 65)) ⌝ }
     ensures { λ r. ⌜ r ≡ mostWith (now (old .entry)) width weight x ⌝ }
 {
+    let without = old[x];
     if x < width {
-        return old[x];
+        return without;
     }
     let with = weight + old[x - width];
-    if with < old[x] {
-        return old[x];
+    if with < without {
+        return without;
     }
     with
 }
@@ -54,7 +67,7 @@ fn most_with(old: &[u16; 65], width: usize, weight: u16, x: usize) -> u16
 // The same on each number of modules.
 fn with_job(table: Most, width: u16, weight: u16, modules: u16) -> Most
     requires { ⌜ ((p : ℕ) → getD (table .at) p 0 ≤ 684) × ((weight ≤ 36) × (modules ≤ 64)) ⌝ }
-    ensures { λ r. ⌜ Put (replicate 65 0) (r .at) 0 (modules + 1) (mostWith (table .at) width weight) ⌝ }
+    ensures { λ r. ⌜ Put (λ x. x) (replicate 65 0) (r .at) (modules + 1) (mostWith (table .at) width weight) ⌝ }
 {
     let mut next = [0u16; 65];
     let mut x: usize = 0;
@@ -65,51 +78,15 @@ fn with_job(table: Most, width: u16, weight: u16, modules: u16) -> Most
     Most { at: next }
 }
 
-// The most of all jobs that can stand on each number of modules, in weighting q.
-fn most_of(need: &[u16; 20], minutes: &[u16; 20], jobs: usize, modules: u16, q: usize) -> Most
-    requires { ⌜ (Fit (now need) (now minutes) jobs modules) × (q < 5) ⌝ }
-    ensures { λ r. ⌜ MostOf (now (need .entry)) jobs modules q (r .at) ⌝ }
-{
-    let mut table = Most { at: [0u16; 65] };
-    let mut k: usize = 0;
-    while k < jobs {
-        table = with_job(table, need[k], weight_of(need[k], q, modules), modules);
-        k += 1;
-    }
-    table
-}
-
-// The weightings with the minutes of each job times its weight put in as the q-th.
-fn put_worth(
-    all: Weights,
-    q: usize,
-    need: &[u16; 20],
-    minutes: &[u16; 20],
-    jobs: usize,
-    modules: u16,
-) -> Weights
-    requires { ⌜ ((Fit (now need) (now minutes) jobs modules) × (q < 5)) × (length (all .worth) ≡ 100) ⌝ }
-    ensures { λ r. ⌜ (Put (all .worth) (r .worth) (q * 20) jobs
-        (λ k. getD (now (minutes .entry)) k 0 * weightIn modules q (getD (now (need .entry)) k 0))) × (r .most ≡ all .most) ⌝ }
-{
-    let mut next = all;
-    let mut k: usize = 0;
-    while k < jobs {
-        next.worth[q * 20 + k] = (minutes[k] as u32) * (weight_of(need[k], q, modules) as u32);
-        k += 1;
-    }
-    next
-}
-
 // The weightings with the table put in as the q-th.
 fn put_most(all: Weights, q: usize, table: &[u16; 65]) -> Weights
     requires { ⌜ (q < 5) × (length (all .most) ≡ 325) ⌝ }
-    ensures { λ r. ⌜ (Put (all .most) (r .most) (q * 65) 65 (λ x. getD (now (table .entry)) x 0)) × (r .worth ≡ all .worth) ⌝ }
+    ensures { λ r. ⌜ (Put (λ x. x * 5 + q) (all .most) (r .most) 65 (λ x. getD (now (table .entry)) x 0)) × (r .worth ≡ all .worth) ⌝ }
 {
     let mut next = all;
     let mut x: usize = 0;
     while x < 65 {
-        next.most[q * 65 + x] = table[x];
+        next.most[x * 5 + q] = table[x];
         x += 1;
     }
     next
@@ -128,9 +105,17 @@ fn with_weighting(
         × ((q < 5) × (WeightedTo (now need) (now minutes) jobs modules (all .worth) (all .most) q)) ⌝ }
     ensures { λ r. ⌜ WeightedTo (now (need .entry)) (now (minutes .entry)) jobs modules (r .worth) (r .most) (q + 1) ⌝ }
 {
-    let table = most_of(need, minutes, jobs, modules, q);
-    let first = put_worth(all, q, need, minutes, jobs, modules);
-    put_most(first, q, &table.at)
+    let mut next = all;
+    let mut table = Most { at: [0u16; 65] };
+    let mut k: usize = 0;
+    while k < jobs {
+        let width = need[k];
+        let weight = weight_of(width, q, modules);
+        table = with_job(table, width, weight, modules);
+        next.worth[k * 5 + q] = times(minutes[k], weight);
+        k += 1;
+    }
+    put_most(next, q, &table.at)
 }
 
 // The five weightings of a sheet.
@@ -152,42 +137,64 @@ pub fn weightings(need: &[u16; 20], minutes: &[u16; 20], jobs: usize, modules: u
 
 // ---- the test by weights
 
-// What job k weighs where it is in the set.
-fn worth_in(worth: u32, set: u32, k: usize) -> u32
-    requires { ⌜ k < 20 ⌝ }
-    ensures { λ r. ⌜ r ≡ only (bit set k) worth ⌝ }
+// What weighs so much in each weighting, and job k.
+fn with_worth(weight: Totals, worth: &[u32; 100], k: usize) -> Totals
+    requires { ⌜ (k < 20) × ((q : ℕ) → q < 5 → getD (weight .of) q 0 + getD (now worth) (k * 5 + q) 0 ≤ 1036800) ⌝ }
+    ensures { λ r. ⌜ ((q : ℕ) → q < 5 → getD (r .of) q 0 ≡ getD (weight .of) q 0 + getD (now (worth .entry)) (k * 5 + q) 0) ⌝ }
 {
-    if bits::test32(set, k) {
-        return worth;
+    let mut next = [0u32; 5];
+    let mut q: usize = 0;
+    while q < 5 {
+        next[q] = weight.of[q] + worth[k * 5 + q];
+        q += 1;
     }
-    0
+    Totals { of: next }
 }
 
-// What the jobs of the set weigh in weighting q.
-fn set_worth(worth: &[u32; 100], q: usize, set: u32, jobs: usize) -> u32
-    requires { ⌜ ((p : ℕ) → getD (now worth) p 0 ≤ 51840) × ((q < 5) × (jobs ≤ 20)) ⌝ }
-    ensures { λ r. ⌜ r ≡ sum jobs (λ k. only (bit set k) (getD (now (worth .entry)) (q * 20 + k) 0)) ⌝ }
+// What the jobs of the set weigh in each weighting.
+fn set_worth(worth: &[u32; 100], set: u32, jobs: usize) -> Totals
+    requires { ⌜ ((p : ℕ) → getD (now worth) p 0 ≤ 51840) × (jobs ≤ 20) ⌝ }
+    ensures { λ r. ⌜ ((q : ℕ) → q < 5
+        → getD (r .of) q 0 ≡ sum jobs (λ k. only (bit set k) (getD (now (worth .entry)) (k * 5 + q) 0))) ⌝ }
 {
-    let mut total: u32 = 0;
-    let mut k: usize = 0;
-    while k < jobs {
-        total += worth_in(worth[q * 20 + k], set, k);
-        k += 1;
+    let mut weight = Totals { of: [0u32; 5] };
+    let mut rest = bits::below32(set, jobs);
+    while rest != 0 {
+        let k = bits::lowest32(rest);
+        weight = with_worth(weight, worth, k);
+        rest = bits::clear32(rest, k);
     }
-    total
+    weight
 }
 
-// The earlier of two minutes.
-fn sooner(a: u16, b: u16) -> u16
-    ensures { λ r. ⌜ r ≡ min a b ⌝ }
+// The next minute from `at` on at which a job has ended or the target is reached.
+fn next_end(at: u16, until: u16, target: u16) -> u16
+    ensures { λ r. ⌜ r ≡ max at (min until target) ⌝ }
 {
-    if a <= b { a } else { b }
+    if until <= target {
+        return placement::later(at, until);
+    }
+    placement::later(at, target)
 }
 
-// What can stand, in weighting q, on the modules that are free from minute `least` up to the target.
+// The room in each weighting, with what can stand on x modules for so many minutes more.
+fn with_room(room: Totals, most: &[u16; 325], x: u16, minutes: u16) -> Totals
+    requires { ⌜ (x < 65) × ((q : ℕ) → q < 5 → getD (room .of) q 0 + getD (now most) (x * 5 + q) 0 * minutes ≤ 47185200) ⌝ }
+    ensures { λ r. ⌜ ((q : ℕ) → q < 5 → getD (r .of) q 0 ≡ getD (room .of) q 0 + getD (now (most .entry)) (x * 5 + q) 0 * minutes) ⌝ }
+{
+    let row = (x as usize) * 5;
+    let mut next = [0u32; 5];
+    let mut q: usize = 0;
+    while q < 5 {
+        next[q] = room.of[q] + times(most[row + q], minutes);
+        q += 1;
+    }
+    Totals { of: next }
+}
+
+// What can stand, in each weighting, on the modules that are free from minute `least` up to the target.
 fn room_for<'a>(
     most: &[u16; 325],
-    q: usize,
     until: &'a [u16; 20],
     held: &'a [u16; 20],
     placed: usize,
@@ -196,24 +203,24 @@ fn room_for<'a>(
     modules: u16,
     least: u16,
     target: u16,
-) -> u32
+) -> Totals
     requires { ⌜ (((p : ℕ) → getD (now most) p 0 ≤ 720) × (Profile (now until) (now held) placed gone free modules least))
-        × ((q < 5) × ((modules ≤ 64) × (least ≤ target))) ⌝ }
-    ensures { λ r. ⌜ r ≡ roomFor (λ x. getD (now (most .entry)) (q * 65 + x) 0) (now (until .entry)) (now (held .entry)) modules placed
-        least target ⌝ }
+        × ((modules ≤ 64) × (least ≤ target)) ⌝ }
+    ensures { λ r. ⌜ ((q : ℕ) → q < 5 → getD (r .of) q 0 ≡ roomFor (λ x. getD (now (most .entry)) (x * 5 + q) 0) (now (until .entry))
+        (now (held .entry)) modules placed least target) ⌝ }
 {
-    let mut room: u32 = 0;
+    let mut room = Totals { of: [0u32; 5] };
     let mut at = least;
-    let mut f = free as usize;
+    let mut f = free;
     let mut i = gone;
     while i < placed {
-        let to = placement::later(at, sooner(until[i], target));
-        room += (most[q * 65 + f] as u32) * ((to - at) as u32);
+        let to = next_end(at, until[i], target);
+        room = with_room(room, most, f, to - at);
         at = to;
-        f += held[i] as usize;
+        f += held[i];
         i += 1;
     }
-    room + (most[q * 65 + f] as u32) * ((target - at) as u32)
+    with_room(room, most, f, target - at)
 }
 
 // Whether the jobs of the set outweigh, in one of the weightings, what the free modules can hold between minute `least` and the target.
@@ -242,21 +249,21 @@ pub fn outweighed<'a>(
     if target < least {
         return false;
     }
+    let room = room_for(
+        most,
+        until,
+        held,
+        placed,
+        gone,
+        free,
+        modules,
+        least,
+        target,
+    );
+    let weight = set_worth(worth, set, jobs);
     let mut q: usize = 0;
     while q < 5 {
-        let room = room_for(
-            most,
-            q,
-            until,
-            held,
-            placed,
-            gone,
-            free,
-            modules,
-            least,
-            target,
-        );
-        if room < set_worth(worth, q, set, jobs) {
+        if room.of[q] < weight.of[q] {
             return true;
         }
         q += 1;

@@ -10,37 +10,49 @@ use Rattle.weights.proofs.outweighed.Statement.{statement}
 use Rattle.weights.proofs.outweighed.Tie as tie
 
 abbrev Inv-loop : tie.InvT-loop
-Inv-loop need minutes worth most until held placed gone free modules set jobs least target q₀ q = q ≤ 5
+Inv-loop need minutes worth most until held placed gone free modules set jobs least target room weight q₀ q = q ≤ 5
 
 abbrev μ-loop : tie.MeasureT-loop
-μ-loop need minutes worth most until held placed gone free modules set jobs least target q₀ q = 5 - q
+μ-loop need minutes worth most until held placed gone free modules set jobs least target room weight q₀ q = 5 - q
 
 returns : tie.Need-returns Inv-loop μ-loop
 returns c = λ e. clash false e refl
 
-loop-holds : tie.Need-loop-holds Inv-loop μ-loop
-loop-holds c = search needs
-
 room-for-requires : tie.Need-room-for-requires Inv-loop μ-loop
 room-for-requires c κs =
-    let pre = c .before .before .before .pre in
-    let if1 = c .before .before .if1 in
-    ((pre .0 .1 .most-small, pre .1), (c .loop-test .taken, (pre .0 .0 .most, if1 .left)))
+    let pre = c .before .pre in
+    ((pre .0 .1 .most-small, pre .1), (pre .0 .0 .most, c .if1 .left))
 
 set-worth-requires : tie.Need-set-worth-requires Inv-loop μ-loop
 set-worth-requires c κs =
-    let pre = c .before .before .before .before .pre in
-    let loop-test = c .before .loop-test in
-    (pre .0 .1 .worth-small, (loop-test .taken, pre .0 .0 .few))
+    let pre = c .before .before .pre in
+    (pre .0 .1 .worth-small, pre .0 .0 .few)
+
+loop-holds : tie.Need-loop-holds Inv-loop μ-loop
+loop-holds c = search needs
+
+mul-if2 : tie.Need-mul-if2 Inv-loop μ-loop
+mul-if2 c = search needs
+
+element-copy-out-if2 : tie.Need-element-copy-out-if2 Inv-loop μ-loop
+element-copy-out-if2 c = search needs
+
+mul-if2-2 : tie.Need-mul-if2-2 Inv-loop μ-loop
+mul-if2-2 c = search needs
+
+element-copy-out-if2-2 : tie.Need-element-copy-out-if2-2 Inv-loop μ-loop
+element-copy-out-if2-2 c = search needs
 
 returns-2 : tie.Need-returns-2 Inv-loop μ-loop
 returns-2 c =
-    let pre = c .before .before .before .before .before .before .pre in
     let loop = c .before .before .before .before .loop in
     let loop-test = c .before .before .before .loop-test in
-    let room-for = c .before .before .room-for in
-    let set-worth = c .before .set-worth in
-    λ e. outweighs (pre .0 .1 .each (loop .q) (loop-test .taken)) (omega (arith, c .if2 .taken, room-for .ensures, set-worth .ensures))
+    let pre = c .before .before .before .before .before .before .before .before .pre in
+    let room-for = c .before .before .before .before .before .before .room-for in
+    let set-worth = c .before .before .before .before .before .set-worth in
+    let q = loop .q in
+    let low = loop-test .taken in
+    λ e. outweighs (pre .0 .1 .each q low) (omega (arith, c .if2 .taken, room-for .ensures q low, set-worth .ensures q low))
 
 add-q : tie.Need-add-q Inv-loop μ-loop
 add-q c = search needs
@@ -61,9 +73,13 @@ outweighed-spec =
     Inv-loop
     μ-loop
     returns
-    loop-holds
     room-for-requires
     set-worth-requires
+    loop-holds
+    mul-if2
+    element-copy-out-if2
+    mul-if2-2
+    element-copy-out-if2-2
     returns-2
     add-q
     loop-less

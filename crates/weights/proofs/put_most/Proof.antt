@@ -1,7 +1,7 @@
 -- `weights::put_most` meets its contract.
 use native.Mathlib.Omega.{arith}
 use mathlib.Core.Path.{_≡_, refl}
-use Prim.Native.Nat.{_*_, _-_, _≤_}
+use Prim.Native.Nat.{_+_, _*_, _-_, _≤_}
 use lib.ListN.{getD}
 use Rattle.weights.specs.Weights.{Put}
 use Rattle.weights.proofs.Puts.{put-none, put-more}
@@ -12,7 +12,7 @@ use Rattle.weights.proofs.put_most.Tie as tie
 abbrev Inv-loop : tie.InvT-loop
 Inv-loop q table next₀ x₀ next x =
     (x ≤ 65) × (
-    Put (next₀ .most) (next .most) (q * 65) x (λ i. getD table i 0) × (next .worth ≡ next₀ .worth))
+    Put (λ i. i * 5 + q) (next₀ .most) (next .most) x (λ i. getD table i 0) × (next .worth ≡ next₀ .worth))
 
 abbrev μ-loop : tie.MeasureT-loop
 μ-loop q table next₀ x₀ next x = 65 - x
@@ -48,7 +48,7 @@ loop-again : tie.Need-loop-again Inv-loop μ-loop
 loop-again c =
     let loop = c .before .before .loop in
     let pre = c .before .before .before .pre in
-    (search needs, (put-more (loop .inv .1 .0) _ _ refl (omega (arith, pre .1)) refl, loop .inv .1 .1))
+    (search needs, (put-more (loop .inv .1 .0) _ (λ i m e. omega arith) (omega (arith, pre .1)) refl, loop .inv .1 .1))
 
 returns : tie.Need-returns Inv-loop μ-loop
 returns c =

@@ -1,78 +1,45 @@
 -- `weights::room_for` meets its contract.
 use native.Mathlib.Omega.{arith}
-use Prim.Native.Nat.{_+_, _*_, _-_}
+use mathlib.Core.Path.{_∙_}
+use Prim.Native.Nat.{ℕ, _+_, _*_, _-_, _<_}
 use lib.ListN.{getD}
-use Rattle.weights.proofs.Walks.{Walk, walk-start, walk-turn, walk-step, walk-done}
+use Rattle.weights.proofs.Puts.{zeros}
+use Rattle.weights.proofs.Walks.{Walk, Room, walk-start, walk-fits, walk-step, room-start, room-low, room-step, room-done}
 use borrow.Author.Needs.{needs}
 use Rattle.weights.proofs.room_for.Statement.{statement}
 use Rattle.weights.proofs.room_for.Tie as tie
 
 abbrev Inv-loop : tie.InvT-loop
-Inv-loop most q until held placed gone free modules least target room₀ at₀ f₀ i₀ room at f i =
-    Walk (λ x. getD most (q * 65 + x) 0) until held placed modules least target room at f i
+Inv-loop most until held placed gone free modules least target room₀ at₀ f₀ i₀ room at f i =
+    Walk until held placed modules target at f i
+    × ((q : ℕ) → q < 5 → Room (λ x. getD most (x * 5 + q) 0) until held placed modules least target (getD (room .of) q 0) at)
 
 abbrev μ-loop : tie.MeasureT-loop
-μ-loop most q until held placed gone free modules least target room₀ at₀ f₀ i₀ room at f i = placed - i
+μ-loop most until held placed gone free modules least target room₀ at₀ f₀ i₀ room at f i = placed - i
 
 loop-holds : tie.Need-loop-holds Inv-loop μ-loop
-loop-holds c = walk-start (λ x. c .pre .0 .0 (c .args .q * 65 + x)) (c .pre .0 .1) (c .pre .1 .1 .0) (c .pre .1 .1 .1)
+loop-holds c = (walk-start (c .pre .0 .1) (c .pre .1 .0) (c .pre .1 .1), λ q l. room-start (λ x. c .pre .0 .0 (x * 5 + q)) (zeros 5 q))
 
-mul-sooner : tie.Need-mul-sooner Inv-loop μ-loop
-mul-sooner c = search needs
+mul-next-end : tie.Need-mul-next-end Inv-loop μ-loop
+mul-next-end c = search needs
 
-element-copy-out-sooner : tie.Need-element-copy-out-sooner Inv-loop μ-loop
-element-copy-out-sooner c = search needs
+element-copy-out-next-end : tie.Need-element-copy-out-next-end Inv-loop μ-loop
+element-copy-out-next-end c = search needs
 
-sooner-requires : tie.Need-sooner-requires Inv-loop μ-loop
-sooner-requires c κs = search needs
+next-end-requires : tie.Need-next-end-requires Inv-loop μ-loop
+next-end-requires c κs = search needs
 
-later-requires : tie.Need-later-requires Inv-loop μ-loop
-later-requires c κs = search needs
+sub-with-room : tie.Need-sub-with-room Inv-loop μ-loop
+sub-with-room c = search needs
 
-mul-room : tie.Need-mul-room Inv-loop μ-loop
-mul-room c = search needs
-
-add-room : tie.Need-add-room Inv-loop μ-loop
-add-room c = search needs
-
-mul-room-2 : tie.Need-mul-room-2 Inv-loop μ-loop
-mul-room-2 c = search needs
-
-element-copy-out-room : tie.Need-element-copy-out-room Inv-loop μ-loop
-element-copy-out-room c = search needs
-
-cast-room : tie.Need-cast-room Inv-loop μ-loop
-cast-room c =
-    let loop = c .before .before .before .before .before .loop in
-    let loop-test = c .before .before .before .before .loop-test in
-    let k = walk-turn (loop .inv) (loop-test .taken) in
-    record { fits = omega (arith, k .small) }
-
-sub-room : tie.Need-sub-room Inv-loop μ-loop
-sub-room c = search needs
-
-cast-room-2 : tie.Need-cast-room-2 Inv-loop μ-loop
-cast-room-2 c = search needs
-
-mul-room-3 : tie.Need-mul-room-3 Inv-loop μ-loop
-mul-room-3 c =
-    let loop = c .before .before .before .before .before .loop in
-    let loop-test = c .before .before .before .before .loop-test in
-    let later = c .before .later in
-    let sooner = c .before .before .sooner in
-    let fits = c .before .before .before .before .before .before .fits in
-    let k = walk-turn (loop .inv) (loop-test .taken) in
-    record { fits = rw (later .ensures, sooner .ensures) (omega (arith, k .product, fits .target .fits)) }
-
-add-room-2 : tie.Need-add-room-2 Inv-loop μ-loop
-add-room-2 c =
-    let loop = c .before .before .before .before .before .loop in
-    let loop-test = c .before .before .before .before .loop-test in
-    let later = c .before .later in
-    let sooner = c .before .before .sooner in
-    let fits = c .before .before .before .before .before .before .fits in
-    let k = walk-turn (loop .inv) (loop-test .taken) in
-    record { fits = rw (later .ensures, sooner .ensures) (omega (arith, k .total, fits .target .fits)) }
+with-room-requires : tie.Need-with-room-requires Inv-loop μ-loop
+with-room-requires c κs =
+    let loop = c .before .before .before .loop in
+    let fits = c .before .before .before .before .fits in
+    let walk = loop .inv .0 in (
+      omega (arith, walk .rest, walk .narrow),
+      λ q l. omega (arith, room-low walk (loop .inv .1 q l) (c .next-end .result) (omega (arith, c .next-end .ensures)), c .next-end .ensures, walk .before, fits .target .fits),
+    )
 
 mul-f : tie.Need-mul-f Inv-loop μ-loop
 mul-f c = search needs
@@ -80,19 +47,11 @@ mul-f c = search needs
 element-copy-out-f : tie.Need-element-copy-out-f Inv-loop μ-loop
 element-copy-out-f c = search needs
 
-cast-f : tie.Need-cast-f Inv-loop μ-loop
-cast-f c =
-    let loop = c .before .before .before .before .before .before .loop in
-    let loop-test = c .before .before .before .before .before .loop-test in
-    let k = walk-turn (loop .inv) (loop-test .taken) in
-    record { fits = omega (arith, k .fits) }
-
 add-f : tie.Need-add-f Inv-loop μ-loop
 add-f c =
-    let loop = c .before .before .before .before .before .before .loop in
-    let loop-test = c .before .before .before .before .before .loop-test in
-    let k = walk-turn (loop .inv) (loop-test .taken) in
-    record { fits = omega (arith, k .fits) }
+    let loop = c .before .before .before .before .before .loop in
+    let loop-test = c .before .before .before .before .loop-test in
+    record { fits = omega (arith, walk-fits (loop .inv .0) (loop-test .taken)) }
 
 add-i : tie.Need-add-i Inv-loop μ-loop
 add-i c = search needs
@@ -102,59 +61,34 @@ loop-less c = search needs
 
 loop-again : tie.Need-loop-again Inv-loop μ-loop
 loop-again c =
-    let later = c .before .before .later in
-    let sooner = c .before .before .before .sooner in
-    let loop = c .before .before .before .before .before .before .loop in
-    let loop-test = c .before .before .before .before .before .loop-test in
-    rw (later .ensures, sooner .ensures) (walk-step (loop .inv) (loop-test .taken) _ (omega arith))
+    let loop = c .before .before .before .before .before .loop in
+    let next-end = c .before .before .next-end in
+    let loop-test = c .before .before .before .before .loop-test in
+    let with-room = c .before .with-room in
+    let walk = loop .inv .0 in
+    rw (next-end .ensures) (
+      walk-step walk (loop-test .taken),
+      λ q l. rw (with-room .ensures q l, next-end .ensures) (room-step walk (loop .inv .1 q l)),
+    )
 
-mul-result : tie.Need-mul-result Inv-loop μ-loop
-mul-result c = search needs
+sub-with-room-2 : tie.Need-sub-with-room-2 Inv-loop μ-loop
+sub-with-room-2 c = search needs
 
-add-result : tie.Need-add-result Inv-loop μ-loop
-add-result c = search needs
-
-mul-result-2 : tie.Need-mul-result-2 Inv-loop μ-loop
-mul-result-2 c = search needs
-
-element-copy-out-result : tie.Need-element-copy-out-result Inv-loop μ-loop
-element-copy-out-result c = search needs
-
-cast-result : tie.Need-cast-result Inv-loop μ-loop
-cast-result c =
-    let loop = c .before .before .loop in
-    let loop-test = c .before .loop-test in
-    let k = walk-done (loop .inv) (loop-test .left) in
-    record { fits = omega (arith, k .small) }
-
-sub-result : tie.Need-sub-result Inv-loop μ-loop
-sub-result c = search needs
-
-cast-result-2 : tie.Need-cast-result-2 Inv-loop μ-loop
-cast-result-2 c = search needs
-
-mul-result-3 : tie.Need-mul-result-3 Inv-loop μ-loop
-mul-result-3 c =
-    let loop = c .before .before .loop in
-    let loop-test = c .before .loop-test in
-    let fits = c .before .before .before .fits in
-    let k = walk-done (loop .inv) (loop-test .left) in
-    record { fits = omega (arith, k .product, fits .target .fits) }
-
-add-result-2 : tie.Need-add-result-2 Inv-loop μ-loop
-add-result-2 c =
-    let loop = c .before .before .loop in
-    let loop-test = c .before .loop-test in
-    let fits = c .before .before .before .fits in
-    let k = walk-done (loop .inv) (loop-test .left) in
-    record { fits = omega (arith, k .total, fits .target .fits) }
+with-room-requires-2 : tie.Need-with-room-requires-2 Inv-loop μ-loop
+with-room-requires-2 c κs =
+    let loop = c .before .loop in
+    let args = c .before .before .args in
+    let fits = c .before .before .fits in
+    let walk = loop .inv .0 in (
+      omega (arith, walk .rest, walk .narrow),
+      λ q l. omega (arith, room-low walk (loop .inv .1 q l) (args .target) (walk .before), fits .target .fits),
+    )
 
 returns : tie.Need-returns Inv-loop μ-loop
 returns c =
     let loop = c .before .before .loop in
     let loop-test = c .before .loop-test in
-    let k = walk-done (loop .inv) (loop-test .left) in
-    k .all
+    λ q l. c .with-room2 .ensures q l ∙ room-done (loop .inv .0) (loop .inv .1 q l) (loop-test .left)
 
 pub room-for-spec : {M : Type 1} → statement M
 room-for-spec =
@@ -163,33 +97,17 @@ room-for-spec =
     Inv-loop
     μ-loop
     loop-holds
-    mul-sooner
-    element-copy-out-sooner
-    sooner-requires
-    later-requires
-    mul-room
-    add-room
-    mul-room-2
-    element-copy-out-room
-    cast-room
-    sub-room
-    cast-room-2
-    mul-room-3
-    add-room-2
+    mul-next-end
+    element-copy-out-next-end
+    next-end-requires
+    sub-with-room
+    with-room-requires
     mul-f
     element-copy-out-f
-    cast-f
     add-f
     add-i
     loop-less
     loop-again
-    mul-result
-    add-result
-    mul-result-2
-    element-copy-out-result
-    cast-result
-    sub-result
-    cast-result-2
-    mul-result-3
-    add-result-2
+    sub-with-room-2
+    with-room-requires-2
     returns)

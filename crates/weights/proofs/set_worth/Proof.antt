@@ -1,75 +1,67 @@
 -- `weights::set_worth` meets its contract.
 use native.Mathlib.Omega.{arith}
-use mathlib.Core.Path.{_≡_, refl}
-use Prim.Native.Nat.{_+_, _*_, _-_, _≤_}
-use native.Mathlib.Numerals.{add-one}
+use mathlib.Core.Path.{_≡_}
+use Prim.Native.Nat.{ℕ, _+_, _*_, _<_}
+use lib.Count.{ones}
 use lib.ListN.{getD}
-use Rattle.bits.specs.Bits.{bit}
-use Rattle.counting.specs.Counting.{only, sum}
-use Rattle.counting.proofs.Tests.{only-le}
+use Rattle.bits.proofs.Walks.{Walk, walk-first, walk-next, walk-less}
+use Rattle.weights.proofs.Puts.{zeros}
+use Rattle.weights.proofs.Members.{Weighed, weighed-none, weighed-more, weighed-small, weighed-all}
 use borrow.Author.Needs.{needs}
 use Rattle.weights.proofs.set_worth.Statement.{statement}
 use Rattle.weights.proofs.set_worth.Tie as tie
 
 abbrev Inv-loop : tie.InvT-loop
-Inv-loop worth q set jobs total₀ k₀ total k =
-    (k ≤ jobs) × ((total ≡ sum k (λ i. only (bit set i) (getD worth (q * 20 + i) 0))) × (total ≤ 51840 * k))
+Inv-loop worth set jobs weight₀ rest₀ weight rest = Walk set jobs rest × ((q : ℕ) → q < 5 → Weighed set jobs (λ k. getD worth (k * 5 + q) 0) rest (getD (weight .of) q 0))
 
 abbrev μ-loop : tie.MeasureT-loop
-μ-loop worth q set jobs total₀ k₀ total k = jobs - k
+μ-loop worth set jobs weight₀ rest₀ weight rest = ones rest
+
+below32-requires : tie.Need-below32-requires Inv-loop μ-loop
+below32-requires c κs = search needs
 
 loop-holds : tie.Need-loop-holds Inv-loop μ-loop
-unfolding sum
-loop-holds c = (search needs, (refl, search needs))
+loop-holds c =
+    let args = c .before .args in
+    rw (c .below32 .ensures) (walk-first (args .jobs) (args .set), λ q l. weighed-none (args .set) (args .jobs) _ _ (zeros 5 q))
 
-mul-worth-in : tie.Need-mul-worth-in Inv-loop μ-loop
-mul-worth-in c = search needs
+lowest32-requires : tie.Need-lowest32-requires Inv-loop μ-loop
+lowest32-requires c κs = search needs
 
-add-worth-in : tie.Need-add-worth-in Inv-loop μ-loop
-add-worth-in c = search needs
-
-mul-worth-in-2 : tie.Need-mul-worth-in-2 Inv-loop μ-loop
-mul-worth-in-2 c = search needs
-
-element-copy-out-worth-in : tie.Need-element-copy-out-worth-in Inv-loop μ-loop
-element-copy-out-worth-in c = search needs
-
-worth-in-requires : tie.Need-worth-in-requires Inv-loop μ-loop
-worth-in-requires c κs = search needs
-
-add-total : tie.Need-add-total Inv-loop μ-loop
-add-total c =
-    let args = c .before .before .before .before .args in
-    let loop = c .before .before .before .loop in
+with-worth-requires : tie.Need-with-worth-requires Inv-loop μ-loop
+with-worth-requires c κs =
+    let loop = c .before .before .loop in
     let pre = c .before .before .before .before .pre in
-    let at = args .q * 20 + loop .k in
-    let w = only-le (bit (args .set) (loop .k)) (getD (args .worth .now) at 0) in
-    record { fits = omega (arith, w, c .worth-in .ensures, pre .0 at, loop .inv .1 .1, pre .1 .1) }
+    let k = c .lowest32 .result in
+    let member = c .lowest32 .ensures .1 in
+    let low = loop .inv .0 .below k member in
+    (omega (arith, pre .1), λ q l. omega (arith, pre .1, weighed-small (loop .inv .1 q l) k low member 51840 (λ i. pre .0 (i * 5 + q))))
 
-add-k : tie.Need-add-k Inv-loop μ-loop
-add-k c = search needs
+clear32-requires : tie.Need-clear32-requires Inv-loop μ-loop
+clear32-requires c κs =
+    let lowest32 = c .before .lowest32 in
+    lowest32 .ensures .0
 
 loop-less : tie.Need-loop-less Inv-loop μ-loop
-loop-less c = search needs
+loop-less c =
+    let loop = c .before .before .before .before .loop in
+    let lowest32 = c .before .before .lowest32 in
+    rw (c .clear32 .ensures) (walk-less (loop .rest) (lowest32 .result) (lowest32 .ensures .1))
 
 loop-again : tie.Need-loop-again Inv-loop μ-loop
-unfolding sum
 loop-again c =
-    let args = c .before .before .before .before .args in
-    let loop = c .before .before .before .loop in
-    let pre = c .before .before .before .before .pre in
-    let at = args .q * 20 + loop .k in
-    let w = only-le (bit (args .set) (loop .k)) (getD (args .worth .now) at 0) in (
-      search needs,
-      (rw (add-one, c .worth-in .ensures, loop .inv .1 .0), omega (arith, w, c .worth-in .ensures, pre .0 at, loop .inv .1 .1)),
-    )
+    let lowest32 = c .before .before .lowest32 in
+    let loop = c .before .before .before .before .loop in
+    let with-worth = c .before .with-worth in
+    let k = lowest32 .result in
+    let member = lowest32 .ensures .1 in
+    let low = loop .inv .0 .below k member in
+    rw (c .clear32 .ensures) (walk-next k (loop .inv .0), λ q l. rw (with-worth .ensures q l) (weighed-more (loop .inv .1 q l) k low member))
 
 returns : tie.Need-returns Inv-loop μ-loop
 returns c =
     let loop = c .before .loop in
-    let args = c .before .before .args in
-    let e : loop .k ≡ args .jobs = omega (arith, loop .inv .0, c .loop-test .left) in
-    rw e at (loop .inv .1 .0)
+    λ q l. weighed-all (loop .inv .1 q l) (omega (arith, c .loop-test .left))
 
 pub set-worth-spec : {M : Type 1} → statement M
 set-worth-spec =
@@ -77,14 +69,11 @@ set-worth-spec =
     (tie.spec
     Inv-loop
     μ-loop
+    below32-requires
     loop-holds
-    mul-worth-in
-    add-worth-in
-    mul-worth-in-2
-    element-copy-out-worth-in
-    worth-in-requires
-    add-total
-    add-k
+    lowest32-requires
+    with-worth-requires
+    clear32-requires
     loop-less
     loop-again
     returns)

@@ -1,8 +1,7 @@
 -- `weights::with_job` meets its contract.
 use native.Mathlib.Omega.{arith}
-use mathlib.Core.Path.{_≡_, sym}
+use mathlib.Core.Path.{_≡_}
 use Prim.Native.Nat.{ℕ, _+_, _-_, _≤_, _<_}
-use native.Mathlib.Nat.{zero-add}
 use lib.ListN.{replicate, length-replicate}
 use Rattle.weights.specs.Weights.{mostWith, Put}
 use Rattle.weights.proofs.Puts.{put-none, put-more}
@@ -12,7 +11,7 @@ use Rattle.weights.proofs.with_job.Tie as tie
 
 abbrev Inv-loop : tie.InvT-loop
 Inv-loop width weight modules table next₀ x₀ next x =
-    (x ≤ modules + 1) × Put (replicate 65 0) next 0 x (mostWith (table .at) width weight)
+    (x ≤ modules + 1) × Put (λ y. y) (replicate 65 0) next x (mostWith (table .at) width weight)
 
 abbrev μ-loop : tie.MeasureT-loop
 μ-loop width weight modules table next₀ x₀ next x = modules + 1 - x
@@ -45,7 +44,7 @@ loop-again c =
     let loop-test = c .before .before .before .loop-test in
     let size = length-replicate {A = ℕ} 65 0 in
     let low : loop .x < 65 = omega (arith, pre .1 .1, loop-test .taken) in
-    (search needs, put-more (loop .inv .1) (loop .x) _ (sym (zero-add _)) (omega arith) (c .most-with .ensures))
+    (search needs, put-more (loop .inv .1) _ (λ k m e. omega arith) (omega arith) (c .most-with .ensures))
 
 returns : tie.Need-returns Inv-loop μ-loop
 returns c =
