@@ -1,5 +1,5 @@
 -- `memory::recall` meets its contract.
-use Prim.Native.Nat.{_+_, _-_, _*_, _≤_}
+use Prim.Native.Nat.{_-_, _≤_}
 use native.Mathlib.Omega.{arith}
 use lib.ListN.{length}
 use Rattle.memory.specs.Entries.{groupOf}
@@ -9,10 +9,10 @@ use Rattle.memory.proofs.recall.Statement.{statement}
 use Rattle.memory.proofs.recall.Tie as tie
 
 abbrev Inv-loop : tie.InvT-loop
-Inv-loop memory ends jobs unplaced l len from way₀ way = way ≤ 16
+Inv-loop memory ends jobs unplaced l len from to way₀ way = way ≤ 16
 
 abbrev μ-loop : tie.MeasureT-loop
-μ-loop memory ends jobs unplaced l len from way₀ way = 16 - way
+μ-loop memory ends jobs unplaced l len from to way₀ way = 16 - way
 
 returns : tie.Need-returns Inv-loop μ-loop
 returns c = no
@@ -20,21 +20,11 @@ returns c = no
 group-at-requires : tie.Need-group-at-requires Inv-loop μ-loop
 group-at-requires c κs = search needs
 
+add-to : tie.Need-add-to Inv-loop μ-loop
+add-to c = search needs
+
 loop-holds : tie.Need-loop-holds Inv-loop μ-loop
 loop-holds c = search needs
-
-mul-at : tie.Need-mul-at Inv-loop μ-loop
-mul-at c = search needs
-
-add-at : tie.Need-add-at Inv-loop μ-loop
-add-at c =
-    let group-at = c .before .before .group-at in
-    record { fits = omega (arith, group-at .ensures .1) }
-
-add-to : tie.Need-add-to Inv-loop μ-loop
-add-to c =
-    let group-at = c .before .before .group-at in
-    record { fits = omega (arith, group-at .ensures .1) }
 
 sub-entry-ahead : tie.Need-sub-entry-ahead Inv-loop μ-loop
 sub-entry-ahead c = search needs
@@ -54,15 +44,14 @@ entry-ahead-requires c κs = search needs
 
 returns-2 : tie.Need-returns-2 Inv-loop μ-loop
 returns-2 c =
-    let args = c .before .before .before .before .before .before .before .before .args in
-    let loop = c .before .before .before .before .loop in
+    let a = c .before .before .before .before .before .before .before .before .args in
     let group-at = c .before .before .before .before .before .group-at in
+    let loop = c .before .before .before .before .loop in
+    let loop-test = c .before .before .before .loop-test in
     let entry-ahead = c .before .entry-ahead in
-    let a = args in
-    let s = groupOf (length (a .memory .now)) (a .unplaced) in
-    let v = loop .way in
-    λ e. hit-at (a .memory .now) (a .jobs) (a .ends .now) (a .unplaced) (a .l) (group-at .result + v * 46) (s * 16 + v)
-    (omega (arith, group-at .ensures .0)) (omega (arith, group-at .ensures .0, group-at .ensures .1)) (entry-ahead .ensures (c .if2 .taken))
+    let g = groupOf (length (a .memory .now)) (a .unplaced) in
+    λ e. hit-at (a .memory .now) (a .jobs) (a .ends .now) (a .unplaced) (a .l) (group-at .result) g (loop .way) (group-at .ensures .0)
+    (group-at .ensures .1) (loop-test .taken) (entry-ahead .ensures (c .if2 .taken))
 
 add-way : tie.Need-add-way Inv-loop μ-loop
 add-way c = search needs
@@ -84,10 +73,8 @@ recall-spec =
     μ-loop
     returns
     group-at-requires
-    loop-holds
-    mul-at
-    add-at
     add-to
+    loop-holds
     sub-entry-ahead
     part-entry-ahead-start
     part-entry-ahead-end
