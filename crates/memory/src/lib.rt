@@ -8,14 +8,17 @@ ghost use lib.ListN.{length, replicate};
 ghost use Rattle.words.specs.Words.{u32At};
 ghost use Rattle.memory.specs.Entries.{groupOf, entryIn, EntryAhead, FiguresOf, Stored, Hit, Adds};
 
-// Whether an end is no later than another or than minute l.
-fn within(x: u16, end: u16, l: u16) -> bool
-    ensures { λ r. ⌜ (r ≡ true → x ≤ max end l) ⌝ }
+// 1 where a minute is later than an end and than minute l, else 0.
+fn later(x: u16, end: u16, l: u16) -> u16
+    ensures { λ r. ⌜ (r ≤ 1) × (r ≡ 0 → x ≤ max end l) ⌝ }
 {
     if x <= end {
-        return true;
+        return 0;
     }
-    x <= l
+    if x <= l {
+        return 0;
+    }
+    1
 }
 
 // Whether the part-plan of this entry of a group has this set and is ahead, from minute l on, of the one with these ends.
@@ -34,17 +37,13 @@ fn entry_ahead(
         return false;
     }
     let at = 64 + way * 42;
-    if words::read16(group, at) > l {
-        return false;
-    }
+    let mut late = later(words::read16(group, at), l, l);
     let mut i: usize = 0;
     while i < jobs {
-        if !within(words::read16(group, at + 2 + 2 * i), ends[i], l) {
-            return false;
-        }
+        late += later(words::read16(group, at + 2 + 2 * i), ends[i], l);
         i += 1;
     }
-    true
+    late == 0
 }
 
 // Writes the set of an entry.
