@@ -3,8 +3,10 @@ use mathlib.Core.Path.{_≡_, refl, sym, ap, _∙_, subst}
 use mathlib.Core.Bool.{true, false}
 use mathlib.Core.Logic.{_⊎_, inl, inr}
 use mathlib.Core.List.{List, _++_, append-assoc}
-use Prim.Native.Nat.{ℕ, _+_, _-_, _*_, _/_, _%_, _≤_, _<_, max}
+use Prim.Native.Nat.{ℕ, suc, _+_, _-_, _*_, _/_, _%_, _^_, _≤_, _<_, max}
 use native.Mathlib.Omega.{arith}
+use native.Mathlib.Nat.{two-pow-succ}
+use lib.Count.{under, trailingZeros}
 use lib.ListN.{getD, length, take, drop, length-drop, length-append, take-append-drop, replicate, length-replicate, getD-replicate}
 use lib.Seq.{getD-take, getD-drop, take-at, drop-at, drop-drop, drop-append-le, take-append-le, length-take-le}
 use borrow.Rule.Slice.PartMut.{putMid}
@@ -15,6 +17,23 @@ use Rattle.memory.specs.Entries.{Entry, entryIn, groupAt, entries, entry
 -- false is not true
 pub no : {A : Type 0} → false ≡ true → A
 no e = let z : _≡_ {A = ℕ} 0 1 = cc in absurd (omega arith)
+
+-- ---- a set of entries
+
+trailing-lt : (w k n : ℕ) → k ≤ w → 0 < n → n < 2 ^ k → trailingZeros w n < k
+unfolding trailingZeros
+trailing-lt w ℕ.zero n h p l = absurd (omega arith)
+trailing-lt ℕ.zero (suc k) n h p l = absurd (omega arith)
+trailing-lt (suc w) (suc k) n h p l =
+    go (n % 2) refl (λ e. trailing-lt w k (n / 2) (omega arith) (omega arith) (omega (arith, two-pow-succ k)))
+  where
+    go : (d : ℕ) → n % 2 ≡ d → (n % 2 ≡ 0 → trailingZeros w (n / 2) < k) → under d (trailingZeros w (n / 2)) < suc k
+    go ℕ.zero e h = omega (arith, h e)
+    go (suc d) e h = omega arith
+
+-- the first entry of a set that is not empty
+pub lowest-inside : (n : ℕ) → 0 < n → n < 65536 → trailingZeros 32 n < 16
+lowest-inside n p l = trailing-lt 32 16 n (omega arith) p l
 
 -- ---- a part of n bytes replaced
 

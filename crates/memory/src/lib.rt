@@ -46,6 +46,27 @@ fn entry_ahead(
     late == 0
 }
 
+// 1 for the same set, else 0.
+fn same(set: u32, unplaced: u32) -> u32
+    ensures { λ r. ⌜ r ≤ 1 ⌝ }
+{
+    if set == unplaced { 1 } else { 0 }
+}
+
+// The entries of a group with this set, a bit for each: those at which it is worth to look.
+fn ways_with(group: &[u8], unplaced: u32) -> u32
+    requires { ⌜ length (now group) ≡ 736 ⌝ }
+    ensures { λ r. ⌜ r < 65536 ⌝ }
+{
+    let mut ways: u32 = 0;
+    let mut n: usize = 0;
+    while n < 16 {
+        ways = ways * 2 + same(words::read32(group, (15 - n) * 4), unplaced);
+        n += 1;
+    }
+    ways
+}
+
 // Writes the set of an entry.
 fn write_set(set: &mut [u8], unplaced: u32)
     requires { ⌜ length (now set) ≡ 4 ⌝ }
@@ -122,12 +143,13 @@ pub fn recall(memory: &[u8], ends: &[u16; 20], jobs: usize, unplaced: u32, l: u1
     }
     let from = group_at(len, unplaced);
     let to = from + 736;
-    let mut way: usize = 0;
-    while way < 16 {
+    let mut ways = ways_with(&memory[from..to], unplaced);
+    while ways > 0 {
+        let way = u32::trailing_zeros(ways) as usize;
         if entry_ahead(&memory[from..to], way, ends, jobs, unplaced, l) {
             return true;
         }
-        way += 1;
+        ways = ways & (ways - 1);
     }
     false
 }
