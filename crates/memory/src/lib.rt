@@ -53,7 +53,7 @@ fn same(set: u32, unplaced: u32) -> u32
     if set == unplaced { 1 } else { 0 }
 }
 
-// The entries of a group with this set, a bit for each: those at which it is worth to look.
+// The entries of a group with this set, a bit for each: where `entry_ahead` looks closer.
 fn ways_with(group: &[u8], unplaced: u32) -> u32
     requires { ⌜ length (now group) ≡ 736 ⌝ }
     ensures { λ r. ⌜ r < 65536 ⌝ }
