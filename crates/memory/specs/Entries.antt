@@ -1,4 +1,5 @@
--- Entries of working memory: 46 bytes each, the unplaced set (4), the last start (2), the ends by job (2 each).
+-- Entries of working memory. A group of 736 bytes has 16: it begins with their sets of unplaced jobs, 4 bytes each, and behind these
+-- stand their figures, 42 bytes each, the last start (2) and the ends by job (2 each).
 -- No contract says which entry is looked at or written, only what holds of some entry or of each.
 use mathlib.Core.Path.{_≡_}
 use mathlib.Core.Logic.{_⊎_}
@@ -7,44 +8,63 @@ use Prim.Native.Nat.{ℕ, _+_, _*_, _/_, _%_, _≤_, _<_, max}
 use lib.ListN.{length, getD, take, drop}
 use Rattle.words.specs.Words.{u16At, u32At}
 
--- the figures of an entry
-abbrev pub setAt : List ℕ → ℕ
-setAt e = u32At e 0
+pub record Entry : Type 0 where
+  pub set : ℕ
+  pub figures : List ℕ
 
+-- the entry of a group
+unfoldable pub entryIn : List ℕ → ℕ → Entry
+entryIn group way = record { set = u32At group (way * 4); figures = take 42 (drop (64 + way * 42) group) }
+
+unfoldable pub groupAt : List ℕ → ℕ → List ℕ
+groupAt m g = take 736 (drop (g * 736) m)
+
+-- how many entries a memory has, and the k-th of them
+abbrev pub entries : List ℕ → ℕ
+entries m = length m / 736 * 16
+
+unfoldable pub entryAt : List ℕ → ℕ → Entry
+entryAt m k = entryIn (groupAt m (k / 16)) (k % 16)
+
+-- the figures of an entry
 abbrev pub lastAt : List ℕ → ℕ
-lastAt e = u16At e 4
+lastAt f = u16At f 0
 
 abbrev pub endAt : List ℕ → ℕ → ℕ
-endAt e i = u16At e (6 + 2 * i)
+endAt f i = u16At f (2 + 2 * i)
 
 -- the entry has this set, a last start no later than minute l, and ends no later than these or l
-pub record EntryAhead (e : List ℕ) (jobs : ℕ) (ends : List ℕ) (unplaced l : ℕ) : Type 0 where
-  pub set : setAt e ≡ unplaced
-  pub last : lastAt e ≤ l
-  pub end : (i : ℕ) → i < jobs → endAt e i ≤ max (getD ends i 0) l
+pub record EntryAhead (e : Entry) (jobs : ℕ) (ends : List ℕ) (unplaced l : ℕ) : Type 0 where
+  pub set : e .set ≡ unplaced
+  pub last : lastAt (e .figures) ≤ l
+  pub end : (i : ℕ) → i < jobs → endAt (e .figures) i ≤ max (getD ends i 0) l
 
--- the entry has these figures
-pub record EntryOf (e : List ℕ) (jobs : ℕ) (ends : List ℕ) (unplaced start : ℕ) : Type 0 where
-  pub size : length e ≡ 46
-  pub set : setAt e ≡ unplaced
-  pub last : lastAt e ≡ start
-  pub end : (i : ℕ) → i < jobs → endAt e i ≡ getD ends i 0
+-- these are the figures
+pub record FiguresOf (f : List ℕ) (jobs : ℕ) (ends : List ℕ) (start : ℕ) : Type 0 where
+  pub last : lastAt f ≡ start
+  pub end : (i : ℕ) → i < jobs → endAt f i ≡ getD ends i 0
 
--- the group of 16 entries of a set, in a memory of len bytes
+-- the entry has this set and these figures
+pub record EntryOf (e : Entry) (jobs : ℕ) (ends : List ℕ) (unplaced start : ℕ) : Type 0 where
+  pub set : e .set ≡ unplaced
+  pub figures : FiguresOf (e .figures) jobs ends start
+
+-- the group of a set, in a memory of len bytes
 unfoldable pub groupOf : ℕ → ℕ → ℕ
 groupOf len unplaced = unplaced % (len / 736)
-
--- the k-th entry
-unfoldable pub entryAt : List ℕ → ℕ → List ℕ
-entryAt m k = take 46 (drop (k * 46) m)
 
 -- some entry is ahead
 pub record Hit (m : List ℕ) (jobs : ℕ) (ends : List ℕ) (unplaced l : ℕ) : Type 0 where
   pub at : ℕ
-  pub inside : at < length m / 46
+  pub inside : at < entries m
   pub ahead : EntryAhead (entryAt m at) jobs ends unplaced l
 
--- each entry is as it was, or has these figures
+-- each entry of a group is as it was, or has this set and these figures
+abbrev pub Stored : List ℕ → List ℕ → ℕ → List ℕ → ℕ → ℕ → Type 0
+Stored g g′ jobs ends unplaced last =
+    (way : ℕ) → way < 16 → (entryIn g′ way ≡ entryIn g way) ⊎ EntryOf (entryIn g′ way) jobs ends unplaced last
+
+-- each entry of a memory is as it was, or has this set and these figures
 pub record Adds (m m′ : List ℕ) (jobs : ℕ) (ends : List ℕ) (unplaced last : ℕ) : Type 0 where
   pub size : length m′ ≡ length m
-  pub each : (k : ℕ) → k < length m / 46 → (entryAt m′ k ≡ entryAt m k) ⊎ EntryOf (entryAt m′ k) jobs ends unplaced last
+  pub each : (k : ℕ) → k < entries m → (entryAt m′ k ≡ entryAt m k) ⊎ EntryOf (entryAt m′ k) jobs ends unplaced last

@@ -1,55 +1,105 @@
-// Remembered part-plans in lent working memory of any length. An entry has 46 bytes: the unplaced set, the last start and the ends by
-// job. A set has 16 entries. Which entry is written, or forgotten, changes no answer.
+// Remembered part-plans in lent working memory of any length. A group has 16 entries: their unplaced sets, side by side so that a
+// look at all is short, and behind them the figures of each, the last start and the ends by job. Which entry is written, or
+// forgotten, changes no answer.
 ghost use mathlib.Core.Path.{_≡_};
 ghost use mathlib.Core.Bool.{true};
 ghost use Prim.Native.Nat.{_+_, _*_, _<_, _≤_, max};
 ghost use lib.ListN.{length, replicate};
-ghost use Rattle.memory.specs.Entries.{groupOf, EntryAhead, EntryOf, Hit, Adds};
+ghost use Rattle.words.specs.Words.{u32At};
+ghost use Rattle.memory.specs.Entries.{groupOf, entryIn, EntryAhead, FiguresOf, Stored, Hit, Adds};
 
-// Whether an end is no later than another or than minute l.
-fn within(x: u16, end: u16, l: u16) -> bool
-    ensures { λ r. ⌜ (r ≡ true → x ≤ max end l) ⌝ }
+// 1 where a minute is later than an end and than minute l, else 0.
+fn later(x: u16, end: u16, l: u16) -> u16
+    ensures { λ r. ⌜ (r ≤ 1) × (r ≡ 0 → x ≤ max end l) ⌝ }
 {
     if x <= end {
-        return true;
+        return 0;
     }
-    x <= l
+    if x <= l {
+        return 0;
+    }
+    1
 }
 
-// Whether the part-plan of this entry has this set and is ahead, from minute l on, of the one with these ends.
-fn entry_ahead(entry: &[u8], ends: &[u16; 20], jobs: usize, unplaced: u32, l: u16) -> bool
-    requires { ⌜ (length (now entry) ≡ 46) × (jobs ≤ 20) ⌝ }
-    ensures { λ r. ⌜ (r ≡ true → EntryAhead (now (entry .entry)) jobs (now (ends .entry)) unplaced l) ⌝ }
+// Whether the part-plan of this entry of a group has this set and is ahead, from minute l on, of the one with these ends.
+fn entry_ahead(
+    group: &[u8],
+    way: usize,
+    ends: &[u16; 20],
+    jobs: usize,
+    unplaced: u32,
+    l: u16,
+) -> bool
+    requires { ⌜ (length (now group) ≡ 736) × (way < 16) × (jobs ≤ 20) ⌝ }
+    ensures { λ r. ⌜ (r ≡ true → EntryAhead (entryIn (now (group .entry)) way) jobs (now (ends .entry)) unplaced l) ⌝ }
 {
-    if words::read32(entry, 0) != unplaced {
+    if words::read32(group, way * 4) != unplaced {
         return false;
     }
-    if words::read16(entry, 4) > l {
-        return false;
-    }
+    let at = 64 + way * 42;
+    let mut late = later(words::read16(group, at), l, l);
     let mut i: usize = 0;
     while i < jobs {
-        if !within(words::read16(entry, 6 + 2 * i), ends[i], l) {
-            return false;
-        }
+        late += later(words::read16(group, at + 2 + 2 * i), ends[i], l);
         i += 1;
     }
-    true
+    late == 0
 }
 
-// Writes an entry.
-fn store(entry: &mut [u8], ends: &[u16; 20], jobs: usize, unplaced: u32, last: u16)
-    requires { ⌜ (length (now entry) ≡ 46) × (jobs ≤ 20) ⌝ }
-    ensures { λ _. ⌜ EntryOf (now (entry .exit)) jobs (now (ends .entry)) unplaced last ⌝ }
+// 1 for the same set, else 0.
+fn same(set: u32, unplaced: u32) -> u32
+    ensures { λ r. ⌜ r ≤ 1 ⌝ }
 {
-    words::write16(entry, 0, (unplaced % 65536) as u16);
-    words::write16(entry, 2, (unplaced / 65536) as u16);
-    words::write16(entry, 4, last);
+    if set == unplaced { 1 } else { 0 }
+}
+
+// The entries of a group with this set, a bit for each: where `entry_ahead` looks closer.
+fn ways_with(group: &[u8], unplaced: u32) -> u32
+    requires { ⌜ length (now group) ≡ 736 ⌝ }
+    ensures { λ r. ⌜ r < 65536 ⌝ }
+{
+    let mut ways: u32 = 0;
+    let mut n: usize = 0;
+    while n < 16 {
+        ways = ways * 2 + same(words::read32(group, (15 - n) * 4), unplaced);
+        n += 1;
+    }
+    ways
+}
+
+// Writes the set of an entry.
+fn write_set(set: &mut [u8], unplaced: u32)
+    requires { ⌜ length (now set) ≡ 4 ⌝ }
+    ensures { λ _. ⌜ u32At (now (set .exit)) 0 ≡ unplaced ⌝ }
+{
+    words::write16(set, 0, (unplaced % 65536) as u16);
+    words::write16(set, 2, (unplaced / 65536) as u16);
+}
+
+// Writes the figures of an entry.
+fn write_figures(figures: &mut [u8], ends: &[u16; 20], jobs: usize, last: u16)
+    requires { ⌜ (length (now figures) ≡ 42) × (jobs ≤ 20) ⌝ }
+    ensures { λ _. ⌜ FiguresOf (now (figures .exit)) jobs (now (ends .entry)) last ⌝ }
+{
+    words::write16(figures, 0, last);
     let mut i: usize = 0;
     while i < jobs {
-        words::write16(entry, 6 + 2 * i, ends[i]);
+        words::write16(figures, 2 + 2 * i, ends[i]);
         i += 1;
     }
+}
+
+// Writes an entry of a group.
+fn store(group: &mut [u8], way: usize, ends: &[u16; 20], jobs: usize, unplaced: u32, last: u16)
+    requires { ⌜ (length (now group) ≡ 736) × (way < 16) × (jobs ≤ 20) ⌝ }
+    ensures { λ _. ⌜ Stored (now (group .entry)) (now (group .exit)) jobs (now (ends .entry)) unplaced last ⌝ }
+{
+    let from = way * 4;
+    let to = from + 4;
+    write_set(&mut group[from..to], unplaced);
+    let at = 64 + way * 42;
+    let end = at + 42;
+    write_figures(&mut group[at..end], ends, jobs, last);
 }
 
 // Where a memory of len bytes has the entries of a set.
@@ -92,14 +142,14 @@ pub fn recall(memory: &[u8], ends: &[u16; 20], jobs: usize, unplaced: u32, l: u1
         return false;
     }
     let from = group_at(len, unplaced);
-    let mut way: usize = 0;
-    while way < 16 {
-        let at = from + way * 46;
-        let to = at + 46;
-        if entry_ahead(&memory[at..to], ends, jobs, unplaced, l) {
+    let to = from + 736;
+    let mut ways = ways_with(&memory[from..to], unplaced);
+    while ways > 0 {
+        let way = u32::trailing_zeros(ways) as usize;
+        if entry_ahead(&memory[from..to], way, ends, jobs, unplaced, l) {
             return true;
         }
-        way += 1;
+        ways = ways & (ways - 1);
     }
     false
 }
@@ -115,9 +165,8 @@ pub fn remember(memory: &mut [u8], ends: &[u16; 20], jobs: usize, unplaced: u32,
     }
     let from = group_at(len, unplaced);
     let way = way_of(ends, jobs, last);
-    let at = from + way * 46;
-    let to = at + 46;
-    store(&mut memory[at..to], ends, jobs, unplaced, last);
+    let to = from + 736;
+    store(&mut memory[from..to], way, ends, jobs, unplaced, last);
 }
 
 // Sets every byte to 0.

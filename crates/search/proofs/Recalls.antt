@@ -3,10 +3,10 @@ use mathlib.Core.Path.{_≡_, refl, sym, ap, _∙_, subst}
 use mathlib.Core.Logic.{_⊎_, inl, inr}
 use mathlib.Core.Bool.{Bool, true, false, not}
 use mathlib.Core.List.{List}
-use Prim.Native.Nat.{ℕ, suc, _/_, _≤_, _<_}
+use Prim.Native.Nat.{ℕ, suc, _≤_, _<_}
 use native.Mathlib.Omega.{arith}
 use lib.Count.{ones}
-use lib.ListN.{length, getD, replicate}
+use lib.ListN.{getD, replicate}
 use Rattle.counting.proofs.Tests.{clash}
 use Rattle.bits.specs.Bits.{bit}
 use Rattle.bits.proofs.Ones.{ones-none}
@@ -19,7 +19,7 @@ use Rattle.tables.specs.Tables.{sheetOf}
 use Rattle.placement.specs.declared.Part.{Part}
 use Rattle.placement.specs.Part.{wordOf}
 use Rattle.placement.proofs.Parts.{left-count}
-use Rattle.memory.specs.Entries.{setAt, endAt, entryAt, EntryOf, Hit, Adds}
+use Rattle.memory.specs.Entries.{Entry, entries, entryAt, endAt, EntryOf, Hit, Adds}
 use Rattle.memory.proofs.Slots.{zero-sets}
 use Rattle.candidates.specs.Candidates.{Known}
 use Rattle.search.specs.Search.{StandsFor, Remembered}
@@ -63,21 +63,21 @@ module _ (need minutes earlier : List ℕ) (jobs modules : ℕ) (part : Part) (k
   unfolding Remembered
   remembered-adds m m′ e h c a k i p = go (a .each k i′)
     where
-      i′ : k < length m / 46
+      i′ : k < entries m
       i′ = rw (a .size) at i
 
       go : (entryAt m′ k ≡ entryAt m k) ⊎ EntryOf (entryAt m′ k) jobs (part .ends) (part .unplaced) (part .last)
           → (v : List ℕ) × StandsFor S (entryAt m′ k) v × CannotBeat S e v
       go (inl q) =
           let v = h k i′ (rw q at p) in
-          (v .0, subst (λ (x : List ℕ). StandsFor S x (v .0)) (sym q) (v .1), v .2)
+          (v .0, subst (λ (x : Entry). StandsFor S x (v .0)) (sym q) (v .1), v .2)
       go (inr y) = (
         w,
         record {
           follows = known .is .follows;
           set = λ i l. ap (λ (x : ℕ). bit x i) (y .set) ∙ known .is .figures .set i l;
-          last = y .last ∙ known .is .figures .last;
-          ends = λ i l. y .end i l ∙ known .is .figures .ends i l;
+          last = y .figures .last ∙ known .is .figures .last;
+          ends = λ i l. y .figures .end i l ∙ known .is .figures .ends i l;
         },
         c,
       )
@@ -88,7 +88,7 @@ module _ (need minutes earlier : List ℕ) (jobs modules : ℕ) (part : Part) (k
   unfolding Remembered
   hit-cut m e l pos none h t =
       let x = entryAt m (t .at) in
-      let q : setAt x ≡ part .unplaced = t .ahead .set in
+      let q : x .set ≡ part .unplaced = t .ahead .set in
       let r = h (t .at) (t .inside) (rw q (some-ones (part .unplaced) pos)) in
       let v = r .0 in
       let st = r .1 in
@@ -99,7 +99,7 @@ module _ (need minutes earlier : List ℕ) (jobs modules : ℕ) (part : Part) (k
         last = omega (arith, st .last, t .ahead .last);
         ends = λ i k a.
             let b : partOf S w .placed i ≡ true = sym (same i k) ∙ a in
-            let y : endAt x i ≡ finish S (partOf S v .plan) i = rw a at (st .ends i k) in
+            let y : endAt (x .figures) i ≡ finish S (partOf S v .plan) i = rw a at (st .ends i k) in
             let z : getD (part .ends) i 0 ≡ finish S (partOf S w .plan) i = rw b at (known .is .figures .ends i k) in
             omega (arith, t .ahead .end i k);
       }) none (omega (arith, left-count need minutes earlier jobs modules (known .fit) part w (known .is))) (r .2)

@@ -3,7 +3,7 @@ use mathlib.Core.Path.{_≡_}
 use mathlib.Core.Logic.{_⊎_}
 use mathlib.Core.Bool.{true, false, not}
 use mathlib.Core.List.{List, [], _∷_, _++_}
-use Prim.Native.Nat.{ℕ, suc, _/_, _≤_, _<_}
+use Prim.Native.Nat.{ℕ, suc, _≤_, _<_}
 use lib.Dec.{ltb}
 use lib.ListN.{length, getD, take, replicate}
 use Rattle.counting.specs.Counting.{only, largest}
@@ -20,21 +20,21 @@ use Rattle.relations.specs.Relations.{Related}
 use Rattle.candidates.specs.Candidates.{Known}
 use Rattle.weights.specs.Weights.{Weighted}
 use Rattle.bounds.specs.Bounds.{Tails}
-use Rattle.memory.specs.Entries.{setAt, lastAt, endAt, entryAt}
+use Rattle.memory.specs.Entries.{Entry, entries, entryAt, lastAt, endAt}
 use Rattle.search.specs.declared.Found.{Found}
 
 -- ---- working memory
 
 -- the entry is that of the part-plan of v
-pub record StandsFor (S : Sheet) (e v : List ℕ) : Type 0 where
+pub record StandsFor (S : Sheet) (e : Entry) (v : List ℕ) : Type 0 where
   pub follows : Follows S noJobs v
-  pub set : (i : ℕ) → i < S .jobs → bit (setAt e) i ≡ not (partOf S v .placed i)
-  pub last : lastAt e ≡ partOf S v .last
-  pub ends : (i : ℕ) → i < S .jobs → endAt e i ≡ only (partOf S v .placed i) (finish S (partOf S v .plan) i)
+  pub set : (i : ℕ) → i < S .jobs → bit (e .set) i ≡ not (partOf S v .placed i)
+  pub last : lastAt (e .figures) ≡ partOf S v .last
+  pub ends : (i : ℕ) → i < S .jobs → endAt (e .figures) i ≡ only (partOf S v .placed i) (finish S (partOf S v .plan) i)
 
 -- each entry with a set is that of a part-plan which cannot beat e
 unfoldable pub Remembered : Sheet → List ℕ → ℕ → Type 0
-Remembered S m e = (k : ℕ) → k < length m / 46 → 0 < setAt (entryAt m k)
+Remembered S m e = (k : ℕ) → k < entries m → 0 < entryAt m k .set
     → (v : List ℕ) × StandsFor S (entryAt m k) v × CannotBeat S e v
 
 -- ---- orders that end by a target

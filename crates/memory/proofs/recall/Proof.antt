@@ -1,18 +1,20 @@
 -- `memory::recall` meets its contract.
-use Prim.Native.Nat.{_+_, _-_, _*_, _≤_}
+use Prim.Native.Nat.{_-_, _<_}
 use native.Mathlib.Omega.{arith}
+use lib.Bits.{and-le-l, and-le-r}
+use lib.Count.{trailingZeros, trailing-le}
 use lib.ListN.{length}
 use Rattle.memory.specs.Entries.{groupOf}
-use Rattle.memory.proofs.Slots.{no, hit-at}
+use Rattle.memory.proofs.Slots.{no, lowest-inside, hit-at}
 use borrow.Author.Needs.{needs}
 use Rattle.memory.proofs.recall.Statement.{statement}
 use Rattle.memory.proofs.recall.Tie as tie
 
 abbrev Inv-loop : tie.InvT-loop
-Inv-loop memory ends jobs unplaced l len from way₀ way = way ≤ 16
+Inv-loop memory ends jobs unplaced l len from to ways₀ ways = ways < 65536
 
 abbrev μ-loop : tie.MeasureT-loop
-μ-loop memory ends jobs unplaced l len from way₀ way = 16 - way
+μ-loop memory ends jobs unplaced l len from to ways₀ ways = ways
 
 returns : tie.Need-returns Inv-loop μ-loop
 returns c = no
@@ -20,58 +22,70 @@ returns c = no
 group-at-requires : tie.Need-group-at-requires Inv-loop μ-loop
 group-at-requires c κs = search needs
 
-loop-holds : tie.Need-loop-holds Inv-loop μ-loop
-loop-holds c = search needs
-
-mul-at : tie.Need-mul-at Inv-loop μ-loop
-mul-at c = search needs
-
-add-at : tie.Need-add-at Inv-loop μ-loop
-add-at c =
-    let group-at = c .before .before .group-at in
-    record { fits = omega (arith, group-at .ensures .1) }
-
 add-to : tie.Need-add-to Inv-loop μ-loop
-add-to c =
-    let group-at = c .before .before .group-at in
-    record { fits = omega (arith, group-at .ensures .1) }
+add-to c = search needs
+
+sub-ways-with : tie.Need-sub-ways-with Inv-loop μ-loop
+sub-ways-with c = search needs
+
+part-ways-with-start : tie.Need-part-ways-with-start Inv-loop μ-loop
+part-ways-with-start c = search needs
+
+part-ways-with-end : tie.Need-part-ways-with-end Inv-loop μ-loop
+part-ways-with-end c = search needs
+
+ways-with-requires : tie.Need-ways-with-requires Inv-loop μ-loop
+ways-with-requires c κs = search needs
+
+loop-holds : tie.Need-loop-holds Inv-loop μ-loop
+loop-holds c = c .ways-with .ensures
+
+cast-way : tie.Need-cast-way Inv-loop μ-loop
+cast-way c = omega (arith, trailing-le 32 (c .before .loop .ways))
 
 sub-entry-ahead : tie.Need-sub-entry-ahead Inv-loop μ-loop
 sub-entry-ahead c = search needs
 
 part-entry-ahead-start : tie.Need-part-entry-ahead-start Inv-loop μ-loop
 part-entry-ahead-start c =
-    let group-at = c .before .before .group-at in
+    let group-at = c .before .before .before .before .group-at in
     omega (arith, group-at .ensures .1)
 
 part-entry-ahead-end : tie.Need-part-entry-ahead-end Inv-loop μ-loop
 part-entry-ahead-end c =
-    let group-at = c .before .before .group-at in
+    let group-at = c .before .before .before .before .group-at in
     omega (arith, group-at .ensures .1)
 
 entry-ahead-requires : tie.Need-entry-ahead-requires Inv-loop μ-loop
-entry-ahead-requires c κs = search needs
+entry-ahead-requires c κs =
+    let loop = c .before .before .loop in
+    let loop-test = c .before .loop-test in
+    (search needs, lowest-inside (loop .ways) (loop-test .taken) (loop .inv), search needs)
 
 returns-2 : tie.Need-returns-2 Inv-loop μ-loop
 returns-2 c =
-    let args = c .before .before .before .before .before .before .before .before .args in
-    let loop = c .before .before .before .before .loop in
-    let group-at = c .before .before .before .before .before .group-at in
     let entry-ahead = c .before .entry-ahead in
-    let a = args in
-    let s = groupOf (length (a .memory .now)) (a .unplaced) in
-    let v = loop .way in
-    λ e. hit-at (a .memory .now) (a .jobs) (a .ends .now) (a .unplaced) (a .l) (group-at .result + v * 46) (s * 16 + v)
-    (omega (arith, group-at .ensures .0)) (omega (arith, group-at .ensures .0, group-at .ensures .1)) (entry-ahead .ensures (c .if2 .taken))
+    let loop-test = c .before .before .before .loop-test in
+    let loop = c .before .before .before .before .loop in
+    let group-at = c .before .before .before .before .before .before .before .group-at in
+    let a = c .before .before .before .before .before .before .before .before .before .before .args in
+    let g = groupOf (length (a .memory .now)) (a .unplaced) in
+    λ e. hit-at (a .memory .now) (a .jobs) (a .ends .now) (a .unplaced) (a .l) (group-at .result) g (trailingZeros 32 (loop .ways))
+    (group-at .ensures .0) (group-at .ensures .1) (lowest-inside (loop .ways) (loop-test .taken) (loop .inv))
+    (entry-ahead .ensures (c .if2 .taken))
 
-add-way : tie.Need-add-way Inv-loop μ-loop
-add-way c = search needs
+sub-ways : tie.Need-sub-ways Inv-loop μ-loop
+sub-ways c = search needs
 
 loop-less : tie.Need-loop-less Inv-loop μ-loop
-loop-less c = search needs
+loop-less c =
+    let loop = c .before .before .before .before .loop in
+    omega (arith, and-le-r (loop .ways) (loop .ways - 1), c .before .before .before .loop-test .taken)
 
 loop-again : tie.Need-loop-again Inv-loop μ-loop
-loop-again c = search needs
+loop-again c =
+    let loop = c .before .before .before .before .loop in
+    omega (arith, and-le-l (loop .ways) (loop .ways - 1), loop .inv)
 
 returns-3 : tie.Need-returns-3 Inv-loop μ-loop
 returns-3 c = no
@@ -84,16 +98,19 @@ recall-spec =
     μ-loop
     returns
     group-at-requires
-    loop-holds
-    mul-at
-    add-at
     add-to
+    sub-ways-with
+    part-ways-with-start
+    part-ways-with-end
+    ways-with-requires
+    loop-holds
+    cast-way
     sub-entry-ahead
     part-entry-ahead-start
     part-entry-ahead-end
     entry-ahead-requires
     returns-2
-    add-way
+    sub-ways
     loop-less
     loop-again
     returns-3)

@@ -1,5 +1,4 @@
 -- `memory::remember` meets its contract.
-use Prim.Native.Nat.{_+_, _*_}
 use native.Mathlib.Omega.{arith}
 use lib.ListN.{length}
 use Rattle.memory.specs.Entries.{groupOf}
@@ -18,12 +17,6 @@ group-at-requires c κs = search needs
 
 way-of-requires : tie.Need-way-of-requires
 way-of-requires c κs = search needs
-
-mul-at : tie.Need-mul-at
-mul-at c = search needs
-
-add-at : tie.Need-add-at
-add-at c = search needs
 
 add-to : tie.Need-add-to
 add-to c = search needs
@@ -45,15 +38,12 @@ same-length c = search needs
 
 returns-2 : tie.Need-returns-2
 returns-2 c =
-    let args = c .before .before .before .before .before .before .before .before .args in
-    let way-of = c .before .before .before .before .way-of in
     let store = c .before .before .store in
     let group-at = c .before .before .before .before .before .group-at in
-    let a = args in
-    let s = groupOf (length (a .memory .now)) (a .unplaced) in
-    let v = way-of .result in
-    adds-at (a .memory .now) (a .jobs) (a .ends .now) (a .unplaced) (a .last) (store .last .0) (group-at .result + v * 46) (s * 16 + v)
-    (omega (arith, group-at .ensures .0)) (omega (arith, group-at .ensures .1, way-of .ensures)) (store .ensures)
+    let a = c .before .before .before .before .before .before .before .before .args in
+    let g = groupOf (length (a .memory .now)) (a .unplaced) in
+    adds-at (a .memory .now) (a .jobs) (a .ends .now) (a .unplaced) (a .last) (store .last .0) (group-at .result) g
+    (group-at .ensures .0) (group-at .ensures .1) (c .before .memory .given .0) (store .ensures)
 
 pub remember-spec : {M : Type 1} → statement M
 remember-spec =
@@ -62,8 +52,6 @@ remember-spec =
     returns
     group-at-requires
     way-of-requires
-    mul-at
-    add-at
     add-to
     sub-store
     part-store-start

@@ -1,109 +1,77 @@
 -- `memory::store` meets its contract.
-use Prim.Native.Nat.{_-_}
-use mathlib.Core.Path.{sym, _∙_}
-use native.Mathlib.Omega.{arith}
-use Rattle.memory.proofs.Storing.{Storing, storing-head, storing-fits, storing-step, storing-all}
+use Rattle.memory.proofs.Slots.{stored}
 use borrow.Author.Needs.{needs}
 use Rattle.memory.proofs.store.Statement.{statement}
 use Rattle.memory.proofs.store.Tie as tie
 
-abbrev Inv-loop : tie.InvT-loop
-Inv-loop entry₀ ends jobs unplaced last i₀ entry i = Storing ends jobs unplaced last entry i
+mul-from : tie.Need-mul-from
+mul-from c = search needs
 
-abbrev μ-loop : tie.MeasureT-loop
-μ-loop entry₀ ends jobs unplaced last i₀ entry i = jobs - i
+add-to : tie.Need-add-to
+add-to c = search needs
 
-cast-write16 : tie.Need-cast-write16 Inv-loop μ-loop
-cast-write16 c = search needs
+sub-write-set : tie.Need-sub-write-set
+sub-write-set c = search needs
 
-write16-requires : tie.Need-write16-requires Inv-loop μ-loop
-write16-requires c κs = search needs
+part-write-set-start : tie.Need-part-write-set-start
+part-write-set-start c = search needs
 
-cast-write16-2 : tie.Need-cast-write16-2 Inv-loop μ-loop
-cast-write16-2 c = search needs
+part-write-set-end : tie.Need-part-write-set-end
+part-write-set-end c = search needs
 
-write16-requires-2 : tie.Need-write16-requires-2 Inv-loop μ-loop
-write16-requires-2 c κs =
-    let write16 = c .before .before .before .write16 in
-    let pre = c .before .before .before .before .before .before .pre in
-    omega (arith, write16 .ensures .len, pre .0)
+write-set-requires : tie.Need-write-set-requires
+write-set-requires c κs = search needs
 
-write16-requires-3 : tie.Need-write16-requires-3 Inv-loop μ-loop
-write16-requires-3 c κs =
-    let write16 = c .before .before .before .before .before .before .before .write16 in
-    let write162 = c .before .before .before .write162 in
-    let pre = c .before .before .before .before .before .before .before .before .before .before .pre in
-    omega (arith, write16 .ensures .len, write162 .ensures .len, pre .0)
+mul-at : tie.Need-mul-at
+mul-at c = search needs
 
-loop-holds : tie.Need-loop-holds Inv-loop μ-loop
-loop-holds c =
-    let write16 = c .before .before .before .before .before .before .before .before .before .before .write16 in
-    let write162 = c .before .before .before .before .before .before .write162 in
-    let write163 = c .before .before .write163 in
-    let pre = c .before .before .before .before .before .before .before .before .before .before .before .before .before .pre in
-    storing-head (pre .0) (pre .1) (write16 .ensures) (write162 .ensures) (write163 .ensures)
+add-at : tie.Need-add-at
+add-at c = search needs
 
-mul-write16 : tie.Need-mul-write16 Inv-loop μ-loop
-mul-write16 c = search needs
+add-end : tie.Need-add-end
+add-end c = search needs
 
-add-write16 : tie.Need-add-write16 Inv-loop μ-loop
-add-write16 c = search needs
+sub-write-figures : tie.Need-sub-write-figures
+sub-write-figures c = search needs
 
-mul-write16-2 : tie.Need-mul-write16-2 Inv-loop μ-loop
-mul-write16-2 c = search needs
+part-write-figures-start : tie.Need-part-write-figures-start
+part-write-figures-start c = search needs
 
-element-copy-out-write16 : tie.Need-element-copy-out-write16 Inv-loop μ-loop
-element-copy-out-write16 c = search needs
+part-write-figures-end : tie.Need-part-write-figures-end
+part-write-figures-end c = search needs
 
-write16-requires-4 : tie.Need-write16-requires-4 Inv-loop μ-loop
-write16-requires-4 c κs =
-    let loop = c .before .before .before .loop in
-    let loop-test = c .before .before .loop-test in
-    storing-fits (loop .inv) (loop-test .taken)
+write-figures-requires : tie.Need-write-figures-requires
+write-figures-requires c κs = search needs
 
-add-i : tie.Need-add-i Inv-loop μ-loop
-add-i c = search needs
+same-length : tie.Need-same-length
+same-length c = search needs
 
-loop-less : tie.Need-loop-less Inv-loop μ-loop
-loop-less c = search needs
-
-loop-again : tie.Need-loop-again Inv-loop μ-loop
-loop-again c =
-    let loop = c .before .before .before .before .before .before .loop in
-    let loop-test = c .before .before .before .before .before .loop-test in
-    let write164 = c .before .before .write164 in
-    storing-step (loop .inv) (loop-test .taken) (write164 .ensures)
-
-same-length : tie.Need-same-length Inv-loop μ-loop
-same-length c =
-    let loop-at = c .before in
-    let start = loop-at .before .before .before .before .before .before .before .before .before .before .before .before .before .before in
-    loop-at .loop .inv .size ∙ sym (start .pre .0)
-
-returns : tie.Need-returns Inv-loop μ-loop
+returns : tie.Need-returns
 returns c =
-    let loop = c .before .loop in
-    storing-all (loop .inv) (c .loop-test .left)
+    let write-figures = c .before .before .write-figures in
+    let group = c .before .before .before .before .before .group in
+    let write-set = c .before .before .before .before .before .before .write-set in
+    let start = c .before .before .before .before .before .before .before .before .before in
+    let a = start .args in
+    stored (a .group .now) (write-set .last .0) (write-figures .last .0) (a .way) (a .jobs) (a .ends .now) (a .unplaced) (a .last)
+    (start .pre .0) (start .pre .1) (group .given .0) (c .before .group2 .given .0) (write-set .ensures) (write-figures .ensures)
 
 pub store-spec : {M : Type 1} → statement M
 store-spec =
     tie.close
     (tie.spec
-    Inv-loop
-    μ-loop
-    cast-write16
-    write16-requires
-    cast-write16-2
-    write16-requires-2
-    write16-requires-3
-    loop-holds
-    mul-write16
-    add-write16
-    mul-write16-2
-    element-copy-out-write16
-    write16-requires-4
-    add-i
-    loop-less
-    loop-again
+    mul-from
+    add-to
+    sub-write-set
+    part-write-set-start
+    part-write-set-end
+    write-set-requires
+    mul-at
+    add-at
+    add-end
+    sub-write-figures
+    part-write-figures-start
+    part-write-figures-end
+    write-figures-requires
     same-length
     returns)
