@@ -1,6 +1,5 @@
 -- `weights::set_worth` meets its contract.
 use native.Mathlib.Omega.{arith}
-use mathlib.Core.Path.{_≡_}
 use Prim.Native.Nat.{ℕ, _+_, _*_, _<_}
 use lib.Count.{ones}
 use lib.ListN.{getD}

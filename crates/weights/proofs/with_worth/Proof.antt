@@ -1,7 +1,7 @@
 -- `weights::with_worth` meets its contract.
 use native.Mathlib.Omega.{arith}
 use mathlib.Core.Path.{_≡_, refl}
-use Prim.Native.Nat.{ℕ, _+_, _*_, _-_, _≤_, _<_}
+use Prim.Native.Nat.{ℕ, _+_, _*_, _-_, _≤_}
 use lib.ListN.{getD, replicate, length-replicate}
 use Rattle.weights.specs.Weights.{Put}
 use Rattle.weights.proofs.Puts.{put-none, put-more}
