@@ -10,7 +10,9 @@ use Rattle.weights.proofs.with_room.Statement.{statement}
 use Rattle.weights.proofs.with_room.Tie as tie
 
 abbrev Inv-loop : tie.InvT-loop
-Inv-loop most x minutes room row next₀ q₀ next q = (q ≤ 5) × Put (λ p. p) (replicate 5 0) next q (λ p. getD (room .of) p 0 + getD most (row + p) 0 * minutes)
+Inv-loop most x minutes room row next₀ q₀ next q =
+    (q ≤ 5)
+    × Put (λ p. p) (replicate 5 0) next q (λ p. getD (room .of) p 0 + getD most (row + p) 0 * minutes)
 
 abbrev μ-loop : tie.MeasureT-loop
 μ-loop most x minutes room row next₀ q₀ next q = 5 - q
