@@ -149,4 +149,5 @@ weighted-more {need} {minutes} {jobs} {modules} {q} {worth} {worth′} {most} {m
       weighs = λ X x l fits. omega (arith, put′ .each x (omega (arith, fit .most)), table-is .weighs X x l fits);
     })
     each p (inr l) =
-        weighting-kept (λ k. put .kept (k * 5 + p) (λ i m e. omega arith)) (λ x. put′ .kept (x * 5 + p) (λ i m e. omega arith)) (h .each p l)
+        weighting-kept (λ k. put .kept (k * 5 + p) (λ i m e. omega arith))
+        (λ x. put′ .kept (x * 5 + p) (λ i m e. omega arith)) (h .each p l)

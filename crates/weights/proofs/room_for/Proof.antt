@@ -1,7 +1,7 @@
 -- `weights::room_for` meets its contract.
 use native.Mathlib.Omega.{arith}
 use mathlib.Core.Path.{_∙_}
-use Prim.Native.Nat.{ℕ, _+_, _*_, _-_, _<_}
+use Prim.Native.Nat.{ℕ, _+_, _*_, _-_, _≤_, _<_}
 use lib.ListN.{getD}
 use Rattle.weights.proofs.Puts.{zeros}
 use Rattle.weights.proofs.Walks.{Walk, Room, walk-start, walk-fits, walk-step, room-start, room-low, room-step, room-done}
@@ -36,10 +36,11 @@ with-room-requires : tie.Need-with-room-requires Inv-loop μ-loop
 with-room-requires c κs =
     let loop = c .before .before .before .loop in
     let fits = c .before .before .before .before .fits in
-    let walk = loop .inv .0 in (
-      omega (arith, walk .rest, walk .narrow),
-      λ q l. omega (arith, room-low walk (loop .inv .1 q l) (c .next-end .result) (omega (arith, c .next-end .ensures)), c .next-end .ensures, walk .before, fits .target .fits),
-    )
+    let walk = loop .inv .0 in
+    let to = c .next-end .result in
+    let on : loop .at ≤ to = omega (arith, c .next-end .ensures) in
+    let low : to ≤ 65535 = omega (arith, c .next-end .ensures, walk .before, fits .target .fits) in
+    (omega (arith, walk .rest, walk .narrow), λ q l. omega (arith, room-low walk (loop .inv .1 q l) to on))
 
 mul-f : tie.Need-mul-f Inv-loop μ-loop
 mul-f c = search needs

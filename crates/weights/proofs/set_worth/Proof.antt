@@ -1,6 +1,5 @@
 -- `weights::set_worth` meets its contract.
 use native.Mathlib.Omega.{arith}
-use mathlib.Core.Path.{_≡_}
 use Prim.Native.Nat.{ℕ, _+_, _*_, _<_}
 use lib.Count.{ones}
 use lib.ListN.{getD}
@@ -12,7 +11,9 @@ use Rattle.weights.proofs.set_worth.Statement.{statement}
 use Rattle.weights.proofs.set_worth.Tie as tie
 
 abbrev Inv-loop : tie.InvT-loop
-Inv-loop worth set jobs weight₀ rest₀ weight rest = Walk set jobs rest × ((q : ℕ) → q < 5 → Weighed set jobs (λ k. getD worth (k * 5 + q) 0) rest (getD (weight .of) q 0))
+Inv-loop worth set jobs weight₀ rest₀ weight rest =
+    Walk set jobs rest
+    × ((q : ℕ) → q < 5 → Weighed set jobs (λ k. getD worth (k * 5 + q) 0) rest (getD (weight .of) q 0))
 
 abbrev μ-loop : tie.MeasureT-loop
 μ-loop worth set jobs weight₀ rest₀ weight rest = ones rest
@@ -56,7 +57,10 @@ loop-again c =
     let k = lowest32 .result in
     let member = lowest32 .ensures .1 in
     let low = loop .inv .0 .below k member in
-    rw (c .clear32 .ensures) (walk-next k (loop .inv .0), λ q l. rw (with-worth .ensures q l) (weighed-more (loop .inv .1 q l) k low member))
+    rw (c .clear32 .ensures) (
+      walk-next k (loop .inv .0),
+      λ q l. rw (with-worth .ensures q l) (weighed-more (loop .inv .1 q l) k low member),
+    )
 
 returns : tie.Need-returns Inv-loop μ-loop
 returns c =

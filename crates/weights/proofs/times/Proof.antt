@@ -8,7 +8,8 @@ use Rattle.weights.proofs.times.Tie as tie
 
 mul-result : tie.Need-mul-result
 mul-result c =
-    let product : c .args .a * c .args .b ≤ 65535 * 65535 = mul-le-mul {n₂ = 65535} {m₂ = 65535} (omega (arith, c .fits .a .fits)) (omega (arith, c .fits .b .fits)) in
+    let product : c .args .a * c .args .b ≤ 65535 * 65535 =
+    mul-le-mul {n₂ = 65535} {m₂ = 65535} (omega (arith, c .fits .a .fits)) (omega (arith, c .fits .b .fits)) in
     record { fits = omega arith }
 
 returns : tie.Need-returns

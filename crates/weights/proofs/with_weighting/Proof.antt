@@ -13,7 +13,8 @@ use Rattle.weights.proofs.with_weighting.Tie as tie
 abbrev Inv-loop : tie.InvT-loop
 Inv-loop q need minutes jobs modules next₀ table₀ k₀ next table k =
     (k ≤ jobs) × (MostOf need k modules q (table .at)
-    × (Put (λ i. i * 5 + q) (next₀ .worth) (next .worth) k (λ i. getD minutes i 0 * weightIn modules q (getD need i 0)) × (next .most ≡ next₀ .most)))
+    × (Put (λ i. i * 5 + q) (next₀ .worth) (next .worth) k (λ i. getD minutes i 0 * weightIn modules q (getD need i 0))
+    × (next .most ≡ next₀ .most)))
 
 abbrev μ-loop : tie.MeasureT-loop
 μ-loop q need minutes jobs modules next₀ table₀ k₀ next table k = jobs - k

@@ -1,7 +1,7 @@
 -- `weights::with_worth` meets its contract.
 use native.Mathlib.Omega.{arith}
 use mathlib.Core.Path.{_≡_, refl}
-use Prim.Native.Nat.{ℕ, _+_, _*_, _-_, _≤_, _<_}
+use Prim.Native.Nat.{ℕ, _+_, _*_, _-_, _≤_}
 use lib.ListN.{getD, replicate, length-replicate}
 use Rattle.weights.specs.Weights.{Put}
 use Rattle.weights.proofs.Puts.{put-none, put-more}
@@ -10,7 +10,9 @@ use Rattle.weights.proofs.with_worth.Statement.{statement}
 use Rattle.weights.proofs.with_worth.Tie as tie
 
 abbrev Inv-loop : tie.InvT-loop
-Inv-loop worth k weight next₀ q₀ next q = (q ≤ 5) × Put (λ p. p) (replicate 5 0) next q (λ p. getD (weight .of) p 0 + getD worth (k * 5 + p) 0)
+Inv-loop worth k weight next₀ q₀ next q =
+    (q ≤ 5)
+    × Put (λ p. p) (replicate 5 0) next q (λ p. getD (weight .of) p 0 + getD worth (k * 5 + p) 0)
 
 abbrev μ-loop : tie.MeasureT-loop
 μ-loop worth k weight next₀ q₀ next q = 5 - q
