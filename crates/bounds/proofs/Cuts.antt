@@ -54,7 +54,8 @@ module _ (need minutes earlier tails : List ℕ) (jobs modules : ℕ) (part : Pa
       one i (inr e) = rw e (omega arith)
 
   -- what the bounds need of the figures
-  pub bounding : {T : ℕ} → T < 65535 → Bounding part modules least T
+  pub bounding : {T : ℕ} → T < 65535
+      → Bounding (part .until) (part .held) (part .placed) (part .gone) (part .free) modules (part .left) least T
   bounding low =
       let q = known .is .figures .profile in
       let from : part .last ≤ least = omega (arith, known .is .figures .last, starts .low) in
@@ -66,7 +67,7 @@ module _ (need minutes earlier tails : List ℕ) (jobs modules : ℕ) (part : Pa
           small = after-small need minutes earlier jobs modules (known .fit) part w (known .is) least;
         };
         profile = profile-later least from q;
-        left = left-small need minutes earlier jobs modules (known .fit) part w (known .is);
+        little = left-small need minutes earlier jobs modules (known .fit) part w (known .is);
         low = low;
       }
 
@@ -82,8 +83,8 @@ module _ (need minutes earlier tails : List ℕ) (jobs modules : ℕ) (part : Pa
       let r = started (starts .each j l) k in
       chain-cut S (known .fit .narrow) w (known .is .follows) jobs j e r (omega (arith, chains j l, starts .each j l .here r))
 
-  pub hopeless-cut : (T : ℕ) → Tails S tails → 0 < ones (part .unplaced) → Hopeless need minutes tails jobs modules part at least T
-      → CannotBeat S (suc T) w
+  pub hopeless-cut : (T : ℕ) → Tails S tails → 0 < ones (part .unplaced) → Hopeless need minutes tails (part .until) (part .held) jobs modules
+      (part .placed) (part .unplaced) (part .left) at least T → CannotBeat S (suc T) w
   hopeless-cut T chains pos (inl h) = crowded-cut T pos h
   hopeless-cut T chains pos (inr (inl h)) = long-cut (suc T) chains (rw add-one at h)
   hopeless-cut T chains pos (inr (inr h)) = short-cut need minutes earlier jobs modules part known at least starts T h

@@ -6,7 +6,6 @@ use Prim.Native.Nat.{ℕ, _+_, _*_, _≤_, _<_}
 use lib.ListN.{getD}
 use Rattle.schedule.specs.Plan.{Sheet}
 use Rattle.schedule.proofs.Chains.{chain}
-use Rattle.placement.specs.declared.Part.{Part}
 use Rattle.placement.specs.Profile.{heldAfter, Profile}
 use Rattle.weights.specs.Weights.{Outweighed}
 use Rattle.sums.specs.Sums.{Unserved}
@@ -32,14 +31,14 @@ TooFew need minutes until held jobs modules placed set left l T =
     Outweighed need minutes until held jobs modules placed set l T ⊎ Unserved minutes until held jobs modules placed set left l T
 
 -- no completion can end by minute T: the modules are taken, some job and the chain behind it last longer, or the modules are too few
-abbrev pub Hopeless : List ℕ → List ℕ → List ℕ → ℕ → ℕ → Part → List ℕ → ℕ → ℕ → Type 0
-Hopeless need minutes tails jobs modules p at l T =
-    (modules * T < modules * l + (heldAfter (p .until) (p .held) (p .placed) l + p .left))
-    ⊎ (SomeTooLong at tails jobs (T + 1) ⊎ TooFew need minutes (p .until) (p .held) jobs modules (p .placed) (p .unplaced) (p .left) l T)
+abbrev pub Hopeless : List ℕ → List ℕ → List ℕ → List ℕ → List ℕ → ℕ → ℕ → ℕ → ℕ → ℕ → List ℕ → ℕ → ℕ → Type 0
+Hopeless need minutes tails until held jobs modules placed unplaced left at l T =
+    (modules * T < modules * l + (heldAfter until held placed l + left))
+    ⊎ (SomeTooLong at tails jobs (T + 1) ⊎ TooFew need minutes until held jobs modules placed unplaced left l T)
 
 -- what the bounds ask of the figures at minute l
-pub record Bounding (p : Part) (modules l T : ℕ) : Type 0 where
-  pub held-after : HeldAfter (p .until) (p .held) (p .gone) (p .placed) l
-  pub profile : Profile (p .until) (p .held) (p .placed) (p .gone) (p .free) modules l
-  pub left : p .left ≤ 2000000
+pub record Bounding (until held : List ℕ) (placed gone free modules left l T : ℕ) : Type 0 where
+  pub held-after : HeldAfter until held gone placed l
+  pub profile : Profile until held placed gone free modules l
+  pub little : left ≤ 2000000
   pub low : T < 65535

@@ -6,7 +6,6 @@ ghost use Rattle.tables.specs.Tables.{Fit};
 ghost use Rattle.placement.specs.Profile.{heldAfter, Profile};
 ghost use Rattle.weights.specs.Weights.{Weighted};
 ghost use Rattle.bounds.specs.Bounds.{HeldAfter, SomeTooLong, TooFew, Hopeless, Bounding};
-use placement::Part;
 
 // ---- the area
 
@@ -157,37 +156,34 @@ fn too_few<'a>(
 // ---- all bounds
 
 // Whether no order that goes on from here can end by the target: by the area, by a chain, or because the free modules are too few.
-pub fn hopeless<'a>(
+pub fn hopeless<'a, 'b>(
     need: &[u16; 20],
     minutes: &[u16; 20],
     tails: &'a [u16; 20],
     worth: &[u32; 100],
     most: &[u16; 325],
-    jobs: usize,
+    until: &'b [u16; 20],
+    held: &'b [u16; 20],
+    placed: usize,
+    gone: usize,
+    free: u16,
     modules: u16,
-    part: Part,
+    unplaced: u32,
+    left: u32,
+    jobs: usize,
     at: &'a [u16; 20],
     least: u16,
     target: u16,
 ) -> bool
     requires { ⌜ ((Fit (now need) (now minutes) jobs modules) × (Weighted (now need) (now minutes) jobs modules (now worth) (now most)))
-        × (Bounding part modules least target) ⌝ }
-    ensures { λ r. ⌜ (r ≡ true → Hopeless (now (need .entry)) (now (minutes .entry)) (now (tails .entry)) jobs modules part
-        (now (at .entry)) least target) ⌝ }
+        × (Bounding (now until) (now held) placed gone free modules left least target) ⌝ }
+    ensures { λ r. ⌜ (r ≡ true → Hopeless (now (need .entry)) (now (minutes .entry)) (now (tails .entry)) (now (until .entry))
+        (now (held .entry)) jobs modules placed unplaced left (now (at .entry)) least target) ⌝ }
 {
-    if crowded(
-        &part.until,
-        &part.held,
-        part.gone,
-        part.placed,
-        part.left,
-        modules,
-        least,
-        target,
-    ) {
+    if crowded(until, held, gone, placed, left, modules, least, target) {
         return true;
     }
-    if some_too_long(at, tails, part.unplaced, jobs, target + 1) {
+    if some_too_long(at, tails, unplaced, jobs, target + 1) {
         return true;
     }
     too_few(
@@ -195,14 +191,14 @@ pub fn hopeless<'a>(
         minutes,
         worth,
         most,
-        &part.until,
-        &part.held,
-        part.placed,
-        part.gone,
-        part.free,
+        until,
+        held,
+        placed,
+        gone,
+        free,
         modules,
-        part.unplaced,
-        part.left,
+        unplaced,
+        left,
         jobs,
         least,
         target,

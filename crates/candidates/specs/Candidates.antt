@@ -10,6 +10,7 @@ use Rattle.schedule.specs.Plan.{Sheet}
 use Rattle.schedule.specs.ListPlan.{PartPlan, ready, startOf, partOf}
 use Rattle.tables.specs.Tables.{sheetOf, Fit}
 use Rattle.placement.specs.declared.Part.{Part}
+use Rattle.placement.specs.Profile.{Profile}
 use Rattle.placement.specs.Part.{wordOf, IsPart, StartFor, isReady}
 use Rattle.candidates.specs.declared.Choice.{Choice}
 
@@ -47,6 +48,19 @@ abbrev pub NextStart : List ℕ → List ℕ → List ℕ → List ℕ → List 
 NextStart need earlier ends until held unplaced placed modules last jobs j s =
     ((isReady earlier unplaced j ≡ true) × StartFor ends until held placed modules last jobs (getD earlier j 0) (getD need j 0) s)
     ⊎ ((isReady earlier unplaced j ≡ false) × (s ≡ 65535))
+
+-- what is asked of the figures
+pub record StartsAsked (need until held : List ℕ) (placed gone free modules last jobs : ℕ) : Type 0 where
+  pub profile : Profile until held placed gone free modules last
+  pub narrow : (j : ℕ) → j < jobs → getD need j 0 ≤ modules
+  pub few : jobs ≤ 20
+  pub short : last ≤ 65535
+
+-- the starts of all jobs, and a minute from the last start on before which none of them lies
+pub record NextStarts (need earlier ends until held : List ℕ) (unplaced placed modules last jobs : ℕ) (at : List ℕ) (least : ℕ) : Type 0 where
+  pub each : (j : ℕ) → j < jobs → NextStart need earlier ends until held unplaced placed modules last jobs j (getD at j 0)
+  pub low : last ≤ least
+  pub first : (j : ℕ) → j < jobs → least ≤ getD at j 0
 
 -- these are the starts of all jobs
 abbrev pub EachStart : List ℕ → List ℕ → List ℕ → ℕ → ℕ → Part → List ℕ → Type 0

@@ -3,7 +3,7 @@ ghost use mathlib.Core.Path.{_≡_};
 ghost use Prim.Native.Nat.{_<_, _≤_, min};
 ghost use lib.ListN.{getD};
 ghost use Rattle.placement.specs.Profile.{Profile};
-ghost use Rattle.candidates.specs.Candidates.{Known, NextStart, JobStart, JobStarts, Chosen, ChoiceOf};
+ghost use Rattle.candidates.specs.Candidates.{Known, NextStart, StartsAsked, NextStarts, JobStart, JobStarts, Chosen, ChoiceOf};
 use placement::Part;
 
 // ---- starts
@@ -91,7 +91,53 @@ fn sooner(a: u16, b: u16) -> u16
 }
 
 // The starts of all jobs that may come next.
-pub fn ready_starts(
+pub fn ready_starts<'a>(
+    need: &[u16; 20],
+    earlier: &[u32; 20],
+    ends: &'a [u16; 20],
+    until: &'a [u16; 20],
+    held: &'a [u16; 20],
+    unplaced: u32,
+    placed: usize,
+    gone: usize,
+    free: u16,
+    modules: u16,
+    last: u16,
+    jobs: usize,
+) -> Starts
+    requires { ⌜ StartsAsked (now need) (now until) (now held) placed gone free modules last jobs ⌝ }
+    ensures { λ r. ⌜ NextStarts (now (need .entry)) (now (earlier .entry)) (now (ends .entry)) (now (until .entry)) (now (held .entry))
+        unplaced placed modules last jobs (r .at) (r .least) ⌝ }
+{
+    let mut at = [65535u16; 20];
+    let mut least: u16 = 65535;
+    let mut rest = bits::below32(unplaced, jobs);
+    while rest != 0 {
+        let j = bits::lowest32(rest);
+        let s = next_start(
+            need,
+            earlier,
+            ends,
+            until,
+            held,
+            unplaced,
+            placed,
+            gone,
+            free,
+            modules,
+            last,
+            jobs,
+            j,
+        );
+        at[j] = s;
+        least = sooner(least, s);
+        rest = bits::clear32(rest, j);
+    }
+    Starts { at, least }
+}
+
+// The same of a part-plan.
+pub fn starts_of(
     need: &[u16; 20],
     minutes: &[u16; 20],
     earlier: &[u32; 20],
@@ -102,31 +148,20 @@ pub fn ready_starts(
     requires { ⌜ Known (now need) (now minutes) (now earlier) jobs modules part ⌝ }
     ensures { λ r. ⌜ JobStarts (now (need .entry)) (now (minutes .entry)) (now (earlier .entry)) jobs modules part (r .at) (r .least) ⌝ }
 {
-    let mut at = [65535u16; 20];
-    let mut least: u16 = 65535;
-    let mut rest = bits::below32(part.unplaced, jobs);
-    while rest != 0 {
-        let j = bits::lowest32(rest);
-        let s = next_start(
-            need,
-            earlier,
-            &part.ends,
-            &part.until,
-            &part.held,
-            part.unplaced,
-            part.placed,
-            part.gone,
-            part.free,
-            modules,
-            part.last,
-            jobs,
-            j,
-        );
-        at[j] = s;
-        least = sooner(least, s);
-        rest = bits::clear32(rest, j);
-    }
-    Starts { at, least }
+    ready_starts(
+        need,
+        earlier,
+        &part.ends,
+        &part.until,
+        &part.held,
+        part.unplaced,
+        part.placed,
+        part.gone,
+        part.free,
+        modules,
+        part.last,
+        jobs,
+    )
 }
 
 // ---- the next job

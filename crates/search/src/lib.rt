@@ -92,7 +92,20 @@ fn visit(
     if u32::count_ones(unplaced) == 0 {
         return finished(part, jobs, target);
     }
-    let starts = candidates::ready_starts(need, minutes, earlier, jobs, modules, part);
+    let starts = candidates::ready_starts(
+        need,
+        earlier,
+        &part.ends,
+        &part.until,
+        &part.held,
+        unplaced,
+        part.placed,
+        part.gone,
+        part.free,
+        modules,
+        part.last,
+        jobs,
+    );
     let at = starts.at;
     let least = starts.least;
     if bounds::hopeless(
@@ -101,9 +114,15 @@ fn visit(
         tails,
         worth,
         most,
-        jobs,
+        &part.until,
+        &part.held,
+        part.placed,
+        part.gone,
+        part.free,
         modules,
-        part,
+        unplaced,
+        part.left,
+        jobs,
         &at,
         least,
         target,
@@ -227,7 +246,7 @@ pub fn list_order(
 {
     let mut part = placement::first_part(need, minutes, jobs, modules);
     while u32::count_ones(part.unplaced) != 0 {
-        let starts = candidates::ready_starts(need, minutes, earlier, jobs, modules, part);
+        let starts = candidates::starts_of(need, minutes, earlier, jobs, modules, part);
         let at = starts.at;
         let c = candidates::next_choice(&at, weights, part.unplaced, jobs);
         if c.start == 65535 {

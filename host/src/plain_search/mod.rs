@@ -55,10 +55,11 @@ impl Search<'_> {
     /// An order that goes on from this part-plan and ends by the target, where nothing is settled.
     fn decide(&mut self, part: &Part, target: u16) -> Option<Ordered> {
         self.settled = [0; MOST_JOBS];
-        self.visit(part, target)
+        self.visit(part, 0, target)
     }
 
-    fn visit(&mut self, part: &Part, target: u16) -> Option<Ordered> {
+    /// `same` has the jobs that were settled when a job was chosen which starts at the last start.
+    fn visit(&mut self, part: &Part, same: u32, target: u16) -> Option<Ordered> {
         self.visited += 1;
         if self.is_given_up() {
             return None;
@@ -73,9 +74,11 @@ impl Search<'_> {
         let mut left = self.to_try(part, &starts);
         let mut tried = 0;
         while let Some(job) = starts.next(left, &self.relations.tails) {
-            if !self.passed_over(part, tried, job, starts.at[job]) {
+            let start = starts.at[job];
+            if !self.passed_over(part, same, tried, job, start) {
                 self.settled[job] = tried;
-                let found = self.visit(&part.with(self.tables, job, starts.at[job]), target);
+                let settled_now = if start == part.last { same | tried } else { tried };
+                let found = self.visit(&part.with(self.tables, job, start), settled_now, target);
                 if found.is_some() {
                     return found;
                 }
@@ -126,18 +129,16 @@ impl Search<'_> {
         jobs_of(starts.ready).filter(|j| starts.at[*j] < starts.first_end).map(|j| 1 << j).sum()
     }
 
-    /// Whether some job stands for job j, which need not be tried then: an alike one that was tried, or one further up.
-    fn passed_over(&self, part: &Part, tried: u32, j: usize, start: u16) -> bool {
-        let placed = !part.unplaced & ((1 << self.tables.jobs) - 1);
+    /// Whether job j need not be tried: an alike one was, or j was settled at the minute at which it would start, or behind the job
+    /// with which it may change places.
+    fn passed_over(&self, part: &Part, same: u32, tried: u32, j: usize, start: u16) -> bool {
         self.rules.alike && tried & self.relations.alike[j] != 0
-            || jobs_of(placed).any(|i| self.settled[i] >> j & 1 == 1 && self.turns_round(i, j, part.ends[i], start))
+            || self.rules.same_minute && start == part.last && same >> j & 1 == 1
+            || self.rules.swap && self.swapped(part, j, start)
     }
 
-    /// Whether job j, which was settled when job i was chosen, may as well have come in its place: it would start with it, or as
-    /// soon as it has ended, with its width.
-    fn turns_round(&self, i: usize, j: usize, end: u16, start: u16) -> bool {
-        self.rules.same_minute && start + self.tables.minutes[i] == end
-            || self.rules.swap && start == end && self.relations.turning[i] >> j & 1 == 1
+    fn swapped(&self, part: &Part, j: usize, start: u16) -> bool {
+        jobs_of(self.relations.turning[j] & !part.unplaced).any(|i| part.ends[i] == start && self.settled[i] >> j & 1 == 1)
     }
 
     /// An order that ends first of all.

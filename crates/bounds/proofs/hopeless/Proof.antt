@@ -7,15 +7,15 @@ use Rattle.bounds.proofs.hopeless.Tie as tie
 
 crowded-requires : tie.Need-crowded-requires
 crowded-requires c κs =
-    let pre = c .before .before .before .pre in
-    (pre .1 .held-after, (pre .1 .left, pre .0 .0 .most))
+    let pre = c .pre in
+    (pre .1 .held-after, (pre .1 .little, pre .0 .0 .most))
 
 returns : tie.Need-returns
 returns c = λ _. inl (c .before .crowded .ensures (c .if1 .taken))
 
 add-some-too-long : tie.Need-add-some-too-long
 add-some-too-long c =
-    let pre = c .before .before .before .before .before .pre in
+    let pre = c .before .before .pre in
     record { fits = omega (arith, pre .1 .low) }
 
 some-too-long-requires : tie.Need-some-too-long-requires
@@ -26,7 +26,7 @@ returns-2 c = λ _. inr (inl (c .before .some-too-long .ensures (c .if2 .taken))
 
 too-few-requires : tie.Need-too-few-requires
 too-few-requires c κs =
-    let pre = c .before .before .before .before .before .before .before .before .before .before .pre in
+    let pre = c .before .before .before .before .pre in
     (pre .0, pre .1 .profile)
 
 returns-3 : tie.Need-returns-3

@@ -7,6 +7,7 @@ use lib.Count.{ones}
 use lib.ListN.{length, getD}
 use Rattle.tables.specs.Tables.{sheetOf}
 use Rattle.placement.specs.Part.{wordOf}
+use Rattle.candidates.proofs.Starting.{job-starts, starts-asked}
 use Rattle.bounds.proofs.Cuts.{bounding, hopeless-cut}
 use Rattle.search.specs.Search.{Remembered}
 use Rattle.search.proofs.Turns.{visit-leaf, recall-cut, visit-all, visit-remember}
@@ -247,18 +248,21 @@ visit-returns t c =
 visit-ready-starts-requires : (t : ℕ)
     → visit-lts.Need-ready-starts-requires (visit-claims t) (visit-at t) visit.Post visit-Inv-loop visit-μ-loop
 visit-ready-starts-requires t c κs =
-    let p = c .before .before .pre .1 in
-    p .known
+    let start = c .before .before .before .before .before .before in
+    let a = start .args in
+    starts-asked (a .need .now) (a .minutes .now) (a .earlier .now) (a .jobs) (a .modules) (a .t10) (start .pre .1 .known)
 
 visit-hopeless-requires : (t : ℕ) → visit-lts.Need-hopeless-requires (visit-claims t) (visit-at t) visit.Post visit-Inv-loop visit-μ-loop
 visit-hopeless-requires t c κs =
-    let start = c .before .before .before .before .before in
+    let start = c .before .before .before .before .before .before .before .before .before .before .before .before in
     let a = start .args in
     let p = start .pre .1 in
-    let r = c .before .before .ready-starts in (
+    let r = c .before .before .before .before .before .ready-starts in
+    let starts = job-starts (a .need .now) (a .minutes .now) (a .earlier .now) (a .jobs) (a .modules) (a .t10) (p .known) (r .result .at)
+    (r .result .least) (r .ensures) in (
       (p .known .fit, p .weighted),
       bounding (a .need .now) (a .minutes .now) (a .earlier .now) (a .tails .now) (a .jobs) (a .modules) (a .t10) (p .known)
-          (r .result .at) (r .result .least) (r .ensures) (p .low),
+          (r .result .at) (r .result .least) starts (p .low),
     )
 
 visit-none-found-requires : (t : ℕ)
@@ -267,19 +271,21 @@ visit-none-found-requires t c κs = tt
 
 visit-returns-2 : (t : ℕ) → visit-lts.Need-returns-2 (visit-claims t) (visit-at t) visit.Post visit-Inv-loop visit-μ-loop
 visit-returns-2 t c =
-    let start = c .before .before .before .before .before .before .before .before in
+    let start = c .before .before .before .before .before .before .before .before .before .before .before .before .before .before .before in
     let a = start .args in
     let p = start .pre .1 in
-    let r = c .before .before .before .before .before .ready-starts in
+    let r = c .before .before .before .before .before .before .before .before .ready-starts in
+    let starts = job-starts (a .need .now) (a .minutes .now) (a .earlier .now) (a .jobs) (a .modules) (a .t10) (p .known) (r .result .at)
+    (r .result .least) (r .ensures) in
     let cut = hopeless-cut (a .need .now) (a .minutes .now) (a .earlier .now) (a .tails .now) (a .jobs) (a .modules) (a .t10) (p .known)
-    (r .result .at) (r .result .least) (r .ensures) (a .target) (p .chains)
-    (pos-of-ne-zero (c .before .before .before .before .before .before .if1 .left)) (c .before .before .hopeless .ensures
+    (r .result .at) (r .result .least) starts (a .target) (p .chains)
+    (pos-of-ne-zero (c .before .before .before .before .before .before .before .before .before .before .before .before .before .if1 .left)) (c .before .before .hopeless .ensures
     (c .before .if2 .taken)) in
     (rw (c .none-found .ensures) (none-outcome _ (a .target) _ cut), p .remembered)
 
 visit-recall-requires : (t : ℕ) → visit-lts.Need-recall-requires (visit-claims t) (visit-at t) visit.Post visit-Inv-loop visit-μ-loop
 visit-recall-requires t c κs =
-    let p = c .before .before .before .before .before .before .before .before .before .before .pre .1 in
+    let p = c .before .before .before .before .before .before .before .before .before .before .before .before .before .before .before .before .before .pre .1 in
     p .known .fit .few
 
 visit-none-found-requires-2 : (t : ℕ)
@@ -291,49 +297,57 @@ visit-same-length t c = refl
 
 visit-returns-3 : (t : ℕ) → visit-lts.Need-returns-3 (visit-claims t) (visit-at t) visit.Post visit-Inv-loop visit-μ-loop
 visit-returns-3 t c =
-    let start = c .before .before .before .before .before .before .before .before .before .before .before .before .before in
+    let start = c .before .before .before .before .before .before .before .before .before .before .before .before .before .before .before .before .before .before .before .before in
     let a = start .args in
     let p = start .pre .1 in
-    let r = c .before .before .before .before .before .before .before .before .before .before .ready-starts in
+    let r = c .before .before .before .before .before .before .before .before .before .before .before .before .before .ready-starts in
+    let starts = job-starts (a .need .now) (a .minutes .now) (a .earlier .now) (a .jobs) (a .modules) (a .t10) (p .known) (r .result .at)
+    (r .result .least) (r .ensures) in
     let cut = recall-cut (a .need .now) (a .minutes .now) (a .earlier .now) (a .jobs) (a .modules) (a .t10) (p .known)
-    (r .result .at) (r .result .least) (r .ensures) (suc (a .target)) (a .memory .now)
-    (pos-of-ne-zero (c .before .before .before .before .before .before .before .before .before .before .before .if1 .left))
+    (r .result .at) (r .result .least) starts (suc (a .target)) (a .memory .now)
+    (pos-of-ne-zero (c .before .before .before .before .before .before .before .before .before .before .before .before .before .before .before .before .before .before .if1 .left))
     (p .remembered) (c .before .before .recall .ensures (c .before .if3 .taken)) in
     (rw (c .none-found2 .ensures) (none-outcome _ (a .target) _ cut), p .remembered)
 
 visit-to-try-requires : (t : ℕ) → visit-lts.Need-to-try-requires (visit-claims t) (visit-at t) visit.Post visit-Inv-loop visit-μ-loop
 visit-to-try-requires t c κs =
-    let start = c .before .before .before .before .before .before .before .before .before .before .before .before .before in
+    let start = c .before .before .before .before .before .before .before .before .before .before .before .before .before .before .before .before .before .before .before .before in
     let a = start .args in
     let p = start .pre .1 in
-    let r = c .before .before .before .before .before .before .before .before .before .before .ready-starts in
+    let r = c .before .before .before .before .before .before .before .before .before .before .before .before .before .ready-starts in
+    let starts = job-starts (a .need .now) (a .minutes .now) (a .earlier .now) (a .jobs) (a .modules) (a .t10) (p .known) (r .result .at)
+    (r .result .least) (r .ensures) in
     trying (a .need .now) (a .minutes .now) (a .earlier .now) (a .jobs) (a .modules) (a .t10) (p .known) (a .target) (r .result .at)
-    (r .ensures .each) 0 (r .result .least) (r .ensures .first)
+    (starts .each) 0 (r .result .least) (starts .first)
 
 visit-next-choice-requires : (t : ℕ)
     → visit-lts.Need-next-choice-requires (visit-claims t) (visit-at t) visit.Post visit-Inv-loop visit-μ-loop
 visit-next-choice-requires t c κs =
-    let p = c .before .before .before .before .before .before .before .before .before .before .before .before .before .before .before .pre .1 in
+    let p = c .before .before .before .before .before .before .before .before .before .before .before .before .before .before .before .before .before .before .before .before .before .before .pre .1 in
     p .known .fit .few
 
 visit-loop-holds : (t : ℕ) → visit-lts.Need-loop-holds (visit-claims t) (visit-at t) visit.Post visit-Inv-loop visit-μ-loop
 visit-loop-holds t c =
-    let start = c .before .before .before .before .before .before .before .before .before .before .before .before .before .before .before .before in
+    let start = c .before .before .before .before .before .before .before .before .before .before .before .before .before .before .before .before .before .before .before .before .before .before .before in
     let a = start .args in
     let p = start .pre .1 in
-    let r = c .before .before .before .before .before .before .before .before .before .before .before .before .before .ready-starts in (
+    let r = c .before .before .before .before .before .before .before .before .before .before .before .before .before .before .before .before .ready-starts in
+    let starts = job-starts (a .need .now) (a .minutes .now) (a .earlier .now) (a .jobs) (a .modules) (a .t10) (p .known) (r .result .at)
+    (r .result .least) (r .ensures) in (
       sweep-first (a .need .now) (a .minutes .now) (a .earlier .now) (a .jobs) (a .modules) (a .t10) (p .known) (a .target) (r .result .at)
-          (r .ensures .each) (c .before .before .to-try .result) (c .next-choice .result) (c .next-choice .ensures),
+          (starts .each) (c .before .before .to-try .result) (c .next-choice .result) (c .next-choice .ensures),
       (p .remembered, refl),
     )
 
 visit-try-children-requires : (t : ℕ)
     → visit-lts.Need-try-children-requires (visit-claims t) (visit-at t) visit.Post visit-Inv-loop visit-μ-loop
 visit-try-children-requires t c κs =
-    let start = c .before .before .before .before .before .before .before .before .before .before .before .before .before .before .before .before .before .before .before .before .before in
+    let start = c .before .before .before .before .before .before .before .before .before .before .before .before .before .before .before .before .before .before .before .before .before .before .before .before .before .before .before .before in
     let a = start .args in
     let p = start .pre .1 in
-    let r = c .before .before .before .before .before .before .before .before .before .before .before .before .before .before .before .before .before .before .ready-starts in
+    let r = c .before .before .before .before .before .before .before .before .before .before .before .before .before .before .before .before .before .before .before .before .before .ready-starts in
+    let starts = job-starts (a .need .now) (a .minutes .now) (a .earlier .now) (a .jobs) (a .modules) (a .t10) (p .known) (r .result .at)
+    (r .result .least) (r .ensures) in
     let loop = c .before .before .before .before .loop in
     let sweep = loop .inv .0 in
     let l : loop .c .start < 65535 = omega (arith, c .before .before .if4 .taken, sweep .choice .low) in
@@ -349,7 +363,7 @@ visit-try-children-requires t c κs =
           settled = p .settled;
           remembered = loop .inv .1 .0;
         },
-        (r .ensures .each, (rw (chosen .1 .1) (sweep .before), (chosen .0, omega (arith, chosen .1 .1)))),
+        (starts .each, (rw (chosen .1 .1) (sweep .before), (chosen .0, omega (arith, chosen .1 .1)))),
       ),
     )
 
@@ -360,7 +374,7 @@ visit-same-length-2 t c =
 
 visit-returns-4 : (t : ℕ) → visit-lts.Need-returns-4 (visit-claims t) (visit-at t) visit.Post visit-Inv-loop visit-μ-loop
 visit-returns-4 t c =
-    let start = c .before .before .before .before .before .before .before .before .before .before .before .before .before .before .before .before .before .before .before .before .before .before .before .before .before in
+    let start = c .before .before .before .before .before .before .before .before .before .before .before .before .before .before .before .before .before .before .before .before .before .before .before .before .before .before .before .before .before .before .before .before in
     let a = start .args in
     let p = start .pre .1 in
     let loop = c .before .before .before .before .before .before .before .before .loop in
@@ -371,7 +385,7 @@ visit-clear32-requires : (t : ℕ) → visit-lts.Need-clear32-requires (visit-cl
 visit-clear32-requires t c κs =
     let loop = c .before .before .before .before .before .before .before .before .loop in
     let sweep = loop .inv .0 in
-    let p = c .before .before .before .before .before .before .before .before .before .before .before .before .before .before .before .before .before .before .before .before .before .before .before .before .before .pre .1 in
+    let p = c .before .before .before .before .before .before .before .before .before .before .before .before .before .before .before .before .before .before .before .before .before .before .before .before .before .before .before .before .before .before .before .before .pre .1 in
     let l : loop .c .start < 65535 = omega (arith, c .before .before .before .before .before .before .if4 .taken, sweep .choice .low) in
     omega (arith, sweep .choice .some l .0, p .known .fit .few)
 
@@ -379,7 +393,7 @@ visit-set32-requires : (t : ℕ) → visit-lts.Need-set32-requires (visit-claims
 visit-set32-requires t c κs =
     let loop = c .before .before .before .before .before .before .before .before .before .loop in
     let sweep = loop .inv .0 in
-    let p = c .before .before .before .before .before .before .before .before .before .before .before .before .before .before .before .before .before .before .before .before .before .before .before .before .before .before .pre .1 in
+    let p = c .before .before .before .before .before .before .before .before .before .before .before .before .before .before .before .before .before .before .before .before .before .before .before .before .before .before .before .before .before .before .before .before .before .pre .1 in
     let l : loop .c .start < 65535 = omega
     (arith, c .before .before .before .before .before .before .before .if4 .taken, sweep .choice .low) in
     omega (arith, sweep .choice .some l .0, p .known .fit .few)
@@ -387,29 +401,33 @@ visit-set32-requires t c κs =
 visit-next-choice-requires-2 : (t : ℕ)
     → visit-lts.Need-next-choice-requires-2 (visit-claims t) (visit-at t) visit.Post visit-Inv-loop visit-μ-loop
 visit-next-choice-requires-2 t c κs =
-    let p = c .before .before .before .before .before .before .before .before .before .before .before .before .before .before .before .before .before .before .before .before .before .before .before .before .before .before .before .before .pre .1 in
+    let p = c .before .before .before .before .before .before .before .before .before .before .before .before .before .before .before .before .before .before .before .before .before .before .before .before .before .before .before .before .before .before .before .before .before .before .before .pre .1 in
     p .known .fit .few
 
 visit-loop-less : (t : ℕ) → visit-lts.Need-loop-less (visit-claims t) (visit-at t) visit.Post visit-Inv-loop visit-μ-loop
 visit-loop-less t c =
-    let start = c .before .before .before .before .before .before .before .before .before .before .before .before .before .before .before .before .before .before .before .before .before .before .before .before .before .before .before .before .before in
+    let start = c .before .before .before .before .before .before .before .before .before .before .before .before .before .before .before .before .before .before .before .before .before .before .before .before .before .before .before .before .before .before .before .before .before .before .before .before in
     let a = start .args in
     let p = start .pre .1 in
-    let r = c .before .before .before .before .before .before .before .before .before .before .before .before .before .before .before .before .before .before .before .before .before .before .before .before .before .before .ready-starts in
+    let r = c .before .before .before .before .before .before .before .before .before .before .before .before .before .before .before .before .before .before .before .before .before .before .before .before .before .before .before .before .before .ready-starts in
+    let starts = job-starts (a .need .now) (a .minutes .now) (a .earlier .now) (a .jobs) (a .modules) (a .t10) (p .known) (r .result .at)
+    (r .result .least) (r .ensures) in
     let first = c .before .before .before .before .before .before .before .before .before .before .before .before .before .before .before .to-try in
     let loop = c .before .before .before .before .before .before .before .before .before .before .before .before .loop in
     let sweep = loop .inv .0 in
     let l : loop .c .start < 65535 = omega
     (arith, c .before .before .before .before .before .before .before .before .before .before .if4 .taken, sweep .choice .low) in
     rw (c .before .before .before .clear32 .ensures) (one-less (chosen-in (a .need .now) (a .minutes .now) (a .earlier .now) (a .jobs)
-    (a .modules) (a .t10) (p .known) (a .target) (r .result .at) (r .ensures .each) (first .result) (loop .left) (loop .c) (sweep .choice) l))
+    (a .modules) (a .t10) (p .known) (a .target) (r .result .at) (starts .each) (first .result) (loop .left) (loop .c) (sweep .choice) l))
 
 visit-loop-again : (t : ℕ) → visit-lts.Need-loop-again (visit-claims t) (visit-at t) visit.Post visit-Inv-loop visit-μ-loop
 visit-loop-again t c =
-    let start = c .before .before .before .before .before .before .before .before .before .before .before .before .before .before .before .before .before .before .before .before .before .before .before .before .before .before .before .before .before in
+    let start = c .before .before .before .before .before .before .before .before .before .before .before .before .before .before .before .before .before .before .before .before .before .before .before .before .before .before .before .before .before .before .before .before .before .before .before .before in
     let a = start .args in
     let p = start .pre .1 in
-    let r = c .before .before .before .before .before .before .before .before .before .before .before .before .before .before .before .before .before .before .before .before .before .before .before .before .before .before .ready-starts in
+    let r = c .before .before .before .before .before .before .before .before .before .before .before .before .before .before .before .before .before .before .before .before .before .before .before .before .before .before .before .before .before .ready-starts in
+    let starts = job-starts (a .need .now) (a .minutes .now) (a .earlier .now) (a .jobs) (a .modules) (a .t10) (p .known) (r .result .at)
+    (r .result .least) (r .ensures) in
     let first = c .before .before .before .before .before .before .before .before .before .before .before .before .before .before .before .to-try in
     let loop = c .before .before .before .before .before .before .before .before .before .before .before .before .loop in
     let sweep = loop .inv .0 in
@@ -418,7 +436,7 @@ visit-loop-again t c =
     (arith, c .before .before .before .before .before .before .before .before .before .before .if4 .taken, sweep .choice .low) in (
       rw (c .before .before .before .clear32 .ensures, c .before .before .set32 .ensures)
           (sweep-next (a .need .now) (a .minutes .now) (a .earlier .now) (a .jobs) (a .modules) (a .t10) (p .known) (a .target)
-          (r .result .at) (r .ensures .each) (first .result) (loop .left) (loop .tried) (loop .c) (c .next-choice2 .result) sweep l
+          (r .result .at) (starts .each) (first .result) (loop .left) (loop .tried) (loop .c) (c .next-choice2 .result) sweep l
           (try .ensures .0 .miss (c .before .before .before .before .if5 .left)) (rw (c .before .before .before .clear32 .ensures) at
           (c .next-choice2 .ensures))),
       (try .ensures .1, try .kept .1 .1 .1 .1 .1 .1 .1 .1 .1 .1 .1 .1 .1 .1 .1 .0 ∙ loop .inv .1 .1),
@@ -426,7 +444,7 @@ visit-loop-again t c =
 
 visit-remember-requires : (t : ℕ) → visit-lts.Need-remember-requires (visit-claims t) (visit-at t) visit.Post visit-Inv-loop visit-μ-loop
 visit-remember-requires t c κs =
-    let p = c .before .before .before .before .before .before .before .before .before .before .before .before .before .before .before .before .before .before .before .before .before .before .pre .1 in
+    let p = c .before .before .before .before .before .before .before .before .before .before .before .before .before .before .before .before .before .before .before .before .before .before .before .before .before .before .before .before .before .pre .1 in
     p .known .fit .few
 
 visit-none-found-requires-3 : (t : ℕ)
@@ -440,21 +458,23 @@ visit-same-length-3 t c =
 
 visit-returns-5 : (t : ℕ) → visit-lts.Need-returns-5 (visit-claims t) (visit-at t) visit.Post visit-Inv-loop visit-μ-loop
 visit-returns-5 t c =
-    let start = c .before .before .before .before .before .before .before .before .before .before .before .before .before .before .before .before .before .before .before .before .before .before .before .before .before .before in
+    let start = c .before .before .before .before .before .before .before .before .before .before .before .before .before .before .before .before .before .before .before .before .before .before .before .before .before .before .before .before .before .before .before .before .before in
     let a = start .args in
     let p = start .pre .1 in
-    let r = c .before .before .before .before .before .before .before .before .before .before .before .before .before .before .before .before .before .before .before .before .before .before .before .ready-starts in
+    let r = c .before .before .before .before .before .before .before .before .before .before .before .before .before .before .before .before .before .before .before .before .before .before .before .before .before .before .ready-starts in
+    let starts = job-starts (a .need .now) (a .minutes .now) (a .earlier .now) (a .jobs) (a .modules) (a .t10) (p .known) (r .result .at)
+    (r .result .least) (r .ensures) in
     let first = c .before .before .before .before .before .before .before .before .before .before .before .before .to-try in
     let loop = c .before .before .before .before .before .before .before .before .before .loop in
     let remember = c .before .before .before .remember in
     let swept = sweep-all (a .need .now) (a .minutes .now) (a .earlier .now) (a .jobs) (a .modules) (a .t10) (p .known) (a .target)
-    (r .result .at) (r .ensures .each) (first .result) (loop .left) (loop .tried) (loop .c) (loop .inv .0)
+    (r .result .at) (starts .each) (first .result) (loop .left) (loop .tried) (loop .c) (loop .inv .0)
     (c .before .before .before .before .before .before .before .if4 .left) in
     let all = all-tried (a .need .now) (a .minutes .now) (a .earlier .now) (a .jobs) (a .modules) (a .t10) (p .known) (a .target)
-    (r .result .at) (r .ensures .each) (first .result) (a .related .now) (p .related-is) (first .ensures) swept in
+    (r .result .at) (starts .each) (first .result) (a .related .now) (p .related-is) (first .ensures) swept in
     let cut = visit-all (a .need .now) (a .minutes .now) (a .earlier .now) (a .jobs) (a .modules) (a .t10) (p .known)
     (a .target) (pos-of-ne-zero
-    (c .before .before .before .before .before .before .before .before .before .before .before .before .before .before .before .before .before .before .before .before .before .before .before .before .if1 .left)) all in (
+    (c .before .before .before .before .before .before .before .before .before .before .before .before .before .before .before .before .before .before .before .before .before .before .before .before .before .before .before .before .before .before .before .if1 .left)) all in (
       rw (c .none-found3 .ensures) (none-outcome _ (a .target) _ cut),
       visit-remember (a .need .now) (a .minutes .now) (a .earlier .now) (a .jobs) (a .modules) (a .t10) (p .known)
           (a .target) (loop .memory) (remember .last .0) (loop .inv .1 .0) cut (remember .ensures),

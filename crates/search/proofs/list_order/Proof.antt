@@ -23,8 +23,8 @@ loop-holds c =
     let a = args in
     rw (c .first-part .ensures) (first-known (a .need .now) (a .minutes .now) (a .earlier .now) (a .jobs) (a .modules) (c .before .pre))
 
-ready-starts-requires : tie.Need-ready-starts-requires Inv-loop μ-loop
-ready-starts-requires c κs =
+starts-of-requires : tie.Need-starts-of-requires Inv-loop μ-loop
+starts-of-requires c κs =
     let loop = c .before .before .loop in
     loop .inv
 
@@ -36,67 +36,67 @@ next-choice-requires c κs =
 returns : tie.Need-returns Inv-loop μ-loop
 returns c =
     let p = c .before .before .before .before .before .before .before .before .loop in
-    let ready-starts = c .before .before .before .before .before .ready-starts in
+    let starts-of = c .before .before .before .before .before .starts-of in
     let next-choice = c .before .before .next-choice in
     let loop-test = c .before .before .before .before .before .before .if1 in
     let a = c .before .before .before .before .before .before .before .before .before .before .args in
     list-stuck (a .need .now) (a .minutes .now) (a .earlier .now) (a .jobs) (a .modules) (p .part) (p .inv)
-    (ready-starts .result .at) (ready-starts .result .least) (next-choice .result)
-    _ (ready-starts .ensures) (next-choice .ensures) (c .if2 .taken) (pos-of-ne-zero (loop-test .taken)) refl refl
+    (starts-of .result .at) (starts-of .result .least) (next-choice .result)
+    _ (starts-of .ensures) (next-choice .ensures) (c .if2 .taken) (pos-of-ne-zero (loop-test .taken)) refl refl
 
 mul-place : tie.Need-mul-place Inv-loop μ-loop
 mul-place c =
     let loop-at = c .before .before .before .before .before .before .before .before in
-    let ready-starts = c .before .before .before .before .before .ready-starts in
+    let starts-of = c .before .before .before .before .before .starts-of in
     let next-choice = c .before .before .next-choice in
-    at-2 (next-job (loop-at .loop .inv) (ready-starts .ensures) (next-choice .ensures) (c .if2 .left)) (loop-at .loop .inv .fit .few)
+    at-2 (next-job (loop-at .loop .inv) (starts-of .ensures) (next-choice .ensures) (c .if2 .left)) (loop-at .loop .inv .fit .few)
 
 element-copy-out-place : tie.Need-element-copy-out-place Inv-loop μ-loop
 element-copy-out-place c =
     let loop-at = c .before .before .before .before .before .before .before .before in
-    let ready-starts = c .before .before .before .before .before .ready-starts in
+    let starts-of = c .before .before .before .before .before .starts-of in
     let next-choice = c .before .before .next-choice in
-    in-20 (next-job (loop-at .loop .inv) (ready-starts .ensures) (next-choice .ensures) (c .if2 .left)) (loop-at .loop .inv .fit .few)
+    in-20 (next-job (loop-at .loop .inv) (starts-of .ensures) (next-choice .ensures) (c .if2 .left)) (loop-at .loop .inv .fit .few)
 
 mul-place-2 : tie.Need-mul-place-2 Inv-loop μ-loop
 mul-place-2 c =
     let loop-at = c .before .before .before .before .before .before .before .before .before in
-    let ready-starts = c .before .before .before .before .before .before .ready-starts in
+    let starts-of = c .before .before .before .before .before .before .starts-of in
     let next-choice = c .before .before .before .next-choice in
     let if2 = c .before .if2 in
-    at-2 (next-job (loop-at .loop .inv) (ready-starts .ensures) (next-choice .ensures) (if2 .left)) (loop-at .loop .inv .fit .few)
+    at-2 (next-job (loop-at .loop .inv) (starts-of .ensures) (next-choice .ensures) (if2 .left)) (loop-at .loop .inv .fit .few)
 
 element-copy-out-place-2 : tie.Need-element-copy-out-place-2 Inv-loop μ-loop
 element-copy-out-place-2 c =
     let loop-at = c .before .before .before .before .before .before .before .before .before in
-    let ready-starts = c .before .before .before .before .before .before .ready-starts in
+    let starts-of = c .before .before .before .before .before .before .starts-of in
     let next-choice = c .before .before .before .next-choice in
     let if2 = c .before .if2 in
-    in-20 (next-job (loop-at .loop .inv) (ready-starts .ensures) (next-choice .ensures) (if2 .left)) (loop-at .loop .inv .fit .few)
+    in-20 (next-job (loop-at .loop .inv) (starts-of .ensures) (next-choice .ensures) (if2 .left)) (loop-at .loop .inv .fit .few)
 
 place-requires : tie.Need-place-requires Inv-loop μ-loop
 place-requires c κs =
     let loop = c .before .before .before .before .before .before .before .before .before .before .loop in
-    let ready-starts = c .before .before .before .before .before .before .before .ready-starts in
+    let starts-of = c .before .before .before .before .before .before .before .starts-of in
     let next-choice = c .before .before .before .before .next-choice in
     let if2 = c .before .before .if2 in
-    next-placeable (loop .inv) (ready-starts .ensures) (next-choice .ensures) (if2 .left)
+    next-placeable (loop .inv) (starts-of .ensures) (next-choice .ensures) (if2 .left)
 
 loop-less : tie.Need-loop-less Inv-loop μ-loop
 loop-less c =
     let loop = c .before .before .before .before .before .before .before .before .before .before .before .loop in
-    let ready-starts = c .before .before .before .before .before .before .before .before .ready-starts in
+    let starts-of = c .before .before .before .before .before .before .before .before .starts-of in
     let next-choice = c .before .before .before .before .before .next-choice in
     let if2 = c .before .before .before .if2 in
-    one-less (next-fewer (loop .inv) (ready-starts .ensures) (next-choice .ensures) (if2 .left) (c .place .ensures))
+    one-less (next-fewer (loop .inv) (starts-of .ensures) (next-choice .ensures) (if2 .left) (c .place .ensures))
 
 loop-again : tie.Need-loop-again Inv-loop μ-loop
 loop-again c =
     let loop = c .before .before .before .before .before .before .before .before .before .before .before .loop in
-    let ready-starts = c .before .before .before .before .before .before .before .before .ready-starts in
+    let starts-of = c .before .before .before .before .before .before .before .before .starts-of in
     let next-choice = c .before .before .before .before .before .next-choice in
     let if2 = c .before .before .before .if2 in
-    next-known (loop .inv) (ready-starts .ensures) (next-choice .ensures) (if2 .left) (c .place .ensures)
+    next-known (loop .inv) (starts-of .ensures) (next-choice .ensures) (if2 .left) (c .place .ensures)
 
 finished-requires : tie.Need-finished-requires Inv-loop μ-loop
 finished-requires c κs =
@@ -118,7 +118,7 @@ list-order-spec =
     μ-loop
     first-part-requires
     loop-holds
-    ready-starts-requires
+    starts-of-requires
     next-choice-requires
     returns
     mul-place
