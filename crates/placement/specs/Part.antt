@@ -47,6 +47,21 @@ pub record IsPart (S : Sheet) (w : List ℕ) (p : Part) : Type 0 where
 
 -- ---- one job more, by the figures alone
 
+-- the part-plan with these figures
+abbrev pub partWith : List ℕ → List ℕ → List ℕ → List ℕ → ℕ → ℕ → ℕ → ℕ → ℕ → ℕ → Part
+partWith ends until held order unplaced left last free placed gone = record {
+  unplaced = unplaced;
+  left = left;
+  last = last;
+  free = free;
+  placed = placed;
+  gone = gone;
+  ends = ends;
+  until = until;
+  held = held;
+  order = order;
+}
+
 -- job j can be placed at minute `start`
 pub record Placeable (p : Part) (j start need minutes modules : ℕ) : Type 0 where
   pub job : j < 20

@@ -211,7 +211,23 @@ fn try_children(
     ) {
         return none_found();
     }
-    let child = placement::place(part, job, start, need[job], minutes[job], modules);
+    let child = placement::with_job(
+        &part.ends,
+        &part.until,
+        &part.held,
+        &part.order,
+        part.unplaced,
+        part.left,
+        part.last,
+        part.free,
+        part.placed,
+        part.gone,
+        job,
+        start,
+        need[job],
+        minutes[job],
+        modules,
+    );
     let next = branching::with_settled(settled, job, tried, start, part.last);
     visit(
         need,

@@ -29,7 +29,7 @@ use Rattle.branching.proofs.to_try.Reads as to-try-reads
 use Rattle.branching.proofs.with_settled.Reads as with-settled-reads
 use Rattle.memory.proofs.recall.Reads as recall-reads
 use Rattle.memory.proofs.remember.Reads as remember-reads
-use Rattle.placement.proofs.place.Reads as place-reads
+use Rattle.placement.proofs.with_job.Reads as with-job-reads
 use Rattle.search.proofs.finished.Reads as finished-reads
 use Rattle.search.proofs.none_found.Reads as none-found-reads
 use Rattle.search.proofs.try_children.Kinds as try-children-kinds
@@ -70,8 +70,8 @@ try-children-claims t = (
   passed-over-reads.Learnt,
   none-found-reads.Asked,
   none-found-reads.Learnt,
-  place-reads.Asked,
-  place-reads.Learnt,
+  with-job-reads.Asked,
+  with-job-reads.Learnt,
   with-settled-reads.Asked,
   with-settled-reads.Learnt,
   visit-below t,
@@ -136,31 +136,31 @@ try-children-returns t c =
     (c .before .before .passed-over .ensures (c .before .if1 .taken)) in
     (rw (c .none-found .ensures) (none-outcome _ (a .target) _ cut), p .0 .remembered)
 
-try-children-mul-place : (t : ℕ) → try-children-lts.Need-mul-place (try-children-claims t) (try-children-at t) try-children.Post
-try-children-mul-place t c =
-    let p = c .before .before .before .before .before .before .before .before .pre .1 in
+try-children-mul-with-job : (t : ℕ) → try-children-lts.Need-mul-with-job (try-children-claims t) (try-children-at t) try-children.Post
+try-children-mul-with-job t c =
+    let p = c .before .before .before .before .before .before .before .before .before .before .before .before .before .pre .1 in
     record { fits = omega (arith, p .1 .1 .1 .0, p .0 .known .fit .few) }
 
-try-children-element-copy-out-place : (t : ℕ)
-    → try-children-lts.Need-element-copy-out-place (try-children-claims t) (try-children-at t) try-children.Post
-try-children-element-copy-out-place t c =
-    let p = c .before .before .before .before .before .before .before .before .pre .1 in
+try-children-element-copy-out-with-job : (t : ℕ)
+    → try-children-lts.Need-element-copy-out-with-job (try-children-claims t) (try-children-at t) try-children.Post
+try-children-element-copy-out-with-job t c =
+    let p = c .before .before .before .before .before .before .before .before .before .before .before .before .before .pre .1 in
     omega (arith, p .1 .1 .1 .0, p .0 .known .fit .few)
 
-try-children-mul-place-2 : (t : ℕ) → try-children-lts.Need-mul-place-2 (try-children-claims t) (try-children-at t) try-children.Post
-try-children-mul-place-2 t c =
-    let p = c .before .before .before .before .before .before .before .before .before .pre .1 in
+try-children-mul-with-job-2 : (t : ℕ) → try-children-lts.Need-mul-with-job-2 (try-children-claims t) (try-children-at t) try-children.Post
+try-children-mul-with-job-2 t c =
+    let p = c .before .before .before .before .before .before .before .before .before .before .before .before .before .before .pre .1 in
     record { fits = omega (arith, p .1 .1 .1 .0, p .0 .known .fit .few) }
 
-try-children-element-copy-out-place-2 : (t : ℕ)
-    → try-children-lts.Need-element-copy-out-place-2 (try-children-claims t) (try-children-at t) try-children.Post
-try-children-element-copy-out-place-2 t c =
-    let p = c .before .before .before .before .before .before .before .before .before .pre .1 in
+try-children-element-copy-out-with-job-2 : (t : ℕ)
+    → try-children-lts.Need-element-copy-out-with-job-2 (try-children-claims t) (try-children-at t) try-children.Post
+try-children-element-copy-out-with-job-2 t c =
+    let p = c .before .before .before .before .before .before .before .before .before .before .before .before .before .before .pre .1 in
     omega (arith, p .1 .1 .1 .0, p .0 .known .fit .few)
 
-try-children-place-requires : (t : ℕ) → try-children-lts.Need-place-requires (try-children-claims t) (try-children-at t) try-children.Post
-try-children-place-requires t c κs =
-    let start = c .before .before .before .before .before .before .before .before .before .before in
+try-children-with-job-requires : (t : ℕ) → try-children-lts.Need-with-job-requires (try-children-claims t) (try-children-at t) try-children.Post
+try-children-with-job-requires t c κs =
+    let start = c .before .before .before .before .before .before .before .before .before .before .before .before .before .before .before in
     let a = start .args in
     let p = start .pre .1 in
     child-placeable (a .need .now) (a .minutes .now) (a .earlier .now) (a .jobs) (a .modules) (a .t10) (p .0 .known) (a .job)
@@ -170,16 +170,16 @@ try-children-place-requires t c κs =
 try-children-with-settled-requires : (t : ℕ)
     → try-children-lts.Need-with-settled-requires (try-children-claims t) (try-children-at t) try-children.Post
 try-children-with-settled-requires t c κs =
-    let p = c .before .before .before .before .before .before .before .before .before .before .before .pre .1 in
+    let p = c .before .before .before .before .before .before .before .before .before .before .before .before .before .before .before .before .pre .1 in
     omega (arith, p .1 .1 .1 .0, p .0 .known .fit .few)
 
 try-children-visit-requires : (t : ℕ) → try-children-lts.Need-visit-requires (try-children-claims t) (try-children-at t) try-children.Post
 try-children-visit-requires t c κs =
-    let start = c .before .before .before .before .before .before .before .before .before .before .before .before .before in
+    let start = c .before .before .before .before .before .before .before .before .before .before .before .before .before .before .before .before .before .before in
     let a = start .args in
     let p = start .pre .1 in
     let known = p .0 .known in
-    let place = c .before .before .place in
+    let place = c .before .before .with-job in
     let less = child-fewer (a .need .now) (a .minutes .now) (a .earlier .now) (a .jobs) (a .modules) (a .t10) known
     (a .job) (p .1 .1 .1 .0) (getD (a .at .now) (a .job) 0)
     (p .1 .0 (a .job) (p .1 .1 .1 .0)) (p .1 .1 .1 .1) (place .result) (place .ensures) in
@@ -210,11 +210,11 @@ try-children-same-length t c =
 
 try-children-returns-2 : (t : ℕ) → try-children-lts.Need-returns-2 (try-children-claims t) (try-children-at t) try-children.Post
 try-children-returns-2 t c =
-    let start = c .before .before .before .before .before .before .before .before .before .before .before .before .before .before .before .before in
+    let start = c .before .before .before .before .before .before .before .before .before .before .before .before .before .before .before .before .before .before .before .before .before in
     let a = start .args in
     let p = start .pre .1 in
     let known = p .0 .known in
-    let place = c .before .before .before .before .before .place in
+    let place = c .before .before .before .before .before .with-job in
     let word = child-word (a .need .now) (a .minutes .now) (a .earlier .now) (a .jobs) (a .modules) (a .t10) known
     (a .job) (p .1 .1 .1 .0) (getD (a .at .now) (a .job) 0)
     (p .1 .0 (a .job) (p .1 .1 .1 .0)) (p .1 .1 .1 .1) (place .result) (place .ensures) in
@@ -486,8 +486,8 @@ pub +try-children+visit-spec : {M : Type 1} → statement M
   passed-over-reads.Learnt,
   none-found-reads.Asked,
   none-found-reads.Learnt,
-  place-reads.Asked,
-  place-reads.Learnt,
+  with-job-reads.Asked,
+  with-job-reads.Learnt,
   with-settled-reads.Asked,
   with-settled-reads.Learnt,
   visit-below t,
@@ -500,11 +500,11 @@ pub +try-children+visit-spec : {M : Type 1} → statement M
     (try-children-passed-over-requires t)
     (try-children-none-found-requires t)
     (try-children-returns t)
-    (try-children-mul-place t)
-    (try-children-element-copy-out-place t)
-    (try-children-mul-place-2 t)
-    (try-children-element-copy-out-place-2 t)
-    (try-children-place-requires t)
+    (try-children-mul-with-job t)
+    (try-children-element-copy-out-with-job t)
+    (try-children-mul-with-job-2 t)
+    (try-children-element-copy-out-with-job-2 t)
+    (try-children-with-job-requires t)
     (try-children-with-settled-requires t)
     (try-children-visit-requires t)
     (try-children-same-length t)
