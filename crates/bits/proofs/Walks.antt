@@ -4,7 +4,7 @@ use mathlib.Core.Logic.{_⊎_, inl, inr}
 use mathlib.Core.Bool.{Bool, true, false, _&&_}
 use Prim.Native.Nat.{ℕ, zero, suc, _/_, _%_, _^_, _≤_, _<_}
 use native.Mathlib.Omega.{arith}
-use native.Mathlib.Nat.{pos-of-ne-zero}
+use native.Mathlib.Nat.{pos-of-ne-zero, not-suc-le-zero}
 use lib.Dec.{eqb}
 use lib.Bits.{bitAnd, and-le-l}
 use lib.Count.{ones, trailingZeros}
@@ -18,25 +18,37 @@ use Rattle.bits.proofs.Ones.{ones-without}
 
 -- ---- the lowest member
 
-pub lowest-member : (k x : ℕ) → 0 < x → x < 2 ^ k → (trailingZeros k x < k) × (bit x (trailingZeros k x) ≡ true)
+-- k is a member of x, and none is below it
+abbrev pub Lowest : ℕ → ℕ → Type 0
+Lowest x k = (bit x k ≡ true) × ((i : ℕ) → i < k → bit x i ≡ false)
+
+pub lowest-member : (k x : ℕ) → 0 < x → x < 2 ^ k → (trailingZeros k x < k) × Lowest x (trailingZeros k x)
 unfolding trailingZeros
 lowest-member zero x p l = absurd (omega arith)
 lowest-member (suc k) x p l = go (x % 2) refl (lowest-member k (x / 2))
   where
     go : (d : ℕ) → x % 2 ≡ d
-        → (0 < x / 2 → x / 2 < 2 ^ k → (trailingZeros k (x / 2) < k) × (bit (x / 2) (trailingZeros k (x / 2)) ≡ true))
-        → (trailingZeros (suc k) x < suc k) × (bit x (trailingZeros (suc k) x) ≡ true)
-    go zero e h =
-        let r = h (omega arith) (omega arith) in
-        rw e (omega (arith, r .0), bit-suc x (trailingZeros k (x / 2)) ∙ r .1)
-    go (suc d) e h = rw e (omega arith, bit-first x ∙ ap (λ (y : ℕ). eqb y 1) (let f : x % 2 ≡ 1 = omega arith in f))
+        → (0 < x / 2 → x / 2 < 2 ^ k → (trailingZeros k (x / 2) < k) × Lowest (x / 2) (trailingZeros k (x / 2)))
+        → (trailingZeros (suc k) x < suc k) × Lowest x (trailingZeros (suc k) x)
+    go zero e h = rw e (omega (arith, r .0), (bit-suc x (trailingZeros k (x / 2)) ∙ r .1 .0, below))
+      where
+        r : (trailingZeros k (x / 2) < k) × Lowest (x / 2) (trailingZeros k (x / 2))
+        r = h (omega arith) (omega arith)
+
+        below : (i : ℕ) → i < suc (trailingZeros k (x / 2)) → bit x i ≡ false
+        below zero m = bit-first x ∙ ap (λ (y : ℕ). eqb y 1) e
+        below (suc i) m = bit-suc x i ∙ r .1 .1 i (omega arith)
+    go (suc d) e h = rw e (
+      omega arith,
+      (bit-first x ∙ ap (λ (y : ℕ). eqb y 1) (let f : x % 2 ≡ 1 = omega arith in f), λ i m. absurd (not-suc-le-zero m)),
+    )
 
 -- two sets that are not disjoint have a common member
 pub common-member : (n a b : ℕ) → a < 2 ^ n → ¬ (bitAnd a b ≡ 0) → (i : ℕ) × (bit a i ≡ true) × (bit b i ≡ true)
 common-member n a b l h =
     let i = trailingZeros n (bitAnd a b) in
     let both : bit a i && bit b i ≡ true =
-    sym (bit-and a b i) ∙ lowest-member n (bitAnd a b) (pos-of-ne-zero h) (omega (arith, and-le-l a b)) .1 in
+    sym (bit-and a b i) ∙ lowest-member n (bitAnd a b) (pos-of-ne-zero h) (omega (arith, and-le-l a b)) .1 .0 in
     (i, and-left (bit a i) (bit b i) both, and-right (bit a i) (bit b i) both)
 
 -- ---- the walk

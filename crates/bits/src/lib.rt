@@ -1,7 +1,7 @@
 // Sets of small numbers in one word: a u32 holds jobs, a u64 modules. Member i is bit i, and bit 0 is the lowest.
 ghost use mathlib.Core.Path.{_≡_};
-ghost use mathlib.Core.Bool.{true};
-ghost use Prim.Native.Nat.{_<_};
+ghost use mathlib.Core.Bool.{true, false};
+ghost use Prim.Native.Nat.{ℕ, _<_};
 ghost use lib.Count.{ones};
 ghost use Rattle.bits.specs.Bits.{bit, withBit, withoutBit, setOf};
 
@@ -39,7 +39,7 @@ pub fn ones32(set: u32) -> u32
 // The lowest member of a set that is not empty.
 pub fn lowest32(set: u32) -> usize
     requires { ⌜ 0 < set ⌝ }
-    ensures { λ r. ⌜ (r < 32) × (bit set r ≡ true) ⌝ }
+    ensures { λ r. ⌜ (r < 32) × (bit set r ≡ true) × ((i : ℕ) → i < r → bit set i ≡ false) ⌝ }
 {
     u32::trailing_zeros(set) as usize
 }

@@ -1,17 +1,22 @@
 -- The sums of all choices of jobs, one job more at a time.
-use mathlib.Core.Path.{_≡_, refl, ap, _∙_}
+use mathlib.Core.Path.{_≡_, refl, sym, ap, _∙_}
 use mathlib.Core.Logic.{_⊎_, inl, inr}
-use mathlib.Core.Bool.{Bool, true, false}
+use mathlib.Core.Bool.{Bool, true, false, not}
 use mathlib.Core.List.{List}
-use Prim.Native.Nat.{ℕ, _+_, _-_, _*_, _≤_, _<_, zero-le}
+use Prim.Native.Nat.{ℕ, zero, suc, _+_, _-_, _*_, _≤_, _<_, zero-le}
 use native.Mathlib.Omega.{arith}
-use native.Mathlib.Nat.{not-suc-le-zero}
+use native.Mathlib.Nat.{not-suc-le-zero, add-zero}
 use native.Mathlib.Numerals.{add-one}
 use lib.ListN.{length, getD, set, length-set}
 use lib.Seq.{getD-set-same, getD-set-other}
 use Rattle.counting.specs.Counting.{only, sum}
-use Rattle.counting.proofs.Tests.{true-or-false, less-or-not, same-or-not, clash}
-use Rattle.bits.specs.Bits.{bit}
+use borrow.Author.Tests.{ne-eqb}
+use Rattle.counting.proofs.Tests.{true-or-false, less-or-not, same-or-not, clash, and-left, and-both}
+use Rattle.bits.specs.Bits.{bit, withoutBit, setOf}
+use Rattle.bits.proofs.Digits.{bit-none}
+use Rattle.bits.proofs.Members.{bit-without-same, bit-without}
+use Rattle.bits.proofs.Sets.{bit-setOf}
+use Rattle.bits.proofs.Walks.{Walk, walk-first, walk-next}
 use Rattle.sums.specs.Sums.{together, Within, SumsOf, Room, Doubled}
 
 -- ---- writing the new sums
@@ -128,3 +133,75 @@ module _ {minutes : List ℕ} {chosen j : ℕ} {sums : List ℕ} {count : ℕ} (
       go X (i, l, e) (inr y) =
           let none : only (X j) (getD minutes j 0) ≡ 0 = rw y in
           (i, omega arith, omega (arith, together-more minutes j X, d .kept i l))
+
+-- ---- the walk over the set's jobs
+
+-- jobs that are not in the set add none
+sums-past : {minutes : List ℕ} {chosen : ℕ} {sums : List ℕ} {count : ℕ} (j d : ℕ) → SumsOf minutes chosen j sums count
+    → ((i : ℕ) → j ≤ i → i < j + d → bit chosen i ≡ false) → SumsOf minutes chosen (j + d) sums count
+sums-past j zero s out = rw (add-zero j) s
+sums-past {minutes} {chosen} {sums} {count} j (suc d) s out =
+    let e : j + suc d ≡ (j + d) + 1 = omega arith in
+    rw e (sums-skip (sums-past j d s (λ i a b. out i a (omega arith))) (out (j + d) (omega arith) (omega arith)))
+
+-- the sums of the set's first jobs, up to a place from which on all its jobs are still to come
+pub record Summing (minutes : List ℕ) (chosen jobs rest : ℕ) (sums : List ℕ) (count : ℕ) : Type 0 where
+  pub walk : Walk chosen jobs rest
+  pub place : ℕ
+  pub inside : place ≤ jobs
+  pub done : SumsOf minutes chosen place sums count
+  pub ahead : (i : ℕ) → bit rest i ≡ true → place ≤ i
+  pub all : (i : ℕ) → place ≤ i → i < jobs → bit chosen i ≡ true → bit rest i ≡ true
+
+module _ (minutes : List ℕ) (chosen jobs : ℕ) where
+  pub summing-none : (sums : List ℕ) → 0 < length sums → Summing minutes chosen jobs (setOf jobs (bit chosen)) (set sums 0 0) 1
+  summing-none sums e = record {
+    walk = walk-first jobs chosen;
+    place = 0;
+    inside = zero-le;
+    done = sums-start minutes chosen sums e;
+    ahead = λ i b. zero-le;
+    all = λ i a l b. bit-setOf jobs (bit chosen) i l ∙ b;
+  }
+
+  module _ {rest : ℕ} {sums : List ℕ} {count : ℕ} (s : Summing minutes chosen jobs rest sums count) where
+    -- up to the lowest job that is still to come
+    pub summing-to : (j : ℕ) → bit rest j ≡ true → ((i : ℕ) → i < j → bit rest i ≡ false) → SumsOf minutes chosen j sums count
+    summing-to j b low =
+        let d = j - s .place in
+        let e : s .place + d ≡ j = omega (arith, s .ahead j b) in
+        rw e at (sums-past (s .place) d (s .done) (λ i p l. go i p (omega arith) (true-or-false (bit chosen i))))
+      where
+        go : (i : ℕ) → s .place ≤ i → i < j → (bit chosen i ≡ true) ⊎ (bit chosen i ≡ false) → bit chosen i ≡ false
+        go i p l (inr x) = x
+        go i p l (inl x) = clash (bit rest i) (s .all i p (omega (arith, s .walk .below j b)) x) (low i l)
+
+    pub summing-step : (j : ℕ) {sums′ : List ℕ} {count′ : ℕ} → bit rest j ≡ true → ((i : ℕ) → i < j → bit rest i ≡ false)
+        → SumsOf minutes chosen (j + 1) sums′ count′ → Summing minutes chosen jobs (withoutBit rest j) sums′ count′
+    summing-step j b low t = record {
+      walk = walk-next j (s .walk);
+      place = j + 1;
+      inside = omega (arith, s .walk .below j b);
+      done = t;
+      ahead = λ i x. from i x (less-or-not i (j + 1));
+      all = λ i p l x. bit-without rest j i ∙ and-both (bit rest i) _ (s .all i (omega (arith, s .ahead j b)) l x)
+          (ap not (ne-eqb i j (λ e. omega arith)));
+    }
+      where
+        from : (i : ℕ) → bit (withoutBit rest j) i ≡ true → (i < j + 1) ⊎ (j + 1 ≤ i) → j + 1 ≤ i
+        from i x (inr l) = l
+        from i x (inl l) = lower (same-or-not i j)
+          where
+            lower : (i ≡ j) ⊎ (¬ (i ≡ j)) → j + 1 ≤ i
+            lower (inl e) = clash (bit (withoutBit rest j) i) x (rw e (bit-without-same rest j))
+            lower (inr d) = clash (bit rest i) (and-left (bit rest i) _ (sym (bit-without rest j i) ∙ x)) (low i (omega arith))
+
+    pub summing-all : rest ≡ 0 → SumsOf minutes chosen jobs sums count
+    summing-all e =
+        let d = jobs - s .place in
+        let f : s .place + d ≡ jobs = omega (arith, s .inside) in
+        rw f at (sums-past (s .place) d (s .done) (λ i p l. go i p (omega arith) (true-or-false (bit chosen i))))
+      where
+        go : (i : ℕ) → s .place ≤ i → i < jobs → (bit chosen i ≡ true) ⊎ (bit chosen i ≡ false) → bit chosen i ≡ false
+        go i p l (inr x) = x
+        go i p l (inl x) = clash (bit rest i) (s .all i p l x) (rw e (bit-none i))

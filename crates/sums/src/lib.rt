@@ -41,10 +41,11 @@ pub fn subset_sums(at: &mut [u16], minutes: &[u16; 20], set: u32, jobs: usize) -
 {
     at[0] = 0;
     let mut count: usize = 1;
-    let mut j: usize = 0;
-    while j < jobs {
+    let mut rest = bits::below32(set, jobs);
+    while rest != 0 {
+        let j = bits::lowest32(rest);
         count = with_job(at, count, minutes, set, j);
-        j += 1;
+        rest = bits::clear32(rest, j);
     }
     count
 }

@@ -9,7 +9,9 @@ cast-result : tie.Need-cast-result
 cast-result c = record { fits = omega (arith, trailing-le 32 (c .args .set)) }
 
 returns : tie.Need-returns
-returns c = lowest-member 32 (c .args .set) (c .pre) (c .fits .set .fits)
+returns c =
+    let r = lowest-member 32 (c .args .set) (c .pre) (c .fits .set .fits) in
+    (r .0, r .1 .0, r .1 .1)
 
 pub lowest32-spec : {M : Type 1} → statement M
 lowest32-spec = tie.close (tie.spec cast-result returns)

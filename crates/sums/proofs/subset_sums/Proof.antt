@@ -1,56 +1,71 @@
 -- `sums::subset_sums` meets its contract.
-use Prim.Native.Nat.{ℕ, _-_, _≤_}
-use mathlib.Core.Path.{_≡_, refl, subst, _∙_}
+use mathlib.Core.Path.{_≡_, refl, _∙_}
 use native.Mathlib.Omega.{arith}
+use native.Mathlib.Nat.{pos-of-ne-zero}
+use lib.Count.{ones}
 use lib.ListN.{length, length-set}
-use Rattle.sums.specs.Sums.{SumsOf}
-use Rattle.sums.proofs.Choices.{sums-start}
 use borrow.Author.Needs.{needs}
+use Rattle.bits.proofs.Walks.{walk-less}
+use Rattle.sums.proofs.Choices.{Summing, summing-none, summing-to, summing-step, summing-all}
 use Rattle.sums.proofs.subset_sums.Statement.{statement}
 use Rattle.sums.proofs.subset_sums.Tie as tie
 
 abbrev Inv-loop : tie.InvT-loop
-Inv-loop at₀ minutes set jobs count₀ j₀ at count j = (j ≤ jobs) × (SumsOf minutes set j at count) × (length at ≡ length at₀)
+Inv-loop at₀ minutes set jobs count₀ rest₀ at count rest = Summing minutes set jobs rest at count × (length at ≡ length at₀)
 
 abbrev μ-loop : tie.MeasureT-loop
-μ-loop at₀ minutes set jobs count₀ j₀ at count j = jobs - j
+μ-loop at₀ minutes set jobs count₀ rest₀ at count rest = ones rest
 
 slice-write-at : tie.Need-slice-write-at Inv-loop μ-loop
 slice-write-at c = search needs
 
+below32-requires : tie.Need-below32-requires Inv-loop μ-loop
+below32-requires c κs = omega (arith, c .before .pre .1 .few)
+
 loop-holds : tie.Need-loop-holds Inv-loop μ-loop
 loop-holds c =
-    let a = c .before .args in
-    (search needs, sums-start (a .minutes .now) (a .set) (a .at .now) (c .before .pre .0), refl)
+    let start = c .before .before in
+    let a = start .args in
+    (rw (c .below32 .ensures) (summing-none (a .minutes .now) (a .set) (a .jobs) (a .at .now) (start .pre .0)), refl)
+
+lowest32-requires : tie.Need-lowest32-requires Inv-loop μ-loop
+lowest32-requires c κs = pos-of-ne-zero (c .loop-test .taken)
 
 with-job-requires : tie.Need-with-job-requires Inv-loop μ-loop
 with-job-requires c κs =
-    let loop = c .before .before .loop in
-    let loop-test = c .before .loop-test in
-    let pre = c .before .before .before .before .pre in
-    (loop .inv .1, (omega (arith, pre .1 .few), pre .1 .day (loop .j) (loop-test .taken)))
+    let start = c .before .before .before .before .before .before in
+    let a = start .args in
+    let summing = c .before .before .before .loop .inv .0 in
+    let j = c .before .lowest32 in
+    let inside = summing .walk .below (j .result) (j .ensures .1) in (
+      summing-to (a .minutes .now) (a .set) (a .jobs) summing (j .result) (j .ensures .1) (j .ensures .2),
+      (omega (arith, inside, start .pre .1 .few), start .pre .1 .day (j .result) inside),
+    )
 
-add-j : tie.Need-add-j Inv-loop μ-loop
-add-j c = search needs
+clear32-requires : tie.Need-clear32-requires Inv-loop μ-loop
+clear32-requires c κs = c .before .before .before .before .lowest32 .ensures .0
 
 loop-less : tie.Need-loop-less Inv-loop μ-loop
-loop-less c = search needs
+loop-less c = rw (c .clear32 .ensures) (walk-less _ _ (c .before .before .before .before .before .lowest32 .ensures .1))
 
 loop-again : tie.Need-loop-again Inv-loop μ-loop
 loop-again c =
-    let loop = c .before .before .before .before .before .loop in
-    let with-job = c .before .before .with-job in
-    (search needs, with-job .ensures, with-job .kept .0 ∙ loop .inv .2)
+    let a = c .before .before .before .before .before .before .before .before .before .before .args in
+    let loop = c .before .before .before .before .before .before .before .loop in
+    let j = c .before .before .before .before .before .lowest32 in
+    let with-job = c .before .before .before .with-job in (
+      rw (c .clear32 .ensures) (summing-step (a .minutes .now) (a .set) (a .jobs) (loop .inv .0) (j .result) (j .ensures .1) (j .ensures .2)
+          (with-job .ensures)),
+      with-job .kept .0 ∙ loop .inv .1,
+    )
 
 same-length : tie.Need-same-length Inv-loop μ-loop
-same-length c = c .before .loop .inv .2 ∙ length-set (c .before .before .before .args .at .now) 0 0
+same-length c = c .before .loop .inv .1 ∙ length-set (c .before .before .before .before .args .at .now) 0 0
 
 returns : tie.Need-returns Inv-loop μ-loop
 returns c =
-    let loop = c .before .loop in
-    let a = c .before .before .before .args in
-    let e : loop .j ≡ a .jobs = omega (arith, loop .inv .0, c .loop-test .left) in
-    subst (λ (n : ℕ). SumsOf (a .minutes .now) (a .set) n (loop .at) (loop .count)) e (loop .inv .1)
+    let a = c .before .before .before .before .args in
+    summing-all (a .minutes .now) (a .set) (a .jobs) (c .before .loop .inv .0) (c .loop-test .left)
 
 pub subset-sums-spec : {M : Type 1} → statement M
 subset-sums-spec =
@@ -59,9 +74,11 @@ subset-sums-spec =
     Inv-loop
     μ-loop
     slice-write-at
+    below32-requires
     loop-holds
+    lowest32-requires
     with-job-requires
-    add-j
+    clear32-requires
     loop-less
     loop-again
     same-length
