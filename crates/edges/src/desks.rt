@@ -3,7 +3,7 @@ use super::cases::print_case;
 use desk::Desk;
 
 fn open(name: &[u8], limit: u32, shares: &[u32], ceilings: &[u32]) {
-    print_case(name, desk::open(limit, shares, ceilings).refusal);
+    print_case(name, opening::open(limit, shares, ceilings).refusal);
 }
 
 fn lists() {
@@ -35,7 +35,7 @@ fn sums() {
 
 // Two controllers with shares of 4 and 3 on a feeder of 12 modules.
 fn small(ceiling: u32) -> Desk {
-    desk::open(12, &[4u32, 3u32], &[ceiling; 2]).desk
+    opening::open(12, &[4u32, 3u32], &[ceiling; 2]).desk
 }
 
 // Prints what a look gives.

@@ -1,8 +1,8 @@
--- `desk::wrong_pair` meets its contract.
+-- `opening::wrong_pair` meets its contract.
 use mathlib.Core.Path.{refl}
 use borrow.Author.Tests.{le-ltb, lt-ltb}
-use Rattle.desk.proofs.wrong_pair.Statement.{statement}
-use Rattle.desk.proofs.wrong_pair.Tie as tie
+use Rattle.opening.proofs.wrong_pair.Statement.{statement}
+use Rattle.opening.proofs.wrong_pair.Tie as tie
 
 returns : tie.Need-returns
 returns c = rw (lt-ltb _ _ (c .if1 .taken)) refl

@@ -1,14 +1,14 @@
--- `desk::places` meets its contract: the places passed are copied, and the others are 0.
+-- `opening::places` meets its contract: the places passed are copied, and the others are 0.
 use mathlib.Core.Path.{_≡_, refl, ap, _∙_}
 use mathlib.Core.List.{List}
 use Prim.Native.Nat.{ℕ, _≤_, _<_, _-_}
 use native.Mathlib.Omega.{arith}
 use borrow.Author.Needs.{needs}
 use lib.ListN.{length, getD, set}
 use Rattle.desk.specs.Desk.{mostControllers}
 use Rattle.desk.proofs.Loops.{copied, copy-more, copy-all}
-use Rattle.desk.proofs.places.Statement.{statement}
-use Rattle.desk.proofs.places.Tie as tie
+use Rattle.opening.proofs.places.Statement.{statement}
+use Rattle.opening.proofs.places.Tie as tie
 
 abbrev Inv-loop : tie.InvT-loop
 Inv-loop list all₀ i₀ all i = (i ≤ length list) × (all ≡ copied list i)

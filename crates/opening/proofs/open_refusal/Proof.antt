@@ -1,4 +1,4 @@
--- `desk::open_refusal` meets its contract: the checks in turn.
+-- `opening::open_refusal` meets its contract: the checks in turn.
 use mathlib.Core.Path.{_≡_, refl, sym, _∙_}
 use mathlib.Core.Bool.{Bool, true, false}
 use Prim.Native.Nat.{_≤_}
@@ -7,13 +7,13 @@ use borrow.Author.Needs.{needs}
 use borrow.Author.Tests.{lt-ltb, le-ltb, eq-eqb, ne-eqb, not-true, not-false}
 use lib.ListN.{length}
 use Rattle.checking.specs.Checking.{firstFailing}
 use Rattle.desk.specs.Desk.{mostModules, fewestControllers, mostControllers}
 use Rattle.desk.specs.Checks.{inRange, somePairWrong, wrongLengths, wrongFigures, sharesExceed}
 use Rattle.desk.specs.Calls.{openRefusal}
 use Rattle.desk.proofs.Sound.{range-says}
 use Rattle.desk.proofs.Grants.{pairs-say}
-use Rattle.desk.proofs.open_refusal.Statement.{statement}
-use Rattle.desk.proofs.open_refusal.Tie as tie
+use Rattle.opening.proofs.open_refusal.Statement.{statement}
+use Rattle.opening.proofs.open_refusal.Tie as tie
 
 -- what each call says of its list or limit
 controllers : (c : tie.After-in-range) (b : Bool) → c .in-range .result ≡ b

@@ -1,4 +1,4 @@
--- `desk::some_pair_wrong` meets its contract: no pair that was passed is wrong.
+-- `opening::some_pair_wrong` meets its contract: no pair that was passed is wrong.
 use mathlib.Core.Path.{_≡_, refl, sym, _∙_}
 use mathlib.Core.Bool.{Bool, true, false}
 use mathlib.Core.List.{List}
@@ -7,10 +7,10 @@ use native.Mathlib.Omega.{arith}
 use borrow.Author.Needs.{needs}
 use lib.ListN.{length, getD}
 use Rattle.counting.specs.Counting.{any}
 use Rattle.desk.specs.Checks.{wrongPair}
 use Rattle.desk.proofs.Loops.{any-more, any-at}
-use Rattle.desk.proofs.some_pair_wrong.Statement.{statement}
-use Rattle.desk.proofs.some_pair_wrong.Tie as tie
+use Rattle.opening.proofs.some_pair_wrong.Statement.{statement}
+use Rattle.opening.proofs.some_pair_wrong.Tie as tie
 
 abbrev wrong : ℕ → List ℕ → List ℕ → ℕ → Bool
 wrong limit assured ceilings i = wrongPair limit (getD assured i 0) (getD ceilings i 0)

@@ -1,4 +1,4 @@
--- `desk::open` meets its contract: what the refusal says, and the new desk where there is none.
+-- `opening::open` meets its contract: what the refusal says, and the new desk where there is none.
 use mathlib.Core.Path.{_≡_, sym, ap, ap₂, _∙_}
 use mathlib.Core.List.{List}
 use Prim.Native.Nat.{ℕ}
@@ -6,12 +6,12 @@ use native.Mathlib.Omega.{arith}
 use borrow.Author.Needs.{needs}
 use borrow.Author.Tests.{ne-eqb}
 use lib.ListN.{length}
 use Rattle.desk.specs.declared.Desk.{Desk}
 use Rattle.desk.specs.Desk.{zeros}
 use Rattle.desk.specs.Calls.{openRefusal, opened}
 use Rattle.desk.proofs.Grants.{Opens, open-says}
-use Rattle.desk.proofs.open.Statement.{statement}
-use Rattle.desk.proofs.open.Tie as tie
+use Rattle.opening.proofs.open.Statement.{statement}
+use Rattle.opening.proofs.open.Tie as tie
 
 -- no check fails
 answered : (c : tie.Else1) → let a = c .before .before .before .before .args in

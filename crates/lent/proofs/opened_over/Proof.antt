@@ -1,10 +1,10 @@
--- `firmware::opened_over` meets its contract: what opening answers says which desk is handed back.
+-- `lent::opened_over` meets its contract: what opening answers says which desk is handed back.
 use mathlib.Core.Path.{refl}
 use borrow.Author.Needs.{needs}
 use borrow.Author.Tests.{ne-eqb}
-use Rattle.firmware.specs.Lent.{openedOver}
-use Rattle.firmware.proofs.opened_over.Statement.{statement}
-use Rattle.firmware.proofs.opened_over.Tie as tie
+use Rattle.lent.specs.Lent.{openedOver}
+use Rattle.lent.proofs.opened_over.Statement.{statement}
+use Rattle.lent.proofs.opened_over.Tie as tie
 
 open-requires : tie.Need-open-requires
 open-requires c κs = search needs

@@ -1,4 +1,4 @@
--- `desk::shares_in_all` meets its contract: the total is that of the shares passed, each at most the largest limit.
+-- `opening::shares_in_all` meets its contract: the total is that of the shares passed, each at most the largest limit.
 use mathlib.Core.Path.{_≡_, refl}
 use Prim.Native.Nat.{ℕ, _≤_, _-_}
 use native.Mathlib.Omega.{arith}
@@ -6,10 +6,10 @@ use borrow.Author.Needs.{needs}
 use lib.ListN.{length, getD}
 use Rattle.counting.specs.Counting.{sum}
 use Rattle.counting.proofs.Sums.{sum-most}
 use Rattle.desk.specs.Desk.{mostModules}
 use Rattle.desk.proofs.Loops.{sum-more}
-use Rattle.desk.proofs.shares_in_all.Statement.{statement}
-use Rattle.desk.proofs.shares_in_all.Tie as tie
+use Rattle.opening.proofs.shares_in_all.Statement.{statement}
+use Rattle.opening.proofs.shares_in_all.Tie as tie
 
 abbrev Inv-loop : tie.InvT-loop
 Inv-loop assured total₀ i₀ total i = (i ≤ length assured) × (total ≡ sum i (λ k. getD assured k 0))

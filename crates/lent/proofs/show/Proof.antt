@@ -1,8 +1,8 @@
--- `firmware::show` meets its contract.
+-- `lent::show` meets its contract.
 use mathlib.Core.Path.{refl}
 use borrow.Author.Tests.{eq-eqb, ne-eqb}
-use Rattle.firmware.proofs.show.Statement.{statement}
-use Rattle.firmware.proofs.show.Tie as tie
+use Rattle.lent.proofs.show.Statement.{statement}
+use Rattle.lent.proofs.show.Tie as tie
 
 returns : tie.Need-returns
 returns c = (refl, rw (eq-eqb _ 0 (c .if1 .taken)) refl)
