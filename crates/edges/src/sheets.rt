@@ -218,8 +218,8 @@ fn write_sizes() {
 }
 
 fn show_label(name: &[u8], s: &[u8], job: usize) {
-    print_case(name, sheet::label_refusal(s, job));
-    print(sheet::label(s, job));
+    print_case(name, labels::label_refusal(s, job));
+    print(labels::label(s, job));
     print(b"\n");
 }
 

@@ -43,7 +43,7 @@ pub extern "C" fn depot_read(sheet: &[u8]) -> Reading
 pub extern "C" fn depot_label(sheet: &[u8], job: usize) -> LabelPlace
     ensures { λ r. ⌜ r ≡ labelPlace (now (sheet .entry)) job ⌝ }
 {
-    sheet::label_place(sheet, job)
+    labels::label_place(sheet, job)
 }
 
 // Writing: the sheet of the lent jobs goes to the front of the lent buffer, and its length is the answer, or the first refusal of 2, 3,

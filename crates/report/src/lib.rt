@@ -9,6 +9,7 @@ ghost use Rattle.text.specs.Texts.{empty, adding, textOf};
 ghost use Rattle.report.specs.Report.{planLine, jobLine, refusedLine};
 ghost use Rattle.report.specs.Report.{longestCard, reportOf};
 ghost use Rattle.report.specs.Rows.{rowLine, rowLines, cardLines};
+use labels::label;
 use sheet::Reading;
 use text::Text;
 
@@ -53,7 +54,7 @@ fn with_row(text: Text, sheet: &[u8], card: &[u8], j: usize, departure: u16) -> 
     let start = number16(card, at);
     let end = number16(card, at + 2);
     let modules = number64(card, at + 4);
-    with_line(text, sheet::label(sheet, j), start, end, departure, modules)
+    with_line(text, label(sheet, j), start, end, departure, modules)
 }
 
 // The text with a line per job, in sheet order.

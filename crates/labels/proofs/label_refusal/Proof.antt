@@ -1,16 +1,16 @@
--- `sheet::label_refusal` meets its contract.
+-- `labels::label_refusal` meets its contract.
 use mathlib.Core.Path.{_≡_, sym, ap, _∙_}
 use mathlib.Core.List.{List}
 use Prim.Native.Nat.{ℕ}
 use native.Mathlib.Omega.{arith}
 use borrow.Author.Needs.{needs}
 use Rattle.sheet_format.specs.Format.{countOf}
 use Rattle.sheet.specs.declared.Reading.{Reading}
 use Rattle.sheet.specs.Read.{reading, readRefusal}
 use Rattle.sheet.proofs.Answers.{read-number, read-answer}
 use Rattle.sheet.proofs.Labels.{refused-in-reading, no-job-there, label-there}
-use Rattle.sheet.proofs.label_refusal.Statement.{statement}
-use Rattle.sheet.proofs.label_refusal.Tie as tie
+use Rattle.labels.proofs.label_refusal.Statement.{statement}
+use Rattle.labels.proofs.label_refusal.Tie as tie
 
 -- the number and the count of what reading answered
 number : (s : List ℕ) (r : Reading) → r ≡ reading s → r .refusal ≡ readRefusal s

@@ -1,12 +1,12 @@
--- `sheet::label` meets its contract: the part at the label's place is the label.
+-- `labels::label` meets its contract: the part at the label's place is the label.
 use mathlib.Core.Path.{_≡_, ap, _∙_}
 use Prim.Native.Nat.{ℕ, _+_, _-_}
 use native.Mathlib.Omega.{arith}
 use lib.ListN.{take, drop}
 use borrow.Author.Needs.{needs}
 use Rattle.sheet.proofs.Labels.{place-at, place-shown}
-use Rattle.sheet.proofs.label.Statement.{statement}
-use Rattle.sheet.proofs.label.Tie as tie
+use Rattle.labels.proofs.label.Statement.{statement}
+use Rattle.labels.proofs.label.Tie as tie
 
 label-place-requires : tie.Need-label-place-requires
 label-place-requires c κs = search needs

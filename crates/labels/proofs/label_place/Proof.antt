@@ -1,11 +1,11 @@
--- `sheet::label_place` meets its contract: an answered call's label lies between two sums of label lengths, within the sheet.
+-- `labels::label_place` meets its contract: an answered call's label lies between two sums of label lengths, within the sheet.
 use Prim.Native.Nat.{_+_, _*_}
 use native.Mathlib.Omega.{arith}
 use borrow.Author.Needs.{needs}
 use Rattle.sheet_format.specs.Figures.{recordSize}
 use Rattle.sheet.proofs.Labels.{there, no-place, place-there}
-use Rattle.sheet.proofs.label_place.Statement.{statement}
-use Rattle.sheet.proofs.label_place.Tie as tie
+use Rattle.labels.proofs.label_place.Statement.{statement}
+use Rattle.labels.proofs.label_place.Tie as tie
 
 label-refusal-requires : tie.Need-label-refusal-requires
 label-refusal-requires c κs = search needs
