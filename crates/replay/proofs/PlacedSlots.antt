@@ -17,9 +17,9 @@ use Rattle.bits.proofs.Sets.{bit-setOf}
 use Rattle.schedule.specs.Plan.{Sheet, finish}
 use Rattle.schedule.specs.ListPlan.{PartPlan, occupies, free, lowest, place, placeAll, partOf}
 use Rattle.tables.specs.Tables.{sheetOf}
-use Rattle.card.specs.declared.Slots.{Slots}
-use Rattle.card.specs.Slots.{withSlot, busyAt, outside, lowestOutside}
-use Rattle.card.proofs.Modules.{bit-union, lowest-same}
+use Rattle.replay.specs.declared.Slots.{Slots}
+use Rattle.replay.specs.Slots.{withSlot, busyAt, outside, lowestOutside}
+use Rattle.replay.proofs.Modules.{bit-union, lowest-same}
 
 -- no job has a slot
 unfoldable pub noSlots : Slots

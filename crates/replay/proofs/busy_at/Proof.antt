@@ -1,4 +1,4 @@
--- `card::busy_at` meets its contract.
+-- `replay::busy_at` meets its contract.
 use mathlib.Core.Path.{_≡_, refl, ap, _∙_}
 use Prim.Native.Nat.{ℕ, _≤_, _-_}
 use native.Mathlib.Omega.{arith}
@@ -6,11 +6,11 @@ use lib.Dec.{ltb}
 use lib.Bits.{bitOr}
 use lib.ListN.{getD}
 use Rattle.counting.specs.Counting.{only}
-use Rattle.card.specs.Slots.{union, busyAt}
-use Rattle.card.proofs.Modules.{union-more}
+use Rattle.replay.specs.Slots.{union, busyAt}
+use Rattle.replay.proofs.Modules.{union-more}
 use borrow.Author.Needs.{needs}
-use Rattle.card.proofs.busy_at.Statement.{statement}
-use Rattle.card.proofs.busy_at.Tie as tie
+use Rattle.replay.proofs.busy_at.Statement.{statement}
+use Rattle.replay.proofs.busy_at.Tie as tie
 
 abbrev Inv-loop : tie.InvT-loop
 Inv-loop jobs t slots set₀ i₀ set i = (i ≤ jobs) × (set ≡ busyAt slots i t)

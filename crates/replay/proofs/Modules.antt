@@ -18,7 +18,7 @@ use Rattle.bits.proofs.Members.{with-clear}
 use Rattle.bits.proofs.Sets.{bit-setOf-above, setOf-same}
 use Rattle.bits.proofs.Ones.{ones-setOf}
 use Rattle.schedule.specs.ListPlan.{lowest}
-use Rattle.card.specs.Slots.{union}
+use Rattle.replay.specs.Slots.{union}
 
 -- ---- the union of sets
 

@@ -1,4 +1,4 @@
--- `card::lowest_free` meets its contract.
+-- `replay::lowest_free` meets its contract.
 use mathlib.Core.Path.{_≡_, refl, ap, _∙_}
 use mathlib.Core.Bool.{cond, _&&_}
 use Prim.Native.Nat.{ℕ, _≤_, _-_}
@@ -8,11 +8,11 @@ use lib.Count.{ones}
 use Rattle.counting.specs.Counting.{sum}
 use Rattle.bits.specs.Bits.{withBit, setOf}
 use Rattle.schedule.specs.ListPlan.{lowest}
-use Rattle.card.specs.Slots.{outside}
-use Rattle.card.proofs.Modules.{lowest-more}
+use Rattle.replay.specs.Slots.{outside}
+use Rattle.replay.proofs.Modules.{lowest-more}
 use borrow.Author.Needs.{needs}
-use Rattle.card.proofs.lowest_free.Statement.{statement}
-use Rattle.card.proofs.lowest_free.Tie as tie
+use Rattle.replay.proofs.lowest_free.Statement.{statement}
+use Rattle.replay.proofs.lowest_free.Tie as tie
 
 abbrev Inv-loop : tie.InvT-loop
 Inv-loop busy modules want set₀ m₀ set m = (m ≤ modules) × (set ≡ setOf m (lowest modules (outside busy) want))

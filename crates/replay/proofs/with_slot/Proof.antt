@@ -1,9 +1,9 @@
--- `card::with_slot` meets its contract.
+-- `replay::with_slot` meets its contract.
 use mathlib.Core.Path.{refl}
-use Rattle.card.specs.Slots.{withSlot}
+use Rattle.replay.specs.Slots.{withSlot}
 use borrow.Author.Needs.{needs}
-use Rattle.card.proofs.with_slot.Statement.{statement}
-use Rattle.card.proofs.with_slot.Tie as tie
+use Rattle.replay.proofs.with_slot.Statement.{statement}
+use Rattle.replay.proofs.with_slot.Tie as tie
 
 mul-next : tie.Need-mul-next
 mul-next c = search needs

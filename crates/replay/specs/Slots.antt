@@ -10,8 +10,7 @@ use Rattle.counting.specs.Counting.{only}
 use Rattle.bits.specs.Bits.{bit, setOf}
 use Rattle.schedule.specs.Plan.{Sheet, finish}
 use Rattle.schedule.specs.ListPlan.{lowest, listPlan}
-use Rattle.card.specs.declared.Slots.{Slots}
-use Rattle.card.specs.Card.{rowBytes}
+use Rattle.replay.specs.declared.Slots.{Slots}
 
 -- the slots with one for job j
 unfoldable pub withSlot : Slots → ℕ → ℕ → ℕ → ℕ → Slots
@@ -20,10 +19,6 @@ withSlot s j start end modules = record {
   end = set (s .end) j end;
   modules = set (s .modules) j modules;
 }
-
--- the row of job j
-abbrev pub slotRow : Slots → ℕ → List ℕ
-slotRow s j = rowBytes (getD (s .start) j 0) (getD (s .end) j 0) (getD (s .modules) j 0)
 
 -- the sets f 0 to f (n - 1) together
 unfoldable pub union : ℕ → (ℕ → ℕ) → ℕ

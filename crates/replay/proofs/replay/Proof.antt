@@ -1,4 +1,4 @@
--- `card::replay` meets its contract.
+-- `replay::replay` meets its contract.
 use mathlib.Core.Path.{_≡_, sym, subst}
 use mathlib.Core.List.{[]}
 use Prim.Native.Nat.{ℕ, _-_, _≤_}
@@ -9,12 +9,12 @@ use Rattle.tables.specs.Tables.{sheetOf}
 use Rattle.placement.specs.declared.Part.{Part}
 use Rattle.placement.specs.Part.{IsPart}
 use Rattle.placement.proofs.Parts.{first-is}
-use Rattle.card.proofs.PlacedSlots.{noSlots, SlotsOf, no-slots}
-use Rattle.card.proofs.Replays.{Turn, next-job, next-low, next-short, next-placeable, next-part, next-slots}
-use Rattle.card.proofs.Replays.{all-replayed}
+use Rattle.replay.proofs.PlacedSlots.{noSlots, SlotsOf, no-slots}
+use Rattle.replay.proofs.Replays.{Turn, next-job, next-low, next-short, next-placeable, next-part, next-slots}
+use Rattle.replay.proofs.Replays.{all-replayed}
 use borrow.Author.Needs.{needs}
-use Rattle.card.proofs.replay.Statement.{statement}
-use Rattle.card.proofs.replay.Tie as tie
+use Rattle.replay.proofs.replay.Statement.{statement}
+use Rattle.replay.proofs.replay.Tie as tie
 
 abbrev Inv-loop : tie.InvT-loop
 Inv-loop need minutes earlier jobs modules order slots₀ part₀ k₀ slots part k =
