@@ -2,35 +2,59 @@
 use super::cases::print_case;
 use desk::Desk;
 
-fn open(name: &[u8], limit: u32, shares: &[u32], ceilings: &[u32]) {
-    print_case(name, opening::open(limit, shares, ceilings).refusal);
+// Opens with the first of the shares and of the ceilings.
+fn open_fronts(
+    name: &[u8],
+    limit: u32,
+    assured: &[u32],
+    shares: usize,
+    tops: &[u32],
+    ceilings: usize,
+) {
+    if shares <= assured.len() {
+        if ceilings <= tops.len() {
+            print_case(
+                name,
+                opening::open(limit, &assured[0..shares], &tops[0..ceilings]).refusal,
+            );
+        }
+    }
+}
+
+// Opens with so many equal shares and so many equal ceilings.
+fn open(name: &[u8], limit: u32, shares: usize, share: u32, ceilings: usize, ceiling: u32) {
+    open_fronts(name, limit, &[share; 9], shares, &[ceiling; 9], ceilings);
+}
+
+// Opens a desk of 10 modules for two controllers.
+fn open_two(name: &[u8], share: u32, other_share: u32, ceiling: u32, other_ceiling: u32) {
+    let shares = [share, other_share];
+    let ceilings = [ceiling, other_ceiling];
+    print_case(name, opening::open(10, &shares, &ceilings).refusal);
 }
 
 fn lists() {
-    open(b"1 controller", 10, &[1u32; 1], &[10u32; 1]);
-    open(b"2 controllers", 10, &[1u32; 2], &[10u32; 2]);
-    open(b"8 controllers", 10, &[1u32; 8], &[10u32; 8]);
-    open(b"9 controllers", 10, &[1u32; 9], &[10u32; 9]);
-    open(b"2 shares and 3 ceilings", 10, &[1u32; 2], &[10u32; 3]);
+    open(b"1 controller", 10, 1, 1, 1, 10);
+    open(b"2 controllers", 10, 2, 1, 2, 10);
+    open(b"8 controllers", 10, 8, 1, 8, 10);
+    open(b"9 controllers", 10, 9, 1, 9, 10);
+    open(b"2 shares and 3 ceilings", 10, 2, 1, 3, 10);
 }
 
 fn limits() {
-    open(b"limit 0", 0, &[0u32; 2], &[0u32; 2]);
-    open(b"limit 1", 1, &[0u32; 2], &[1u32; 2]);
-    open(b"limit 4096", 4096, &[0u32; 2], &[1u32; 2]);
-    open(b"limit 4097", 4097, &[0u32; 2], &[1u32; 2]);
+    open(b"limit 0", 0, 2, 0, 2, 0);
+    open(b"limit 1", 1, 2, 0, 2, 1);
+    open(b"limit 4096", 4096, 2, 0, 2, 1);
+    open(b"limit 4097", 4097, 2, 0, 2, 1);
 }
 
-fn ceilings() {
-    open(b"shares at the ceiling", 10, &[4u32; 2], &[4u32; 2]);
-    open(b"a share above its ceiling", 10, &[4u32, 5u32], &[4u32; 2]);
-    open(b"ceilings at the limit", 10, &[4u32; 2], &[10u32; 2]);
-    open(b"a ceiling above it", 10, &[4u32; 2], &[10u32, 11u32]);
-}
-
-fn sums() {
-    open(b"shares of the limit", 10, &[5u32; 2], &[10u32; 2]);
-    open(b"shares of one more", 10, &[6u32, 5u32], &[10u32; 2]);
+fn pairs() {
+    open_two(b"shares at the ceiling", 4, 4, 4, 4);
+    open_two(b"a share above its ceiling", 4, 5, 4, 4);
+    open_two(b"ceilings at the limit", 4, 4, 10, 10);
+    open_two(b"a ceiling above it", 4, 4, 10, 11);
+    open_two(b"shares of the limit", 5, 5, 10, 10);
+    open_two(b"shares of one more", 6, 5, 10, 10);
 }
 
 // Two controllers with shares of 4 and 3 on a feeder of 12 modules.
@@ -82,8 +106,7 @@ fn hand_backs() {
 pub fn run() {
     lists();
     limits();
-    ceilings();
-    sums();
+    pairs();
     claims();
     hand_backs();
 }

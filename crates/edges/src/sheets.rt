@@ -84,24 +84,21 @@ fn read_labels_and_trailer() {
     read_range(b"modules", TRAILER + 6, true, 1, 64);
 }
 
+// Reads that sheet with another label byte, label length and number of minutes.
+fn read_three(name: &[u8], label_byte: u8, label_len: u8, minutes: u8) {
+    let mut s = small();
+    s[LABEL] = label_byte;
+    s[RECORD] = label_len;
+    s[RECORD + 2] = minutes;
+    print_case(name, sheet::read(&s).refusal);
+}
+
 // Check 5 before 6 before 7: minutes, label length and label byte are wrong at once, then one after another is put right.
 fn read_first() {
-    let mut s = changed(LABEL, false, 32);
-    s[RECORD] = 12;
-    s[RECORD + 2] = 0;
-    print_case(
-        b"minutes, label length and label byte wrong",
-        sheet::read(&s).refusal,
-    );
-    s[RECORD + 2] = 10;
-    print_case(
-        b"label length and label byte wrong",
-        sheet::read(&s).refusal,
-    );
-    s[RECORD] = 1;
-    print_case(b"label byte wrong", sheet::read(&s).refusal);
-    s[LABEL] = b'A';
-    print_case(b"nothing wrong", sheet::read(&s).refusal);
+    read_three(b"minutes, label length and label byte wrong", 32, 12, 0);
+    read_three(b"label length and label byte wrong", 32, 12, 10);
+    read_three(b"label byte wrong", 32, 1, 10);
+    read_three(b"nothing wrong", b'A', 1, 10);
 }
 
 // The longest sheet, of twenty jobs with labels of twelve bytes, and a byte more.
@@ -150,13 +147,17 @@ fn print_fronts(s: &[u8], number: u32) {
     print(b"\n");
 }
 
-fn read_lengths() {
+fn read_fronts() {
     let long = long();
     print_fronts(&long, 0);
     print_fronts(&long, 1);
     print_fronts(&long, 2);
     print_fronts(&long, 3);
     print_fronts(&long, 4);
+}
+
+fn read_lengths() {
+    let long = long();
     read_front(b"20 jobs, labels of 12 bytes, 448 bytes", &long, 448);
     read_front(b"449 bytes", &long, 449);
     let short = short();
@@ -177,44 +178,68 @@ fn write_one(name: &[u8], x: u16, job: Job, labels: &[u8]) {
     }
 }
 
-fn write_job(name: &[u8], x: u16, job: Job, label_byte: u8) {
-    write_one(name, x, job, &[label_byte; 16]);
-}
-
-fn write_records() {
-    write_job(b"writing, label length", 0, job(0, 10, 0, 30), b'A');
-    write_job(b"writing, label length", 1, job(1, 10, 0, 30), b'A');
-    write_job(b"writing, label length", 12, job(12, 10, 0, 30), b'A');
-    write_job(b"writing, label length", 13, job(13, 10, 0, 30), b'A');
-    write_job(b"writing, minutes", 1440, job(1, 1440, 0, 30), b'A');
-    write_job(b"writing, minutes", 1441, job(1, 1441, 0, 30), b'A');
-    write_job(b"writing, earlier jobs", 1, job(1, 10, 1, 30), b'A');
-    write_job(b"writing, earlier jobs", 2, job(1, 10, 2, 30), b'A');
-    write_job(b"writing, departure", 2880, job(1, 10, 0, 2880), b'A');
-    write_job(b"writing, departure", 2881, job(1, 10, 0, 2881), b'A');
-}
-
-fn write_label_bytes() {
-    write_job(b"writing, label byte", 32, job(1, 10, 0, 30), 32);
-    write_job(b"writing, label byte", 33, job(1, 10, 0, 30), 33);
-    write_job(b"writing, label byte", 126, job(1, 10, 0, 30), 126);
-    write_job(b"writing, label byte", 127, job(1, 10, 0, 30), 127);
-}
-
-// Writes jobs with labels of twelve bytes.
-fn write_long(name: &[u8], jobs: usize, modules: u16, out: &mut [u8]) {
-    print_case(
+fn write_job(name: &[u8], x: u16, label_len: u8, minutes: u16, earlier: u32, departure: u16) {
+    write_one(
         name,
-        sheet::write([job(12, 10, 0, 30); 20], jobs, &[b'B'; 240], modules, out).refusal,
+        x,
+        job(label_len, minutes, earlier, departure),
+        &[b'A'; 16],
     );
 }
 
+fn write_label_byte(name: &[u8], label_byte: u8) {
+    write_one(
+        name,
+        label_byte as u16,
+        job(1, 10, 0, 30),
+        &[label_byte; 16],
+    );
+}
+
+fn write_records() {
+    write_job(b"writing, label length", 0, 0, 10, 0, 30);
+    write_job(b"writing, label length", 1, 1, 10, 0, 30);
+    write_job(b"writing, label length", 12, 12, 10, 0, 30);
+    write_job(b"writing, label length", 13, 13, 10, 0, 30);
+    write_job(b"writing, minutes", 1440, 1, 1440, 0, 30);
+    write_job(b"writing, minutes", 1441, 1, 1441, 0, 30);
+    write_job(b"writing, earlier jobs", 1, 1, 10, 1, 30);
+    write_job(b"writing, earlier jobs", 2, 1, 10, 2, 30);
+    write_job(b"writing, departure", 2880, 1, 10, 0, 2880);
+    write_job(b"writing, departure", 2881, 1, 10, 0, 2881);
+}
+
+fn write_label_bytes() {
+    write_label_byte(b"writing, label byte", 32);
+    write_label_byte(b"writing, label byte", 33);
+    write_label_byte(b"writing, label byte", 126);
+    write_label_byte(b"writing, label byte", 127);
+}
+
+// Writes jobs with labels of twelve bytes into the first bytes.
+fn write_front(name: &[u8], jobs: usize, modules: u16, out: &mut [u8], room: usize) {
+    if room <= out.len() {
+        let written = sheet::write(
+            [job(12, 10, 0, 30); 20],
+            jobs,
+            &[b'B'; 240],
+            modules,
+            &mut out[0..room],
+        );
+        print_case(name, written.refusal);
+    }
+}
+
+fn write_long(name: &[u8], jobs: usize, modules: u16, room: usize) {
+    write_front(name, jobs, modules, &mut [0u8; 448], room);
+}
+
 fn write_sizes() {
-    write_long(b"writing, 20 jobs into 448 bytes", 20, 64, &mut [0u8; 448]);
-    write_long(b"writing, 20 jobs into 447 bytes", 20, 64, &mut [0u8; 447]);
-    write_long(b"writing, 21 jobs", 21, 64, &mut [0u8; 448]);
-    write_long(b"writing, modules 0", 20, 0, &mut [0u8; 448]);
-    write_long(b"writing, modules 65", 20, 65, &mut [0u8; 448]);
+    write_long(b"writing, 20 jobs into 448 bytes", 20, 64, 448);
+    write_long(b"writing, 20 jobs into 447 bytes", 20, 64, 447);
+    write_long(b"writing, 21 jobs", 21, 64, 448);
+    write_long(b"writing, modules 0", 20, 0, 448);
+    write_long(b"writing, modules 65", 20, 65, 448);
 }
 
 fn show_label(name: &[u8], s: &[u8], job: usize) {
@@ -235,6 +260,7 @@ pub fn run() {
     read_records();
     read_labels_and_trailer();
     read_first();
+    read_fronts();
     read_lengths();
     write_records();
     write_label_bytes();

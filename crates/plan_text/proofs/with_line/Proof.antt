@@ -1,14 +1,14 @@
--- `report::with_line` meets its contract.
+-- `plan_text::with_line` meets its contract.
 use mathlib.Core.List.{[], _∷_}
 use mir.Syntax.{w32}
 use mir.ValLaws.{toZ-ofZ}
 use Rattle.card.specs.Card.{latenessOf}
 use Rattle.text.specs.Numbers.{decimal, signed, hexadecimal}
 use Rattle.text.proofs.Fields.{fields-line}
-use Rattle.report.specs.Report.{jobLine}
+use Rattle.plan_text.specs.Printed.{jobLine}
 use borrow.Author.Needs.{needs}
-use Rattle.report.proofs.with_line.Statement.{statement}
-use Rattle.report.proofs.with_line.Tie as tie
+use Rattle.plan_text.proofs.with_line.Statement.{statement}
+use Rattle.plan_text.proofs.with_line.Tie as tie
 
 with-field-requires : tie.Need-with-field-requires
 with-field-requires c κs = search needs

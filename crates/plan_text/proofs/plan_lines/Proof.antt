@@ -1,12 +1,12 @@
--- `report::plan_lines` meets its contract.
+-- `plan_text::plan_lines` meets its contract.
 use mathlib.Core.Path.{refl, ap}
 use native.Mathlib.Omega.{arith}
 use Rattle.sheet.specs.declared.Reading.{Reading}
 use Rattle.text.proofs.Adding.{adding-more}
-use Rattle.report.proofs.Sheets.{few}
+use Rattle.plan_text.proofs.Sheets.{few}
 use borrow.Author.Needs.{needs}
-use Rattle.report.proofs.plan_lines.Statement.{statement}
-use Rattle.report.proofs.plan_lines.Tie as tie
+use Rattle.plan_text.proofs.plan_lines.Statement.{statement}
+use Rattle.plan_text.proofs.plan_lines.Tie as tie
 
 read-requires : tie.Need-read-requires
 read-requires c κs = search needs

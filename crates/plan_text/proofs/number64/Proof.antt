@@ -1,8 +1,8 @@
--- `report::number64` meets its contract.
-use Rattle.report.proofs.Numbers.{eight-bytes}
+-- `plan_text::number64` meets its contract.
+use Rattle.plan_text.proofs.Numbers.{eight-bytes}
 use borrow.Author.Needs.{needs}
-use Rattle.report.proofs.number64.Statement.{statement}
-use Rattle.report.proofs.number64.Tie as tie
+use Rattle.plan_text.proofs.number64.Statement.{statement}
+use Rattle.plan_text.proofs.number64.Tie as tie
 
 read32-requires : tie.Need-read32-requires
 read32-requires c κs = search needs

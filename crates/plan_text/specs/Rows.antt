@@ -5,7 +5,7 @@ use Rattle.counting.specs.Counting.{joined}
 use Rattle.card.specs.Decoding.{numberAt}
 use Rattle.sheet.specs.Read.{reading}
 use Rattle.sheet.specs.Label.{labelOf}
-use Rattle.report.specs.Report.{planLine, jobLine, departureOf}
+use Rattle.plan_text.specs.Printed.{planLine, jobLine, departureOf}
 
 -- the line of job j, whose row is on the card
 abbrev pub rowLine : List ℕ → List ℕ → ℕ → ℕ → List ℕ

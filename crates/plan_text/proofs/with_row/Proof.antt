@@ -1,8 +1,8 @@
--- `report::with_row` meets its contract.
+-- `plan_text::with_row` meets its contract.
 use mathlib.Core.Path.{refl}
 use borrow.Author.Needs.{needs}
-use Rattle.report.proofs.with_row.Statement.{statement}
-use Rattle.report.proofs.with_row.Tie as tie
+use Rattle.plan_text.proofs.with_row.Statement.{statement}
+use Rattle.plan_text.proofs.with_row.Tie as tie
 
 mul-at : tie.Need-mul-at
 mul-at c = search needs

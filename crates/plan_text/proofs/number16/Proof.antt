@@ -1,9 +1,9 @@
--- `report::number16` meets its contract.
+-- `plan_text::number16` meets its contract.
 use mathlib.Core.Path.{_∙_}
-use Rattle.report.proofs.Numbers.{two-bytes}
+use Rattle.plan_text.proofs.Numbers.{two-bytes}
 use borrow.Author.Needs.{needs}
-use Rattle.report.proofs.number16.Statement.{statement}
-use Rattle.report.proofs.number16.Tie as tie
+use Rattle.plan_text.proofs.number16.Statement.{statement}
+use Rattle.plan_text.proofs.number16.Tie as tie
 
 read16-requires : tie.Need-read16-requires
 read16-requires c κs = search needs

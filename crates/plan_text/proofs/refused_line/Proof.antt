@@ -1,12 +1,12 @@
--- `report::refused_line` meets its contract.
+-- `plan_text::refused_line` meets its contract.
 use mathlib.Core.List.{[], _∷_}
 use Rattle.text.specs.Numbers.{decimal}
 use Rattle.text.specs.Texts.{empty}
 use Rattle.text.proofs.Fields.{fields-line}
-use Rattle.report.specs.Report.{refusedWord, refusedLine}
+use Rattle.plan_text.specs.Printed.{refusedWord, refusedLine}
 use borrow.Author.Needs.{needs}
-use Rattle.report.proofs.refused_line.Statement.{statement}
-use Rattle.report.proofs.refused_line.Tie as tie
+use Rattle.plan_text.proofs.refused_line.Statement.{statement}
+use Rattle.plan_text.proofs.refused_line.Tie as tie
 
 empty-requires : tie.Need-empty-requires
 empty-requires c κs = search needs

@@ -1,4 +1,4 @@
--- `report::with_rows` meets its contract.
+-- `plan_text::with_rows` meets its contract.
 use mathlib.Core.Path.{_≡_, refl, ap}
 use Prim.Native.Nat.{_-_, _≤_}
 use native.Mathlib.Omega.{arith}
@@ -8,11 +8,11 @@ use Rattle.counting.proofs.Joins.{joined-more}
 use Rattle.sheet.specs.declared.Reading.{Reading}
 use Rattle.text.specs.Texts.{adding}
 use Rattle.text.proofs.Adding.{adding-more}
-use Rattle.report.specs.Report.{departureOf}
-use Rattle.report.specs.Rows.{rowLine}
-use Rattle.report.proofs.Sheets.{few}
-use Rattle.report.proofs.with_rows.Statement.{statement}
-use Rattle.report.proofs.with_rows.Tie as tie
+use Rattle.plan_text.specs.Printed.{departureOf}
+use Rattle.plan_text.specs.Rows.{rowLine}
+use Rattle.plan_text.proofs.Sheets.{few}
+use Rattle.plan_text.proofs.with_rows.Statement.{statement}
+use Rattle.plan_text.proofs.with_rows.Tie as tie
 
 abbrev Inv-loop : tie.InvT-loop
 Inv-loop sheet card found jobs next₀ j₀ next j =

@@ -1,12 +1,12 @@
--- `report::plan_line` meets its contract.
+-- `plan_text::plan_line` meets its contract.
 use mathlib.Core.List.{[], _∷_}
 use Rattle.text.specs.Numbers.{decimal}
 use Rattle.text.specs.Texts.{empty}
 use Rattle.text.proofs.Fields.{fields-line}
-use Rattle.report.specs.Report.{planWord, planLine}
+use Rattle.plan_text.specs.Printed.{planWord, planLine}
 use borrow.Author.Needs.{needs}
-use Rattle.report.proofs.plan_line.Statement.{statement}
-use Rattle.report.proofs.plan_line.Tie as tie
+use Rattle.plan_text.proofs.plan_line.Statement.{statement}
+use Rattle.plan_text.proofs.plan_line.Tie as tie
 
 empty-requires : tie.Need-empty-requires
 empty-requires c κs = search needs

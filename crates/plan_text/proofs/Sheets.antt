@@ -4,17 +4,15 @@ use mathlib.Core.Bool.{Bool, true, false, cond}
 use mathlib.Core.List.{List, []}
 use Prim.Native.Nat.{ℕ, _≤_}
 use native.Mathlib.Omega.{arith}
-use lib.Dec.{eqb, ltb}
+use lib.Dec.{eqb}
 use lib.ListN.{length, take, drop, length-take}
-use borrow.Author.Tests.{eqb-true, le-ltb}
+use borrow.Author.Tests.{eqb-true}
 use Rattle.sheet_format.specs.Format.{labelLength, countOf, modulesOf, jobOf}
 use Rattle.sheet_format.proofs.Bounds.{legal}
 use Rattle.sheet.specs.Read.{readRefusal, answered, refused, reading}
 use Rattle.sheet.specs.Label.{labelRefusal, labelStart, labelOf}
 use Rattle.sheet.proofs.Answers.{reads}
 use Rattle.sheet.proofs.Labels.{there}
-use Rattle.planner.specs.Planning.{sheetOn, cardSize}
-use Rattle.report.specs.Report.{longestCard}
 
 pub few : (s : List ℕ) → reading s .count ≤ 20
 unfolding reading
@@ -24,10 +22,6 @@ few s = go (eqb (readRefusal s) 0) refl
         → cond b (answered (countOf s) (jobOf s) (modulesOf s)) (refused (readRefusal s)) .count ≤ 20
     go true e = reads s (eqb-true (readRefusal s) 0 e) .trailer .few
     go false e = omega arith
-
--- the card of no sheet is longer than the longest: check 10 does not fail
-pub card-fits : (s : List ℕ) → ltb longestCard (cardSize (sheetOn (reading s))) ≡ false
-card-fits s = le-ltb longestCard (cardSize (sheetOn (reading s))) (omega (arith, few s))
 
 pub label-short : (s : List ℕ) (j : ℕ) → length (labelOf s j) ≤ 12
 unfolding labelOf
