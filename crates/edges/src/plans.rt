@@ -1,5 +1,5 @@
 // The edges of planning.
-use super::cases::print_case;
+use cases::print_case;
 use sheet::Job;
 
 // The lengths of the sheets of one job and of twenty jobs with labels of one byte.

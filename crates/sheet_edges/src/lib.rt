@@ -1,9 +1,9 @@
-// The edges of the job sheet.
+// The edges of job sheets, a line a case.
 ghost use Prim.Native.Nat.{_<_, _≤_};
-use super::cases::print;
-use super::cases::print_case;
-use super::cases::print_figure;
-use super::cases::print_number;
+use cases::print;
+use cases::print_case;
+use cases::print_figure;
+use cases::print_number;
 use sheet::Job;
 
 // The length of the sheet of one job with a label of one byte, and where its parts begin.
