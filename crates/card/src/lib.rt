@@ -1,155 +1,15 @@
-// The plan card: the plan of an order, job by job, and its bytes in the lent card.
+// The plan card: the bytes of the plan of an order in the lent card; lateness.
 ghost use mathlib.Core.Path.{_≡_};
-ghost use mathlib.Core.Bool.{cond, not, _&&_};
 ghost use mathlib.Core.List.{_++_};
-ghost use Prim.Native.Nat.{_+_, _*_, _<_, _≤_};
-ghost use lib.Dec.{ltb};
-ghost use lib.Bits.{bitOr};
-ghost use lib.Count.{ones};
+ghost use Prim.Native.Nat.{_+_, _*_, _≤_};
 ghost use lib.ListN.{length, take, drop};
-ghost use Rattle.counting.specs.Counting.{only, joined};
-ghost use Rattle.bits.specs.Bits.{bit, withBit};
+ghost use Rattle.counting.specs.Counting.{joined};
 ghost use Rattle.schedule.specs.ListPlan.{Order};
 ghost use Rattle.schedule.specs.TieRule.{endOf};
 ghost use Rattle.tables.specs.Tables.{sheetOf, Fit};
-ghost use Rattle.placement.specs.Part.{StartFor};
-ghost use Rattle.placement.specs.Profile.{Profile};
 ghost use Rattle.card.specs.Card.{bytesOf, rowBytes, trailerBytes, cardBytes, cardOf, latenessOf};
-ghost use Rattle.card.specs.Slots.{withSlot, slotRow, busyAt, lowestOutside, Replayed};
-
-// Each job's start, end and module set, at the job's place.
-pub struct Slots {
-    pub start: [u16; 20],
-    pub end: [u16; 20],
-    pub modules: [u64; 20],
-}
-
-// The slots with one for job j.
-fn with_slot(slots: Slots, j: usize, start: u16, end: u16, modules: u64) -> Slots
-    requires { ⌜ j < 20 ⌝ }
-    ensures { λ r. ⌜ r ≡ withSlot slots j start end modules ⌝ }
-{
-    let mut next = slots;
-    next.start[j] = start;
-    next.end[j] = end;
-    next.modules[j] = modules;
-    next
-}
-
-// The set, with the modules of a job that ends after minute t.
-fn with_busy(set: u64, modules: u64, end: u16, t: u16) -> u64
-    ensures { λ r. ⌜ r ≡ bitOr set (only (ltb t end) modules) ⌝ }
-{
-    if t < end {
-        return set | modules;
-    }
-    set
-}
-
-// The modules of the jobs that end after minute t.
-fn busy_at(slots: Slots, jobs: usize, t: u16) -> u64
-    requires { ⌜ jobs ≤ 20 ⌝ }
-    ensures { λ r. ⌜ r ≡ busyAt slots jobs t ⌝ }
-{
-    let mut set: u64 = 0;
-    let mut i: usize = 0;
-    while i < jobs {
-        set = with_busy(set, slots.modules[i], slots.end[i], t);
-        i += 1;
-    }
-    set
-}
-
-// The set with module m, where m is not busy and modules are still wanted.
-fn take_module(set: u64, busy: u64, m: usize, want: u16) -> u64
-    requires { ⌜ m < 64 ⌝ }
-    ensures { λ r. ⌜ r ≡ cond (not (bit busy m) && ltb (ones set) want) (withBit set m) set ⌝ }
-{
-    if bits::test64(busy, m) {
-        return set;
-    }
-    if bits::ones64(set) < (want as u32) {
-        return bits::set64(set, m);
-    }
-    set
-}
-
-// The lowest-numbered modules that are not busy, as many as are wanted.
-fn lowest_free(busy: u64, modules: u16, want: u16) -> u64
-    requires { ⌜ modules ≤ 64 ⌝ }
-    ensures { λ r. ⌜ r ≡ lowestOutside busy modules want ⌝ }
-{
-    let mut set: u64 = 0;
-    let mut m: usize = 0;
-    while m < (modules as usize) {
-        set = take_module(set, busy, m, want);
-        m += 1;
-    }
-    set
-}
-
-// The start of a job that waits for the jobs of the set and wants so many modules, behind the part-plan.
-fn next_start(part: placement::Part, jobs: usize, modules: u16, earlier: u32, want: u16) -> u16
-    requires { ⌜ (Profile (part .until) (part .held) (part .placed) (part .gone) (part .free) modules (part .last))
-        × ((want ≤ modules) × (jobs ≤ 20)) ⌝ }
-    ensures { λ r. ⌜ StartFor (part .ends) (part .until) (part .held) (part .placed) modules (part .last) jobs earlier want r ⌝ }
-{
-    placement::start_of(
-        &part.ends,
-        &part.until,
-        &part.held,
-        part.placed,
-        part.gone,
-        part.free,
-        modules,
-        part.last,
-        jobs,
-        earlier,
-        want,
-    )
-}
-
-// A job's number as an index.
-fn wide(x: u8) -> usize
-    ensures { λ r. ⌜ r ≡ x ⌝ }
-{
-    x as usize
-}
-
-// The slots of the list plan of the order.
-pub fn replay(
-    need: &[u16; 20],
-    minutes: &[u16; 20],
-    earlier: &[u32; 20],
-    jobs: usize,
-    modules: u16,
-    order: &[u8; 20],
-) -> Slots
-    requires { ⌜ (Fit (now need) (now minutes) jobs modules)
-        × (Order (sheetOf (now need) (now minutes) (now earlier) jobs modules) (take jobs (now order))) ⌝ }
-    ensures { λ r. ⌜ Replayed (sheetOf (now (need .entry)) (now (minutes .entry)) (now (earlier .entry)) jobs modules)
-        (take jobs (now (order .entry))) r ⌝ }
-{
-    let mut slots = Slots {
-        start: [0u16; 20],
-        end: [0u16; 20],
-        modules: [0u64; 20],
-    };
-    let mut part = placement::first_part(need, minutes, jobs, modules);
-    let mut k: usize = 0;
-    while k < jobs {
-        let j = wide(order[k]);
-        let want = need[j];
-        let lasts = minutes[j];
-        let start = next_start(part, jobs, modules, earlier[j], want);
-        let busy = busy_at(slots, jobs, start);
-        let set = lowest_free(busy, modules, want);
-        slots = with_slot(slots, j, start, start + lasts, set);
-        part = placement::place(part, j, start, want, lasts, modules);
-        k += 1;
-    }
-    slots
-}
+ghost use Rattle.card.specs.Rows.{slotRow};
+use replay::Slots;
 
 // The number over the whole part, its lowest byte first.
 fn write_number(part: &mut [u8], x: u64)
@@ -247,7 +107,7 @@ pub fn write_plan(
         ≡ cardOf (sheetOf (now (need .entry)) (now (minutes .entry)) (now (earlier .entry)) jobs modules) (take jobs (now (order .entry)))
         ++ drop (13 * jobs + 8) (now (card .entry)) ⌝ }
 {
-    let slots = replay(need, minutes, earlier, jobs, modules, order);
+    let slots = replay::replay(need, minutes, earlier, jobs, modules, order);
     write_card(slots, order, jobs, end, card);
 }
 

@@ -1,23 +1,21 @@
 // The share desk: the power modules that 2 to 8 controllers hold on one feeder.
-// A call takes the desk and hands back the desk as it then is.
+// A call takes the desk and hands back the desk as it then is. The crate `opening` opens one.
 ghost use mathlib.Core.Path.{_≡_};
 ghost use mathlib.Core.Bool.{true, false};
-ghost use Prim.Native.Nat.{ℕ, _≤_, _<_, max, min};
-ghost use lib.ListN.{length, getD};
+ghost use Prim.Native.Nat.{_≤_, _<_, _-_, max, min};
 ghost use Rattle.counting.specs.Counting.{sum, every};
-ghost use Rattle.desk.specs.Desk.{mostModules, mostControllers, reserved, reservedForOthers, padded, noDesk};
-ghost use Rattle.desk.specs.Checks.{inRange, wrongPair, somePairWrong, sharesInAll, ceilingBound, placeOk, placeOkAt, deskOk};
-ghost use Rattle.desk.specs.Checks.{notOfDesk};
-ghost use Rattle.desk.specs.Calls.{openRefusal, opened, claimRefusal, claimed, handBackRefusal, handedBack, looked};
+ghost use Rattle.desk.specs.Desk.{mostModules, mostControllers, holding, ceilingOf, reserved, reservedForOthers, withHolding};
+ghost use Rattle.desk.specs.Checks.{inRange, ceilingBound, placeOk, placeOkAt, deskOk, notOfDesk};
+ghost use Rattle.desk.specs.Calls.{claimRefusal, claimed, handBackRefusal, handedBack, looked};
 
 // The largest limit of a feeder, in modules.
-const MOST_MODULES: u32 = 4096;
+pub const MOST_MODULES: u32 = 4096;
 
 // The fewest controllers of a desk.
-const FEWEST_CONTROLLERS: usize = 2;
+pub const FEWEST_CONTROLLERS: usize = 2;
 
 // The most controllers of a desk.
-const MOST_CONTROLLERS: usize = 8;
+pub const MOST_CONTROLLERS: usize = 8;
 
 // The desk as firmware keeps it: a place for each controller, and 0 past the last.
 #[repr(C)]
@@ -70,122 +68,10 @@ fn smaller(a: u32, b: u32) -> u32
 }
 
 // Whether x is low to high.
-fn in_range(low: usize, high: usize, x: usize) -> bool
+pub fn in_range(low: usize, high: usize, x: usize) -> bool
     ensures { λ r. ⌜ r ≡ inRange low high x ⌝ }
 {
     low <= x && x <= high
-}
-
-// ---- opening
-
-// An assured share exceeds its ceiling, or the ceiling exceeds the limit.
-fn wrong_pair(limit: u32, assured: u32, ceiling: u32) -> bool
-    ensures { λ r. ⌜ r ≡ wrongPair limit assured ceiling ⌝ }
-{
-    ceiling < assured || limit < ceiling
-}
-
-// Whether some share and ceiling of the two lists, which are of one length, are such a pair.
-fn some_pair_wrong(limit: u32, assured: &[u32], ceilings: &[u32]) -> bool
-    requires { ⌜ length (now assured) ≡ length (now ceilings) ⌝ }
-    ensures { λ r. ⌜ r ≡ somePairWrong limit (now (assured .entry)) (now (ceilings .entry)) ⌝ }
-{
-    let mut i = 0;
-    while i < assured.len() {
-        if wrong_pair(limit, assured[i], ceilings[i]) {
-            return true;
-        }
-        i += 1;
-    }
-    false
-}
-
-// The shares, of which each is within the largest limit, added up.
-fn shares_in_all(assured: &[u32]) -> u32
-    requires { ⌜ (length (now assured) ≤ mostControllers) × ((i : ℕ) → i < length (now assured) → getD (now assured) i 0 ≤ mostModules) ⌝ }
-    ensures { λ r. ⌜ r ≡ sharesInAll (now (assured .entry)) ⌝ }
-{
-    let mut total: u32 = 0;
-    let mut i = 0;
-    while i < assured.len() {
-        total += assured[i];
-        i += 1;
-    }
-    total
-}
-
-// The number of the first of checks 11 to 13 that fails, 0 where none does.
-fn open_refusal(limit: u32, assured: &[u32], ceilings: &[u32]) -> u32
-    ensures { λ r. ⌜ r ≡ openRefusal limit (now (assured .entry)) (now (ceilings .entry)) ⌝ }
-{
-    if assured.len() != ceilings.len() {
-        return 11;
-    }
-    if !in_range(FEWEST_CONTROLLERS, MOST_CONTROLLERS, assured.len()) {
-        return 11;
-    }
-    if !in_range(1, MOST_MODULES as usize, limit as usize) {
-        return 12;
-    }
-    if some_pair_wrong(limit, assured, ceilings) {
-        return 12;
-    }
-    if limit < shares_in_all(assured) {
-        return 13;
-    }
-    0
-}
-
-// The list's figures, and 0 in the places past its end.
-fn places(list: &[u32]) -> [u32; MOST_CONTROLLERS]
-    requires { ⌜ length (now list) ≤ mostControllers ⌝ }
-    ensures { λ r. ⌜ r ≡ padded (now (list .entry)) ⌝ }
-{
-    let mut all = [0u32; MOST_CONTROLLERS];
-    let mut i = 0;
-    while i < list.len() {
-        all[i] = list[i];
-        i += 1;
-    }
-    all
-}
-
-// The desk of zeros that a refused opening answers.
-fn no_desk() -> Desk
-    ensures { λ r. ⌜ r ≡ noDesk ⌝ }
-{
-    let none = [0u32; MOST_CONTROLLERS];
-    Desk {
-        count: 0,
-        limit: 0,
-        held: none,
-        assured: none,
-        ceiling: none,
-    }
-}
-
-// Opens a desk with the limit, and for each controller its assured share and its ceiling: checks 11 to 13.
-pub fn open(limit: u32, assured: &[u32], ceilings: &[u32]) -> Opened
-    ensures { λ r. ⌜ r ≡ opened limit (now (assured .entry)) (now (ceilings .entry)) ⌝ }
-{
-    let refusal = open_refusal(limit, assured, ceilings);
-    if refusal != 0 {
-        let desk = no_desk();
-        return Opened { refusal, desk };
-    }
-    let held = [0u32; MOST_CONTROLLERS];
-    let shares = places(assured);
-    let tops = places(ceilings);
-    Opened {
-        refusal: 0,
-        desk: Desk {
-            count: assured.len() as u32,
-            limit,
-            held,
-            assured: shares,
-            ceiling: tops,
-        },
-    }
 }
 
 // ---- the desks that can be
@@ -208,23 +94,60 @@ fn place_ok(held: u32, assured: u32, ceiling: u32, bound: u32) -> bool
 }
 
 impl Desk {
-    // Whether every place is so, those past the last controller too.
+    // What the controller of place i holds.
+    fn holding_at(self, i: u32) -> u32
+        requires { ⌜ i < mostControllers ⌝ }
+        ensures { λ r. ⌜ r ≡ holding self i ⌝ }
+    {
+        self.held[i as usize]
+    }
+
+    // What is left for it below its ceiling, on a desk that can be.
+    fn below_ceiling(self, i: u32) -> u32
+        requires { ⌜ (i < mostControllers) × (holding self i ≤ ceilingOf self i) ⌝ }
+        ensures { λ r. ⌜ r ≡ ceilingOf self i - holding self i ⌝ }
+    {
+        self.ceiling[i as usize] - self.holding_at(i)
+    }
+
+    // What is reserved for it.
+    fn reserved_at(self, i: u32) -> u32
+        requires { ⌜ i < mostControllers ⌝ }
+        ensures { λ r. ⌜ r ≡ reserved self i ⌝ }
+    {
+        larger(self.holding_at(i), self.assured[i as usize])
+    }
+
+    // The desk on which it holds so many modules.
+    fn with_holding(mut self, i: u32, modules: u32) -> Desk
+        requires { ⌜ i < mostControllers ⌝ }
+        ensures { λ r. ⌜ r ≡ withHolding self i modules ⌝ }
+    {
+        self.held[i as usize] = modules;
+        self
+    }
+
+    // Whether place i is right.
+    fn place_ok_at(self, i: u32) -> bool
+        requires { ⌜ i < mostControllers ⌝ }
+        ensures { λ r. ⌜ r ≡ placeOkAt self i ⌝ }
+    {
+        let place = i as usize;
+        place_ok(
+            self.held[place],
+            self.assured[place],
+            self.ceiling[place],
+            ceiling_bound(self.limit, self.count, i),
+        )
+    }
+
+    // Whether every place is, those past the last controller too.
     fn places_ok(self) -> bool
         ensures { λ r. ⌜ r ≡ every mostControllers (placeOkAt self) ⌝ }
     {
-        let limit = self.limit;
-        let count = self.count;
-        let held = self.held;
-        let assured = self.assured;
-        let ceiling = self.ceiling;
         let mut i: usize = 0;
         while i < MOST_CONTROLLERS {
-            if !place_ok(
-                held[i],
-                assured[i],
-                ceiling[i],
-                ceiling_bound(limit, count, i as u32),
-            ) {
+            if !self.place_ok_at(i as u32) {
                 return false;
             }
             i += 1;
@@ -232,18 +155,16 @@ impl Desk {
         true
     }
 
-    // What is held or reserved, of a desk whose places are so: each place is within the limit, so that the sum fits.
+    // What is held or reserved, of a desk whose places are right: each place is within the limit, so that the sum fits.
     fn reserved_in_all(self) -> u32
         requires { ⌜ (self .count ≤ mostControllers) × (self .limit ≤ mostModules) × (every mostControllers (placeOkAt self) ≡ true) ⌝ }
         ensures { λ r. ⌜ r ≡ sum (self .count) (reserved self) ⌝ }
     {
-        let count = self.count as usize;
-        let held = self.held;
-        let assured = self.assured;
+        let count = self.count;
         let mut total: u32 = 0;
-        let mut i: usize = 0;
+        let mut i: u32 = 0;
         while i < count {
-            total += larger(held[i], assured[i]);
+            total += self.reserved_at(i);
             i += 1;
         }
         total
@@ -277,8 +198,7 @@ impl Desk {
         requires { ⌜ notOfDesk self controller ≡ false ⌝ }
         ensures { λ r. ⌜ r ≡ reservedForOthers self controller ⌝ }
     {
-        let c = controller as usize;
-        self.reserved_in_all() - larger(self.held[c], self.assured[c])
+        self.reserved_in_all() - self.reserved_at(controller)
     }
 
     // ---- claims, hand-backs and looks
@@ -293,12 +213,11 @@ impl Desk {
         if modules == 0 {
             return 15;
         }
-        let c = controller as usize;
-        let held = self.held[c];
-        if self.ceiling[c] - held < modules {
+        if self.below_ceiling(controller) < modules {
             return 16;
         }
-        if self.limit < held + modules + self.reserved_for_others(controller) {
+        let limit = self.limit;
+        if limit < self.holding_at(controller) + modules + self.reserved_for_others(controller) {
             return 17;
         }
         0
@@ -314,8 +233,7 @@ impl Desk {
         if modules == 0 {
             return 15;
         }
-        let c = controller as usize;
-        if self.held[c] < modules {
+        if self.holding_at(controller) < modules {
             return 18;
         }
         0
@@ -332,8 +250,8 @@ impl Desk {
                 desk: self,
             };
         }
-        let c = controller as usize;
-        self.held[c] = self.held[c] + modules;
+        let held = self.holding_at(controller) + modules;
+        self = self.with_holding(controller, held);
         Booked {
             refusal: 0,
             desk: self,
@@ -351,8 +269,8 @@ impl Desk {
                 desk: self,
             };
         }
-        let c = controller as usize;
-        self.held[c] = self.held[c] - modules;
+        let held = self.holding_at(controller) - modules;
+        self = self.with_holding(controller, held);
         Booked {
             refusal: 0,
             desk: self,
@@ -370,9 +288,8 @@ impl Desk {
                 modules: 0,
             };
         }
-        let c = controller as usize;
-        let held = self.held[c];
-        let below_ceiling = self.ceiling[c] - held;
+        let below_ceiling = self.below_ceiling(controller);
+        let held = self.holding_at(controller);
         let beside_others = self.limit - (held + self.reserved_for_others(controller));
         Looked {
             refusal: 0,

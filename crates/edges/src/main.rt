@@ -1,11 +1,8 @@
 // Runs the edges of job sheets, of planning and of the desk, and prints a line a case: what was tried, and the number that the call gave.
-mod cases;
-mod desks;
 mod plans;
-mod sheets;
 
 fn main() {
-    sheets::run();
+    sheet_edges::run();
     plans::run();
-    desks::run();
+    desk_edges::run();
 }

@@ -1,5 +1,5 @@
 // The edges of planning.
-use super::cases::print_case;
+use cases::print_case;
 use sheet::Job;
 
 // The lengths of the sheets of one job and of twenty jobs with labels of one byte.
@@ -70,52 +70,55 @@ fn plan_whole(name: &[u8], s: &[u8], card: &mut [u8], work: &mut [u8]) {
     print_case(b"  end", end(card));
 }
 
+// Plans one job.
+fn plan_one(name: &[u8], modules: u8, earlier: u32, card: &mut [u8]) {
+    plan(name, &one(modules, earlier), card, &mut [WORK_BYTE; 64]);
+}
+
 fn one_job() {
-    let fits = one(64, 0);
     plan_whole(
         b"a job of 64 modules out of 64",
-        &fits,
+        &one(64, 0),
         &mut [CARD_BYTE; ONE_CARD],
         &mut [WORK_BYTE; 64],
     );
-    plan(
+    plan_one(
         b"a card of one byte less",
-        &fits,
+        64,
+        0,
         &mut [CARD_BYTE; ONE_CARD - 1],
-        &mut [WORK_BYTE; 64],
     );
-    plan(
+    plan_one(
         b"a job of 65 modules out of 64",
-        &one(65, 0),
+        65,
+        0,
         &mut [CARD_BYTE; ONE_CARD],
-        &mut [WORK_BYTE; 64],
     );
-    plan(
-        b"a job before itself",
-        &one(64, 1),
-        &mut [CARD_BYTE; ONE_CARD],
-        &mut [WORK_BYTE; 64],
+    plan_one(b"a job before itself", 64, 1, &mut [CARD_BYTE; ONE_CARD]);
+}
+
+// Plans twenty jobs.
+fn plan_twenty(name: &[u8], modules: u8, minutes: u16, work: &mut [u8]) {
+    plan_whole(
+        name,
+        &twenty(modules, minutes),
+        &mut [CARD_BYTE; TWENTY_CARD],
+        work,
     );
 }
 
 fn twenty_jobs() {
-    plan_whole(
-        b"20 jobs at once",
-        &twenty(3, 10),
-        &mut [CARD_BYTE; TWENTY_CARD],
-        &mut [WORK_BYTE; 4096],
-    );
-    let long = twenty(64, 1440);
-    plan_whole(
+    plan_twenty(b"20 jobs at once", 3, 10, &mut [WORK_BYTE; 4096]);
+    plan_twenty(
         b"20 jobs of 1440 minutes one after another",
-        &long,
-        &mut [CARD_BYTE; TWENTY_CARD],
+        64,
+        1440,
         &mut [WORK_BYTE; 4096],
     );
-    plan_whole(
+    plan_twenty(
         b"the same without working memory",
-        &long,
-        &mut [CARD_BYTE; TWENTY_CARD],
+        64,
+        1440,
         &mut [WORK_BYTE; 0],
     );
 }

@@ -1,6 +1,5 @@
 // What firmware links: planning, job sheets, and the desk where firmware keeps it. Each is a call of a proved function; include/depot.h
 // declares them for C. The desk's calls copy the lent desk, make the call by value, and put the desk that it hands back in its place.
-use desk::Booked;
 use desk::Desk;
 use sheet::LabelPlace;
 use sheet::Reading;
@@ -14,7 +13,7 @@ ghost use Rattle.sheet.specs.Read.{reading};
 ghost use Rattle.sheet.specs.Label.{labelPlace};
 ghost use Rattle.sheet.specs.Write.{writeAnswer, writeLeaves};
 ghost use Rattle.desk.specs.Calls.{claimed, handedBack, looked};
-ghost use Rattle.firmware.specs.Lent.{openedOver, shownOver};
+ghost use Rattle.lent.specs.Lent.{openedOver, shownOver};
 
 // ---- planning
 
@@ -44,7 +43,7 @@ pub extern "C" fn depot_read(sheet: &[u8]) -> Reading
 pub extern "C" fn depot_label(sheet: &[u8], job: usize) -> LabelPlace
     ensures { λ r. ⌜ r ≡ labelPlace (now (sheet .entry)) job ⌝ }
 {
-    sheet::label_place(sheet, job)
+    labels::label_place(sheet, job)
 }
 
 // Writing: the sheet of the lent jobs goes to the front of the lent buffer, and its length is the answer, or the first refusal of 2, 3,
@@ -66,49 +65,6 @@ pub extern "C" fn depot_write(
 
 // ---- the desk
 
-// Opening by value where a desk is kept: refused, the kept desk is handed back.
-fn opened_over(kept: Desk, limit: u32, assured: &[u32], ceilings: &[u32]) -> Booked
-    ensures { λ r. ⌜ r ≡ openedOver kept limit (now (assured .entry)) (now (ceilings .entry)) ⌝ }
-{
-    let answer = desk::open(limit, assured, ceilings);
-    let refusal = answer.refusal;
-    if refusal != 0 {
-        return Booked {
-            refusal,
-            desk: kept,
-        };
-    }
-    let new = answer.desk;
-    Booked {
-        refusal: 0,
-        desk: new,
-    }
-}
-
-// A claim by value on the kept desk.
-fn claim_on(kept: Desk, controller: u32, modules: u32) -> Booked
-    ensures { λ r. ⌜ r ≡ claimed kept controller modules ⌝ }
-{
-    kept.claim(controller, modules)
-}
-
-// A hand-back by value on the kept desk.
-fn hand_back_on(kept: Desk, controller: u32, modules: u32) -> Booked
-    ensures { λ r. ⌜ r ≡ handedBack kept controller modules ⌝ }
-{
-    kept.hand_back(controller, modules)
-}
-
-// Shows a figure where the number is 0, and gives the number.
-fn show(refusal: u32, figure: u32, modules: &mut u32) -> u32
-    ensures { λ r. ⌜ (r ≡ refusal) × (now (modules .exit) ≡ shownOver (now (modules .entry)) refusal figure) ⌝ }
-{
-    if refusal == 0 {
-        *modules = figure;
-    }
-    refusal
-}
-
 // Opens the lent desk. Refused, it is as before.
 #[no_mangle]
 pub extern "C" fn depot_desk_open(
@@ -120,7 +76,7 @@ pub extern "C" fn depot_desk_open(
     ensures { λ r. ⌜ (r ≡ openedOver (now (desk .entry)) limit (now (assured .entry)) (now (ceilings .entry)) .refusal)
         × (now (desk .exit) ≡ openedOver (now (desk .entry)) limit (now (assured .entry)) (now (ceilings .entry)) .desk) ⌝ }
 {
-    let answer = opened_over(*desk, limit, assured, ceilings);
+    let answer = lent::opened_over(*desk, limit, assured, ceilings);
     *desk = answer.desk;
     answer.refusal
 }
@@ -131,7 +87,7 @@ pub extern "C" fn depot_desk_claim(desk: &mut Desk, controller: u32, modules: u3
     ensures { λ r. ⌜ (r ≡ claimed (now (desk .entry)) controller modules .refusal)
         × (now (desk .exit) ≡ claimed (now (desk .entry)) controller modules .desk) ⌝ }
 {
-    let answer = claim_on(*desk, controller, modules);
+    let answer = (*desk).claim(controller, modules);
     *desk = answer.desk;
     answer.refusal
 }
@@ -142,7 +98,7 @@ pub extern "C" fn depot_desk_hand_back(desk: &mut Desk, controller: u32, modules
     ensures { λ r. ⌜ (r ≡ handedBack (now (desk .entry)) controller modules .refusal)
         × (now (desk .exit) ≡ handedBack (now (desk .entry)) controller modules .desk) ⌝ }
 {
-    let answer = hand_back_on(*desk, controller, modules);
+    let answer = (*desk).hand_back(controller, modules);
     *desk = answer.desk;
     answer.refusal
 }
@@ -154,5 +110,5 @@ pub extern "C" fn depot_desk_look(desk: &Desk, controller: u32, modules: &mut u3
         × (now (modules .exit) ≡ shownOver (now (modules .entry)) r (looked (now (desk .entry)) controller .modules)) ⌝ }
 {
     let answer = (*desk).look(controller);
-    show(answer.refusal, answer.modules, modules)
+    lent::show(answer.refusal, answer.modules, modules)
 }

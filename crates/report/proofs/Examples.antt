@@ -16,7 +16,8 @@ use Rattle.sheet.proofs.Examples.{e1, labels}
 use Rattle.planner.specs.Planning.{noOrder, planRefusal}
 use Rattle.text.specs.Numbers.{digit, place, decimal, signed, hexadecimal}
 use Rattle.text.specs.Lines.{line}
-use Rattle.report.specs.Report.{planLine, jobLine, refusedLine, bestLines, reportOf}
+use Rattle.plan_text.specs.Printed.{planLine, jobLine, refusedLine}
+use Rattle.report.specs.Report.{bestLines, reportOf}
 
 -- fifteen zeros and a digit
 abbrev modules : ℕ → List ℕ

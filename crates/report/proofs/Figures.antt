@@ -22,8 +22,8 @@ use Rattle.sheet.proofs.Answers.{read-answer, reads}
 use Rattle.planner.specs.Planning.{sheetOn, planChecks, planRefusal}
 use Rattle.planner.proofs.Tables.{job-read}
 use Rattle.planner.proofs.Planning.{passes, found, ends-short}
-use Rattle.report.specs.Report.{departureOf, longestCard}
-use Rattle.report.proofs.Sheets.{few}
+use Rattle.plan_text.specs.Printed.{departureOf, longestCard}
+use Rattle.plan_text.proofs.Sheets.{few}
 
 -- ---- a refusal's number
 

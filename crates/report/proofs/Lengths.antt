@@ -1,13 +1,14 @@
--- A report is never longer than the room of a text: the first line has at most 4 + 3 * 6 + 1 = 23 bytes, each of at most 20 job lines
--- 12 + 6 + 6 + 7 + 17 + 1 = 49, together 1003.
+-- No card is longer than the longest, and no report is longer than the room of a text: the first line has at most 4 + 3 * 6 + 1 = 23 bytes,
+-- each of at most 20 job lines 12 + 6 + 6 + 7 + 17 + 1 = 49, together 1003.
 use mathlib.Core.Path.{_≡_, refl}
 use mathlib.Core.Bool.{Bool, true, false, cond}
 use mathlib.Core.List.{List}
 use mathlib.Core.Option.{Option, none, some}
 use Prim.Native.Nat.{ℕ, zero, suc, _+_, _*_, _≤_}
 use native.Mathlib.Omega.{arith}
-use lib.Dec.{eqb}
+use lib.Dec.{eqb, ltb}
 use lib.ListN.{length, length-append}
+use borrow.Author.Tests.{le-ltb}
 use Rattle.counting.specs.Counting.{joined}
 use Rattle.schedule.specs.Plan.{Sheet, Plan, planEnd}
 use Rattle.schedule.specs.ListPlan.{listPlan}
@@ -15,12 +16,17 @@ use Rattle.schedule.specs.TieRule.{bestOrder}
 use Rattle.card.specs.Card.{latenessOf}
 use Rattle.sheet.specs.Read.{reading}
 use Rattle.sheet.specs.Label.{labelOf}
-use Rattle.planner.specs.Planning.{sheetOn, planRefusal}
+use Rattle.planner.specs.Planning.{sheetOn, cardSize, planRefusal}
 use Rattle.text.specs.Lines.{line}
 use Rattle.text.specs.Texts.{room}
 use Rattle.text.proofs.Lengths.{decimal-short, signed-short, hexadecimal-length}
-use Rattle.report.specs.Report.{planLine, jobLine, refusedLine, lineOfJob, planLines, bestLines, longestCard, reportOf}
-use Rattle.report.proofs.Sheets.{few, label-short}
+use Rattle.plan_text.specs.Printed.{planLine, jobLine, refusedLine, longestCard}
+use Rattle.report.specs.Report.{lineOfJob, planLines, bestLines, reportOf}
+use Rattle.plan_text.proofs.Sheets.{few, label-short}
+
+-- the card of no sheet is longer than the longest: check 10 does not fail
+pub card-fits : (s : List ℕ) → ltb longestCard (cardSize (sheetOn (reading s))) ≡ false
+card-fits s = le-ltb longestCard (cardSize (sheetOn (reading s))) (omega (arith, few s))
 
 refused-short : (k : ℕ) → length (refusedLine k) ≤ room
 unfolding refusedLine line

@@ -13,8 +13,9 @@ use Rattle.planner.specs.Planning.{sheetOn, planRefusal, cardAfter}
 use Rattle.planner.proofs.Planning.{found, decodes}
 use Rattle.text.specs.Texts.{textOf, empty, adding}
 use Rattle.text.proofs.Adding.{text-of}
-use Rattle.report.specs.Report.{planLine, refusedLine, departureOf, lineOfJob, planLines, bestLines, longestCard, reportOf}
-use Rattle.report.specs.Rows.{rowLine, cardLines}
+use Rattle.plan_text.specs.Printed.{planLine, refusedLine, departureOf, longestCard}
+use Rattle.report.specs.Report.{lineOfJob, planLines, bestLines, reportOf}
+use Rattle.plan_text.specs.Rows.{rowLine, cardLines}
 use Rattle.report.proofs.Lengths.{report-fits}
 
 -- refused

@@ -1,3 +1,2 @@
 -- What is printed of a sheet.
 pub mod Report
-pub mod Rows

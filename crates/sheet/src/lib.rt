@@ -1,4 +1,4 @@
-// Job sheets: reading, the label of a job, writing.
+// Job sheets: reading and writing. The label of a job is the crate `labels`.
 ghost use mathlib.Core.Path.{_≡_};
 ghost use Prim.Native.Nat.{_+_, _*_, _≤_};
 ghost use lib.ListN.{length};
@@ -6,7 +6,6 @@ ghost use Rattle.sheet_format.specs.Figures.{mostJobs, recordSize, trailerSize,
 ghost use Rattle.sheet_format.specs.Format.{jobsIn, sheetBytes};
 ghost use Rattle.sheet.specs.Read.{refused, reading};
 ghost use Rattle.sheet.specs.Write.{over, writeRefusal, writeAnswer, writeLeaves};
-ghost use Rattle.sheet.specs.Label.{labelRefusal, labelOf, labelAt, labelPlace};
 pub use sheet_format::Job;
 use sheet_format::figures::MOST_JOBS;
 use sheet_format::figures::MOST_MODULES;
@@ -75,52 +74,6 @@ pub fn read(sheet: &[u8]) -> Reading
         count,
         modules: sheet_format::trailer::modules(sheet),
     }
-}
-
-// The number of a label call: the first refusal of 1 to 7, then 14, or 0 where there is a label.
-pub fn label_refusal(sheet: &[u8], job: usize) -> u32
-    ensures { λ r. ⌜ r ≡ labelRefusal (now (sheet .entry)) job ⌝ }
-{
-    let found = read(sheet);
-    let refusal = found.refusal;
-    if refusal != 0 {
-        return refusal;
-    }
-    if found.count <= job {
-        return 14;
-    }
-    0
-}
-
-// Where the label of a job lies in the sheet: between two summed label lengths.
-pub fn label_place(sheet: &[u8], job: usize) -> LabelPlace
-    ensures { λ r. ⌜ r ≡ labelPlace (now (sheet .entry)) job ⌝ }
-{
-    let refusal = label_refusal(sheet, job);
-    if refusal != 0 {
-        return LabelPlace {
-            refusal,
-            offset: 0,
-            length: 0,
-        };
-    }
-    let offset = sheet_format::trailer::offset(sheet) as usize;
-    LabelPlace {
-        refusal: 0,
-        offset: sheet_format::records::label_start(sheet, offset, job),
-        length: sheet[offset + RECORD_SIZE * job] as usize,
-    }
-}
-
-// The label of a job: that very part of the sheet, or an empty part where the call is refused.
-pub fn label(sheet: &[u8], job: usize) -> &[u8]
-    ensures { λ r. ⌜ (now r ≡ labelOf (now (sheet .entry)) job)
-        × (r .ptr ≡ (sheet .entry .ptr .0, labelAt (now (sheet .entry)) job + sheet .entry .ptr .1)) ⌝ }
-{
-    let place = label_place(sheet, job);
-    let from = place.offset;
-    let to = from + place.length;
-    &sheet[from..to]
 }
 
 // The first refusal of 2, 3, 5, 6, 7 and 10, for a lent buffer of `room` bytes, or 0.

@@ -6,7 +6,7 @@ use native.Mathlib.Omega.{arith}
 use lib.ListN.{take, drop, length-take}
 use Rattle.tables.specs.Tables.{sheetOf}
 use Rattle.card.specs.Card.{cardBytes}
-use Rattle.card.specs.Slots.{slotRow}
+use Rattle.card.specs.Rows.{slotRow}
 use Rattle.card.proofs.Replays.{card-is}
 use borrow.Author.Needs.{needs}
 use Rattle.card.proofs.write_plan.Statement.{statement}

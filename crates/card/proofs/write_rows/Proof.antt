@@ -7,7 +7,7 @@ use lib.ListN.{length, drop}
 use borrow.Rule.Slice.PartMut.{putMid, same-len-mid}
 use Rattle.counting.specs.Counting.{joined}
 use Rattle.counting.proofs.Joins.{joined-length, joined-more}
-use Rattle.card.specs.Slots.{slotRow}
+use Rattle.card.specs.Rows.{slotRow}
 use Rattle.card.proofs.Parts.{part-more, whole}
 use Rattle.card.proofs.Joins.{row-length}
 use borrow.Author.Needs.{needs}

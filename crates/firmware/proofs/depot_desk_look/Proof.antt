@@ -51,11 +51,11 @@ use Rattle.desk.proofs.Desk.look as by-value
 use Rattle.desk.proofs.Desk.look.Symbol as by-value-symbol
 use Rattle.desk.proofs.Desk.look.Symbol.{name as #desk·Desk·look}
 use Rattle.desk.proofs.Desk.look.Met as by-value-met
-use Rattle.firmware.specs.Lent.{shownOver}
-use Rattle.firmware.proofs.show as show
-use Rattle.firmware.proofs.show.Symbol as show-symbol
-use Rattle.firmware.proofs.show.Symbol.{name as #firmware·show}
-use Rattle.firmware.proofs.show.Met as show-met
+use Rattle.lent.specs.Lent.{shownOver}
+use Rattle.lent.proofs.show as show
+use Rattle.lent.proofs.show.Symbol as show-symbol
+use Rattle.lent.proofs.show.Symbol.{name as #lent·show}
+use Rattle.lent.proofs.show.Met as show-met
 use Rattle.firmware.proofs.depot_desk_look as thin
 use Rattle.firmware.proofs.depot_desk_look.Key.{name as #firmware·depot-desk-look}
 use Rattle.firmware.proofs.depot_desk_look.Statement.{statement}
@@ -166,7 +166,7 @@ module _ {M : Type 1} (𝓤 : URA M) (H : Heap 𝓤) (A : Atoms 𝓤) (W : Given
 
   module _ (C : Calls 𝓤 H) (Λ : Loops 𝓤 H) (fm : FmC 𝓤 H (W .laws) C)
       (known : Triple 𝓤 (C #desk·Desk·look) (ByValue 𝓤 H A memory run))
-      (known-show : Triple 𝓤 (C #firmware·show) (Show 𝓤 H A memory run)) where
+      (known-show : Triple 𝓤 (C #lent·show) (Show 𝓤 H A memory run)) where
     walk : ent 𝓤 (onEntry 𝓤 H A thin.signature (κ₀, (κ₁, tt)) (q₀, (q₁, tt)) args values)
         (WpFn 𝓤 H C Λ code.function (vptr b o ∷ vint w32 c ∷ vptr b′ o′ ∷ []) Post)
     walk =
@@ -235,7 +235,7 @@ module _ {M : Type 1} (𝓤 : URA M) (H : Heap 𝓤) (A : Atoms 𝓤) (W : Given
 
 module _ {M : Type 1} (𝓤 : URA M) (H : Heap 𝓤) (A : Atoms 𝓤) (W : Given 𝓤 H A) (memory : Memory → SProp 𝓤) (run : Routine → Fun 𝓤) where
   walks : (C : Calls 𝓤 H) (Λ : Loops 𝓤 H) → FmC 𝓤 H (W .laws) C
-      → Triple 𝓤 (C #desk·Desk·look) (ByValue 𝓤 H A memory run) → Triple 𝓤 (C #firmware·show) (Show 𝓤 H A memory run)
+      → Triple 𝓤 (C #desk·Desk·look) (ByValue 𝓤 H A memory run) → Triple 𝓤 (C #lent·show) (Show 𝓤 H A memory run)
       → Walks 𝓤 H A thin.ended stayed (WpFn 𝓤 H C Λ code.function) (thin.clauses 𝓤 H A memory run)
   walks C Λ fm known known-show =
       walked 𝓤 H A thin.ended stayed (thin.clauses 𝓤 H A memory run) (WpFn 𝓤 H C Λ code.function)
@@ -255,7 +255,7 @@ module _ {M : Type 1} (𝓤 : URA M) (H : Heap 𝓤) (A : Atoms 𝓤) (W : Given
   )
 
   meets : (𝓣 : Tables 𝓤 H) → Triple 𝓤 (𝓣 .C #desk·Desk·look) (ByValue 𝓤 H A memory run)
-      → Triple 𝓤 (𝓣 .C #firmware·show) (Show 𝓤 H A memory run)
+      → Triple 𝓤 (𝓣 .C #lent·show) (Show 𝓤 H A memory run)
       → Meets 𝓤 H A thin.signature (WpFn 𝓤 H (𝓣 .C) (𝓣 .Λ) code.function) (thin.spec 𝓤 H A memory run)
   meets 𝓣 known known-show =
       walk-meets 𝓤 H A thin.ended stayed W goes (thin.clauses 𝓤 H A memory run) (WpFn 𝓤 H (𝓣 .C) (𝓣 .Λ) code.function)
@@ -269,5 +269,5 @@ depot-desk-look-spec 𝓤 H 𝓜 𝓖 𝓡 =
     (meets 𝓤 H (𝓖 .A) (givenOf 𝓤 H 𝓜 𝓖) (𝓜 .mem) (𝓡 .run) (tablesOf 𝓤 H 𝓜 (tables 𝓤 H 𝓜 𝓡 code.env))
     (cited 𝓤 H (ByValue 𝓤 H (𝓖 .A) (𝓜 .mem) (𝓡 .run)) 𝓜 𝓡 code.env #desk·Desk·look by-value-symbol.routine
     code.calls-desk·Desk·look (by-value-met.met 𝓤 H 𝓜 𝓖 𝓡))
-    (cited 𝓤 H (Show 𝓤 H (𝓖 .A) (𝓜 .mem) (𝓡 .run)) 𝓜 𝓡 code.env #firmware·show show-symbol.routine
-    code.calls-firmware·show (show-met.met 𝓤 H 𝓜 𝓖 𝓡)))
+    (cited 𝓤 H (Show 𝓤 H (𝓖 .A) (𝓜 .mem) (𝓡 .run)) 𝓜 𝓡 code.env #lent·show show-symbol.routine
+    code.calls-lent·show (show-met.met 𝓤 H 𝓜 𝓖 𝓡)))

@@ -10,10 +10,10 @@ use Rattle.desk.proofs.Desk.claim.Statement.{statement}
 use Rattle.desk.proofs.Desk.claim.Tie as tie
 
 -- no check fails
-granted : (c : tie.Else1) → let a = c .before .before .args in claimRefusal (a .t1) (a .controller) (a .modules) ≡ 0
+granted : (c : tie.Else1) → let a = c .before .before .args in claimRefusal (a .self) (a .controller) (a .modules) ≡ 0
 granted c = sym (c .before .claim-refusal .ensures) ∙ c .if1 .left
 
-at : (c : tie.Else1) → let a = c .before .before .args in Here (a .t1) (a .controller) × Fits (a .t1) (a .controller) (a .modules)
+at : (c : tie.Else1) → let a = c .before .before .args in Here (a .self) (a .controller) × Fits (a .self) (a .controller) (a .modules)
 at c = claim-says _ _ _ (granted c)
 
 claim-refusal-requires : tie.Need-claim-refusal-requires
@@ -23,24 +23,23 @@ returns : tie.Need-returns
 unfolding claimed
 returns c = rw (← c .before .claim-refusal .ensures, ne-eqb _ 0 (c .if1 .taken)) refl
 
-mul-self : tie.Need-mul-self
-mul-self c = search needs
+holding-at-requires : tie.Need-holding-at-requires
+holding-at-requires c κs = at c .0 .inside
 
-element-copy-out-self : tie.Need-element-copy-out-self
-element-copy-out-self c = at c .0 .inside
+add-held : tie.Need-add-held
+add-held c =
+    let h = at (c .before) .0 in
+    let g = c .holding-at .ensures in
+    omega (arith, at (c .before) .1 .under)
 
-add-self : tie.Need-add-self
-add-self c = let h = at (c .before) .0 in omega (arith, at (c .before) .1 .under)
-
-mul-self-2 : tie.Need-mul-self-2
-mul-self-2 c = search needs
-
-element-write-self : tie.Need-element-write-self
-element-write-self c = at (c .before) .0 .inside
+with-holding-requires : tie.Need-with-holding-requires
+with-holding-requires c κs = at (c .before) .0 .inside
 
 returns-2 : tie.Need-returns-2
 unfolding claimed
-returns-2 c = rw (granted (c .before)) refl
+returns-2 c =
+    let one = c .before .before in
+    rw (granted one, c .with-holding .ensures, c .before .holding-at .ensures) refl
 
 pub claim-spec : {M : Type 1} → statement M
 claim-spec =
@@ -48,9 +47,7 @@ claim-spec =
     (tie.spec
     claim-refusal-requires
     returns
-    mul-self
-    element-copy-out-self
-    add-self
-    mul-self-2
-    element-write-self
+    holding-at-requires
+    add-held
+    with-holding-requires
     returns-2)

@@ -14,16 +14,20 @@ use Rattle.desk.proofs.Desk.claim_refusal.Statement.{statement}
 use Rattle.desk.proofs.Desk.claim_refusal.Tie as tie
 
 -- check 14 does not fail, so the figures of the controller's place are known
-passed : (c : tie.Else1) → notOfDesk (c .before .before .args .t1) (c .before .before .args .controller) ≡ false
+passed : (c : tie.Else1) → notOfDesk (c .before .before .args .self) (c .before .before .args .controller) ≡ false
 passed c = sym (c .before .not-of-desk .ensures) ∙ c .if1 .left
 
-at : (c : tie.Else1) → Here (c .before .before .args .t1) (c .before .before .args .controller)
+at : (c : tie.Else1) → Here (c .before .before .args .self) (c .before .before .args .controller)
 at c = of-desk-says _ _ (passed c)
 
 -- the claim is within the ceiling
-under : (c : tie.Else3) → let a = c .before .before .before .before .before .before .args in
-    holding (a .t1) (a .controller) + a .modules ≤ ceilingOf (a .t1) (a .controller)
-under c = let h = at (c .before .before .before .before) in let t = c .if3 .left in omega arith
+under : (c : tie.Else3) → let a = c .before .before .before .before .before .args in
+    holding (a .self) (a .controller) + a .modules ≤ ceilingOf (a .self) (a .controller)
+under c =
+    let h = at (c .before .before .before) in
+    let b = c .before .below-ceiling .ensures in
+    let t = c .if3 .left in
+    omega arith
 
 not-of-desk-requires : tie.Need-not-of-desk-requires
 not-of-desk-requires c κs = search needs
@@ -36,33 +40,28 @@ returns-2 : tie.Need-returns-2
 unfolding claimRefusal firstFailing
 returns-2 c = rw (passed (c .before), eq-eqb _ _ (c .if2 .taken)) refl
 
-mul-held : tie.Need-mul-held
-mul-held c = search needs
-
-element-copy-out-held : tie.Need-element-copy-out-held
-element-copy-out-held c = at (c .before) .inside
-
-mul-if3 : tie.Need-mul-if3
-mul-if3 c = search needs
-
-element-copy-out-if3 : tie.Need-element-copy-out-if3
-element-copy-out-if3 c = at (c .before .before) .inside
-
-sub-if3 : tie.Need-sub-if3
-sub-if3 c = at (c .before .before .before) .hold
+below-ceiling-requires : tie.Need-below-ceiling-requires
+below-ceiling-requires c κs = (at (c .before) .inside, at (c .before) .hold)
 
 returns-3 : tie.Need-returns-3
 unfolding claimRefusal firstFailing
 returns-3 c =
-    let two = c .before .before .before in
+    let two = c .before .before in
     let a = two .before .before .before .args in
     let h = at (two .before) in
+    let b = c .before .below-ceiling .ensures in
     let t = c .if3 .taken in
-    let over : ceilingOf (a .t1) (a .controller) < holding (a .t1) (a .controller) + a .modules = omega arith in
+    let over : ceilingOf (a .self) (a .controller) < holding (a .self) (a .controller) + a .modules = omega arith in
     rw (passed (two .before), ne-eqb _ _ (two .if2 .left), lt-ltb _ _ over) refl
 
+holding-at-requires : tie.Need-holding-at-requires
+holding-at-requires c κs = at (c .before .before .before) .inside
+
 add-if4 : tie.Need-add-if4
-add-if4 c = let h = at (c .before .before .before .before) in omega (arith, under c)
+add-if4 c =
+    let h = at (c .before .before .before .before) in
+    let g = c .holding-at .ensures in
+    omega (arith, under (c .before))
 
 reserved-for-others-requires : tie.Need-reserved-for-others-requires
 reserved-for-others-requires c κs = passed (c .before .before .before .before)
@@ -70,28 +69,35 @@ reserved-for-others-requires c κs = passed (c .before .before .before .before)
 add-if4-2 : tie.Need-add-if4-2
 add-if4-2 c =
     let h = at (c .before .before .before .before .before) in
+    let g = c .before .holding-at .ensures in
     let r = c .reserved-for-others .ensures in
-    omega (arith, under (c .before))
+    omega (arith, under (c .before .before))
 
 returns-4 : tie.Need-returns-4
 unfolding claimRefusal firstFailing
 returns-4 c =
-    let two = c .before .before .before .before .before in
+    let three = c .before .before .before in
+    let two = three .before .before in
     let a = two .before .before .before .args in
+    let g = c .before .before .holding-at .ensures in
     let r = c .before .reserved-for-others .ensures in
     let t = c .if4 .taken in
-    let full : a .t1 .limit < holding (a .t1) (a .controller) + a .modules + reservedForOthers (a .t1) (a .controller) = omega arith in
-    rw (passed (two .before), ne-eqb _ _ (two .if2 .left), le-ltb _ _ (under (c .before .before)), lt-ltb _ _ full) refl
+    let full : a .self .limit < holding (a .self) (a .controller) + a .modules + reservedForOthers (a .self) (a .controller) =
+    omega arith in
+    rw (passed (two .before), ne-eqb _ _ (two .if2 .left), le-ltb _ _ (under three), lt-ltb _ _ full) refl
 
 returns-5 : tie.Need-returns-5
 unfolding claimRefusal firstFailing
 returns-5 c =
-    let two = c .before .before .before .before .before in
+    let three = c .before .before .before in
+    let two = three .before .before in
     let a = two .before .before .before .args in
+    let g = c .before .before .holding-at .ensures in
     let r = c .before .reserved-for-others .ensures in
     let t = c .if4 .left in
-    let fits : holding (a .t1) (a .controller) + a .modules + reservedForOthers (a .t1) (a .controller) ≤ a .t1 .limit = omega arith in
-    rw (passed (two .before), ne-eqb _ _ (two .if2 .left), le-ltb _ _ (under (c .before .before)), le-ltb _ _ fits) refl
+    let fits : holding (a .self) (a .controller) + a .modules + reservedForOthers (a .self) (a .controller) ≤ a .self .limit =
+    omega arith in
+    rw (passed (two .before), ne-eqb _ _ (two .if2 .left), le-ltb _ _ (under three), le-ltb _ _ fits) refl
 
 pub claim-refusal-spec : {M : Type 1} → statement M
 claim-refusal-spec =
@@ -100,12 +106,9 @@ claim-refusal-spec =
     not-of-desk-requires
     returns
     returns-2
-    mul-held
-    element-copy-out-held
-    mul-if3
-    element-copy-out-if3
-    sub-if3
+    below-ceiling-requires
     returns-3
+    holding-at-requires
     add-if4
     reserved-for-others-requires
     add-if4-2

@@ -11,10 +11,10 @@ use Rattle.desk.proofs.Desk.look.Statement.{statement}
 use Rattle.desk.proofs.Desk.look.Tie as tie
 
 -- check 14 does not fail, so the figures of the controller's place are known
-passed : (c : tie.Else1) → notOfDesk (c .before .before .args .t1) (c .before .before .args .controller) ≡ false
+passed : (c : tie.Else1) → notOfDesk (c .before .before .args .self) (c .before .before .args .controller) ≡ false
 passed c = sym (c .before .not-of-desk .ensures) ∙ c .if1 .left
 
-at : (c : tie.Else1) → Here (c .before .before .args .t1) (c .before .before .args .controller)
+at : (c : tie.Else1) → Here (c .before .before .args .self) (c .before .before .args .controller)
 at c = of-desk-says _ _ (passed c)
 
 not-of-desk-requires : tie.Need-not-of-desk-requires
@@ -24,20 +24,11 @@ returns : tie.Need-returns
 unfolding looked lookRefusal firstFailing
 returns c = rw (← c .before .not-of-desk .ensures, c .if1 .taken) refl
 
-mul-held : tie.Need-mul-held
-mul-held c = search needs
+below-ceiling-requires : tie.Need-below-ceiling-requires
+below-ceiling-requires c κs = (at c .inside, at c .hold)
 
-element-copy-out-held : tie.Need-element-copy-out-held
-element-copy-out-held c = at c .inside
-
-mul-below-ceiling : tie.Need-mul-below-ceiling
-mul-below-ceiling c = search needs
-
-element-copy-out-below-ceiling : tie.Need-element-copy-out-below-ceiling
-element-copy-out-below-ceiling c = at (c .before) .inside
-
-sub-below-ceiling : tie.Need-sub-below-ceiling
-sub-below-ceiling c = at (c .before .before) .hold
+holding-at-requires : tie.Need-holding-at-requires
+holding-at-requires c κs = at (c .before) .inside
 
 reserved-for-others-requires : tie.Need-reserved-for-others-requires
 reserved-for-others-requires c κs = passed (c .before .before)
@@ -45,13 +36,15 @@ reserved-for-others-requires c κs = passed (c .before .before)
 add-beside-others : tie.Need-add-beside-others
 add-beside-others c =
     let h = at (c .before .before .before) in
+    let g = c .before .holding-at .ensures in
     let r = c .reserved-for-others .ensures in
     omega arith
 
 sub-beside-others : tie.Need-sub-beside-others
 sub-beside-others c =
-    let h = at (c .before .before .before) in
-    let r = c .reserved-for-others .ensures in
+    let h = at (c .before .before .before .before) in
+    let g = c .before .before .holding-at .ensures in
+    let r = c .before .reserved-for-others .ensures in
     omega arith
 
 smaller-requires : tie.Need-smaller-requires
@@ -60,11 +53,14 @@ smaller-requires c κs = search needs
 returns-2 : tie.Need-returns-2
 unfolding looked lookRefusal firstFailing
 returns-2 c =
-    let one = c .before .before .before .before in
+    let held = c .before .before .before in
+    let one = held .before .before in
     let a = one .before .before .args in
-    let r = c .before .reserved-for-others .ensures in
+    let b = held .before .below-ceiling .ensures in
+    let g = held .holding-at .ensures in
+    let r = c .before .before .reserved-for-others .ensures in
     let s = c .smaller .ensures in
-    let e : c .smaller .result ≡ room (a .t1) (a .controller) = omega arith in
+    let e : c .smaller .result ≡ room (a .self) (a .controller) = omega arith in
     rw (passed one, ← e) refl
 
 pub look-spec : {M : Type 1} → statement M
@@ -73,11 +69,8 @@ look-spec =
     (tie.spec
     not-of-desk-requires
     returns
-    mul-held
-    element-copy-out-held
-    mul-below-ceiling
-    element-copy-out-below-ceiling
-    sub-below-ceiling
+    below-ceiling-requires
+    holding-at-requires
     reserved-for-others-requires
     add-beside-others
     sub-beside-others

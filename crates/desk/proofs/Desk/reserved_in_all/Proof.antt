@@ -1,9 +1,7 @@
 -- `desk::Desk::reserved_in_all` meets its contract: the total is that of the places passed, each within the limit.
 use mathlib.Core.Path.{_≡_, refl, ap, _∙_}
-use Prim.Native.Nat.{ℕ, _+_, _≤_, _<_, _-_, max}
+use Prim.Native.Nat.{ℕ, _+_, _≤_, _<_, _-_}
 use native.Mathlib.Omega.{arith}
-use borrow.Author.Needs.{needs}
-use lib.ListN.{getD}
 use Rattle.counting.specs.Counting.{sum}
 use Rattle.counting.proofs.Sums.{sum-most}
 use Rattle.counting.proofs.Ranges.{every-at}
@@ -16,47 +14,32 @@ use Rattle.desk.proofs.Desk.reserved_in_all.Statement.{statement}
 use Rattle.desk.proofs.Desk.reserved_in_all.Tie as tie
 
 abbrev Inv-loop : tie.InvT-loop
-Inv-loop count held assured total₀ i₀ total i = (i ≤ count) × (total ≡ sum i (λ k. max (getD held k 0) (getD assured k 0)))
+Inv-loop self count total₀ i₀ total i = (i ≤ count) × (total ≡ sum i (reserved self))
 
 abbrev μ-loop : tie.MeasureT-loop
-μ-loop count held assured total₀ i₀ total i = count - i
+μ-loop self count total₀ i₀ total i = count - i
 
 -- the desk, in the loop
 abbrev lent : tie.At-loop Inv-loop μ-loop → Desk
-lent c = c .before .before .before .before .args .self
+lent c = c .before .args .self
 
 -- a place below the count is one of the eight, and what it reserves is small
 inside : (c : tie.In-loop Inv-loop μ-loop) → c .before .loop .i < mostControllers
-inside c = omega (arith, c .before .before .before .before .before .pre .0)
+inside c = omega (arith, c .before .before .pre .0)
 
 small : (c : tie.At-loop Inv-loop μ-loop) (i : ℕ) → i < lent c .count → reserved (lent c) i ≤ mostModules
 small c i l =
-    let p = c .before .before .before .before .pre in
+    let p = c .before .pre in
     let d = lent c in
     let m = p .1 in
     omega (arith, place-small d i (place-says d i (every-at mostControllers (placeOkAt d) (p .2) i (omega (arith, p .0)))))
-
-cast-count : tie.Need-cast-count Inv-loop μ-loop
-cast-count c = search needs
 
 loop-holds : tie.Need-loop-holds Inv-loop μ-loop
 unfolding sum
 loop-holds c = (omega arith, refl)
 
-mul-larger : tie.Need-mul-larger Inv-loop μ-loop
-mul-larger c = omega (arith, inside c)
-
-array-read-larger : tie.Need-array-read-larger Inv-loop μ-loop
-array-read-larger c = inside c
-
-mul-larger-2 : tie.Need-mul-larger-2 Inv-loop μ-loop
-mul-larger-2 c = omega (arith, inside c)
-
-array-read-larger-2 : tie.Need-array-read-larger-2 Inv-loop μ-loop
-array-read-larger-2 c = inside c
-
-larger-requires : tie.Need-larger-requires Inv-loop μ-loop
-larger-requires c κs = search needs
+reserved-at-requires : tie.Need-reserved-at-requires Inv-loop μ-loop
+reserved-at-requires c κs = inside c
 
 add-total : tie.Need-add-total Inv-loop μ-loop
 add-total c =
@@ -64,7 +47,7 @@ add-total c =
     let t = l .loop .inv .1 in
     let s = sum-most (l .loop .i) (reserved (lent l)) mostModules (λ k h. small l k (omega arith)) in
     let i = inside (c .before) in
-    let r = c .larger .ensures in
+    let r = c .reserved-at .ensures in
     omega (arith, small l (l .loop .i) (c .before .loop-test .taken))
 
 add-i : tie.Need-add-i Inv-loop μ-loop
@@ -77,7 +60,7 @@ loop-again : tie.Need-loop-again Inv-loop μ-loop
 loop-again c =
     let l = c .before .before in (
       omega arith,
-      ap (λ (r : ℕ). l .loop .total + r) (c .larger .ensures)
+      ap (λ (r : ℕ). l .loop .total + r) (c .reserved-at .ensures)
           ∙ sum-more (reserved (lent l)) (l .loop .i) (l .loop .total) (l .loop .inv .1),
     )
 
@@ -93,13 +76,8 @@ reserved-in-all-spec =
     (tie.spec
     Inv-loop
     μ-loop
-    cast-count
     loop-holds
-    mul-larger
-    array-read-larger
-    mul-larger-2
-    array-read-larger-2
-    larger-requires
+    reserved-at-requires
     add-total
     add-i
     loop-less

@@ -1,4 +1,6 @@
 -- `sheet_format::checks::faulty` meets its contract: five tests, the last on the earlier jobs without their `count` lowest bits.
+use mathlib.Core.Path.{ap₂, _∙_}
+use mathlib.Core.Bool.{_||_}
 use borrow.Author.Needs.{needs}
 use Rattle.sheet_format.specs.Checks.{faulty}
 use Rattle.sheet_format.proofs.Bounds.{left-of}
@@ -51,7 +53,14 @@ returns : tie.Need-returns
 unfolding faulty
 returns c =
     let a = c .before .before .before .before .before .before .before .before .before .before .before .before .before .args in
-    cc (left-of (a .count) (a .job .earlier))
+    let four = c .before .before .before .before .before in
+    let three = four .before .before in
+    let two = three .before .before in
+    let one = two .before .before in
+    c .either4 .ensures ∙ ap₂ _||_ (one .outside .ensures)
+    (c .before .either3 .ensures ∙ ap₂ _||_ (two .outside2 .ensures)
+    (c .before .before .either2 .ensures ∙ ap₂ _||_ (three .outside3 .ensures)
+    (c .before .before .before .either .ensures ∙ ap₂ _||_ (four .outside4 .ensures) (left-of (a .count) (a .job .earlier)))))
 
 pub faulty-spec : {M : Type 1} → statement M
 faulty-spec =

@@ -1,6 +1,6 @@
 -- `sheet_format::checks::wrong_bytes` meets its contract: after i bytes it is known whether one of them is wrong.
-use mathlib.Core.Path.{_≡_, refl, ap, _∙_}
-use mathlib.Core.Bool.{Bool}
+use mathlib.Core.Path.{_≡_, refl, ap, ap₂, _∙_}
+use mathlib.Core.Bool.{Bool, _||_}
 use mathlib.Core.List.{List}
 use Prim.Native.Nat.{ℕ, _-_, _≤_}
 use native.Mathlib.Numerals.{add-one}
@@ -47,7 +47,9 @@ loop-less c = search needs
 
 loop-again : tie.Need-loop-again Inv-loop μ-loop
 unfolding any
-loop-again c = (omega arith, rw add-one (cc))
+loop-again c =
+    let v = c .before .before .before .before .loop in
+    (omega arith, rw add-one (c .either .ensures ∙ ap₂ _||_ (v .inv .1) (c .before .outside .ensures)))
 
 returns : tie.Need-returns Inv-loop μ-loop
 returns c =

@@ -1,15 +1,16 @@
 -- `sheet_format::records::read_all` meets its contract: after i records, their jobs stand in their places, their label lengths are
 -- summed, and it is known whether one of them is faulty.
 use mathlib.Core.Path.{_≡_, refl, ap, ap₂, _∙_}
+use mathlib.Core.Bool.{_||_}
 use mathlib.Core.List.{List}
-use Prim.Native.Nat.{_-_, _*_, _≤_}
+use Prim.Native.Nat.{_+_, _-_, _*_, _≤_}
 use native.Mathlib.Numerals.{add-one}
 use native.Mathlib.Omega.{arith}
 use lib.ListN.{set}
 use borrow.Author.Needs.{needs}
 use Rattle.counting.specs.Counting.{sum, any, joined}
 use Rattle.sheet_format.specs.declared.Job.{Job}
-use Rattle.sheet_format.specs.Format.{noJobs, labelLengths, jobFrom, places}
+use Rattle.sheet_format.specs.Format.{noJobs, labelLength, labelLengths, jobFrom, places}
 use Rattle.sheet_format.specs.Checks.{faulty}
 use Rattle.sheet_format.proofs.Lists.{place-more}
 use Rattle.sheet_format.proofs.records.read_all.Statement.{statement}
@@ -69,11 +70,12 @@ loop-again c =
     let v = c .before .before .before .before .before .loop in
     let f = jobFrom (c .before .before .before .before .before .before .before .before .args .sheet .now)
     (c .before .before .before .before .before .before .before .before .args .offset) in
+    let n = c .before .before .before .before .before .before .before .before .args .count in
     let r = c .before .before .before .read-one in (
       omega arith,
       ap₂ (λ (l : List Job) (j : Job). set l (v .i) j) (v .inv .1) (r .ensures) ∙ place-more (v .i) f (omega arith),
-      rw add-one (cc),
-      rw add-one (cc),
+      rw add-one (ap₂ _+_ (v .inv .2) (c .before .before .label-length .ensures .0 ∙ ap labelLength (r .ensures))),
+      rw add-one (c .either .ensures ∙ ap₂ _||_ (v .inv .3) (c .before .faulty .ensures ∙ ap (faulty n) (r .ensures))),
       omega arith,
     )
 

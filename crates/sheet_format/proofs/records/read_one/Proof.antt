@@ -1,4 +1,5 @@
 -- `sheet_format::records::read_one` meets its contract.
+use mathlib.Core.Path.{refl}
 use borrow.Author.Needs.{needs}
 use Rattle.sheet_format.specs.Format.{recordAt}
 use Rattle.sheet_format.proofs.records.read_one.Statement.{statement}
@@ -33,7 +34,7 @@ read16-requires-2 c κs = search needs
 
 returns : tie.Need-returns
 unfolding recordAt
-returns c = cc
+returns c = rw (c .before .before .read16 .ensures, c .before .read32 .ensures, c .read162 .ensures) refl
 
 pub read-one-spec : {M : Type 1} → statement M
 read-one-spec =

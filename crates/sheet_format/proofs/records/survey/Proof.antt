@@ -1,7 +1,8 @@
 -- `sheet_format::records::survey` meets its contract: after i jobs, their label lengths are summed, and it is known whether one of
 -- them is faulty.
-use mathlib.Core.Path.{_≡_, refl, ap, _∙_}
-use Prim.Native.Nat.{_-_, _*_, _≤_}
+use mathlib.Core.Path.{_≡_, refl, ap, ap₂, _∙_}
+use mathlib.Core.Bool.{_||_}
+use Prim.Native.Nat.{_+_, _-_, _*_, _≤_}
 use native.Mathlib.Numerals.{add-one}
 use native.Mathlib.Omega.{arith}
 use borrow.Author.Needs.{needs}
@@ -48,7 +49,13 @@ loop-less c = search needs
 
 loop-again : tie.Need-loop-again Inv-loop μ-loop
 unfolding sum any
-loop-again c = (omega arith, rw add-one (cc), rw add-one (cc), omega arith)
+loop-again c =
+    let v = c .before .before .before .before .before .loop in (
+      omega arith,
+      rw add-one (ap₂ _+_ (v .inv .1) (c .before .before .label-length .ensures .0)),
+      rw add-one (c .either .ensures ∙ ap₂ _||_ (v .inv .2) (c .before .faulty .ensures)),
+      omega arith,
+    )
 
 returns : tie.Need-returns Inv-loop μ-loop
 returns c =

@@ -1,0 +1,112 @@
+// The edges of the desk, a line a case.
+use cases::print_case;
+use desk::Desk;
+
+// Opens with the first of the shares and of the ceilings.
+fn open_fronts(
+    name: &[u8],
+    limit: u32,
+    assured: &[u32],
+    shares: usize,
+    tops: &[u32],
+    ceilings: usize,
+) {
+    if shares <= assured.len() {
+        if ceilings <= tops.len() {
+            print_case(
+                name,
+                opening::open(limit, &assured[0..shares], &tops[0..ceilings]).refusal,
+            );
+        }
+    }
+}
+
+// Opens with so many equal shares and so many equal ceilings.
+fn open(name: &[u8], limit: u32, shares: usize, share: u32, ceilings: usize, ceiling: u32) {
+    open_fronts(name, limit, &[share; 9], shares, &[ceiling; 9], ceilings);
+}
+
+// Opens a desk of 10 modules for two controllers.
+fn open_two(name: &[u8], share: u32, other_share: u32, ceiling: u32, other_ceiling: u32) {
+    let shares = [share, other_share];
+    let ceilings = [ceiling, other_ceiling];
+    print_case(name, opening::open(10, &shares, &ceilings).refusal);
+}
+
+fn lists() {
+    open(b"1 controller", 10, 1, 1, 1, 10);
+    open(b"2 controllers", 10, 2, 1, 2, 10);
+    open(b"8 controllers", 10, 8, 1, 8, 10);
+    open(b"9 controllers", 10, 9, 1, 9, 10);
+    open(b"2 shares and 3 ceilings", 10, 2, 1, 3, 10);
+}
+
+fn limits() {
+    open(b"limit 0", 0, 2, 0, 2, 0);
+    open(b"limit 1", 1, 2, 0, 2, 1);
+    open(b"limit 4096", 4096, 2, 0, 2, 1);
+    open(b"limit 4097", 4097, 2, 0, 2, 1);
+}
+
+fn pairs() {
+    open_two(b"shares at the ceiling", 4, 4, 4, 4);
+    open_two(b"a share above its ceiling", 4, 5, 4, 4);
+    open_two(b"ceilings at the limit", 4, 4, 10, 10);
+    open_two(b"a ceiling above it", 4, 4, 10, 11);
+    open_two(b"shares of the limit", 5, 5, 10, 10);
+    open_two(b"shares of one more", 6, 5, 10, 10);
+}
+
+// Two controllers with shares of 4 and 3 on a feeder of 12 modules.
+fn small(ceiling: u32) -> Desk {
+    opening::open(12, &[4u32, 3u32], &[ceiling; 2]).desk
+}
+
+// Prints what a look gives.
+fn look(desk: Desk, controller: u32) {
+    let looked = desk.look(controller);
+    print_case(b"  a look", looked.refusal);
+    print_case(b"  modules left", looked.modules);
+}
+
+// Claims on a new desk.
+fn claim(name: &[u8], ceiling: u32, controller: u32, modules: u32) {
+    let desk = small(ceiling);
+    let booked = desk.claim(controller, modules);
+    print_case(name, booked.refusal);
+    look(booked.desk, controller);
+}
+
+// Hands back where controller 1 holds 5.
+fn hand_back(name: &[u8], controller: u32, modules: u32) {
+    let desk = small(12);
+    let held = desk.claim(1, 5).desk;
+    let booked = held.hand_back(controller, modules);
+    print_case(name, booked.refusal);
+    look(booked.desk, controller);
+}
+
+fn claims() {
+    claim(b"a claim of 0", 8, 0, 0);
+    claim(b"a claim at the ceiling", 8, 0, 8);
+    claim(b"a claim above the ceiling", 8, 0, 9);
+    claim(b"a claim at the limit", 12, 0, 9);
+    claim(b"a claim above the limit", 12, 0, 10);
+    claim(b"a claim by controller 2 of 2", 12, 2, 1);
+    claim(b"a claim on a desk that was not opened", 13, 0, 1);
+}
+
+fn hand_backs() {
+    hand_back(b"a hand-back of 0", 1, 0);
+    hand_back(b"a hand-back of all that is held", 1, 5);
+    hand_back(b"a hand-back of more", 1, 6);
+    hand_back(b"a hand-back by controller 2 of 2", 2, 5);
+}
+
+pub fn run() {
+    lists();
+    limits();
+    pairs();
+    claims();
+    hand_backs();
+}

@@ -1,0 +1,3 @@
+-- Laws of the lines of a plan.
+pub mod Numbers
+pub mod Sheets

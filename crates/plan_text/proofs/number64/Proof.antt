@@ -1,0 +1,44 @@
+-- `plan_text::number64` meets its contract.
+use Rattle.plan_text.proofs.Numbers.{eight-bytes}
+use borrow.Author.Needs.{needs}
+use Rattle.plan_text.proofs.number64.Statement.{statement}
+use Rattle.plan_text.proofs.number64.Tie as tie
+
+read32-requires : tie.Need-read32-requires
+read32-requires c κs = search needs
+
+cast-low : tie.Need-cast-low
+cast-low c = search needs
+
+add-read32 : tie.Need-add-read32
+add-read32 c = search needs
+
+read32-requires-2 : tie.Need-read32-requires-2
+read32-requires-2 c κs = search needs
+
+cast-high : tie.Need-cast-high
+cast-high c = search needs
+
+mul-result : tie.Need-mul-result
+mul-result c = search needs
+
+add-result : tie.Need-add-result
+add-result c = search needs
+
+returns : tie.Need-returns
+returns c =
+    let a = c .before .before .before .args in
+    rw (c .before .read32 .ensures, c .read322 .ensures) (eight-bytes (a .card .now) (a .at))
+
+pub number64-spec : {M : Type 1} → statement M
+number64-spec =
+    tie.close
+    (tie.spec
+    read32-requires
+    cast-low
+    add-read32
+    read32-requires-2
+    cast-high
+    mul-result
+    add-result
+    returns)

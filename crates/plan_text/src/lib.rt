@@ -1,0 +1,102 @@
+// The lines of a plan, from its sheet and its card, and of a refusal.
+ghost use mathlib.Core.Path.{_≡_};
+ghost use Prim.Native.Nat.{_+_, _≤_, _<_};
+ghost use lib.ListN.{length};
+ghost use Rattle.card.specs.Decoding.{numberAt};
+ghost use Rattle.sheet.specs.Read.{reading};
+ghost use Rattle.text.specs.Texts.{empty, adding};
+ghost use Rattle.plan_text.specs.Printed.{planLine, jobLine, refusedLine, longestCard};
+ghost use Rattle.plan_text.specs.Rows.{rowLine, rowLines, cardLines};
+use labels::label;
+use sheet::Reading;
+use text::Text;
+
+// The length of the card of 20 jobs, the longest.
+pub const LONGEST_CARD: usize = 268;
+
+// The number of two bytes at a place.
+fn number16(card: &[u8], at: usize) -> u16
+    requires { ⌜ at + 2 ≤ length (now card) ⌝ }
+    ensures { λ r. ⌜ r ≡ numberAt (now (card .entry)) at 2 ⌝ }
+{
+    words::read16(card, at)
+}
+
+// The number of eight bytes at a place.
+fn number64(card: &[u8], at: usize) -> u64
+    requires { ⌜ at + 8 ≤ length (now card) ⌝ }
+    ensures { λ r. ⌜ r ≡ numberAt (now (card .entry)) at 8 ⌝ }
+{
+    let low = words::read32(card, at) as u64;
+    let high = words::read32(card, at + 4) as u64;
+    low + high * 4294967296
+}
+
+// The text with a job's line behind it.
+fn with_line(text: Text, label: &[u8], start: u16, end: u16, departure: u16, modules: u64) -> Text
+    ensures { λ r. ⌜ r ≡ adding text (jobLine (now (label .entry)) start end departure modules) ⌝ }
+{
+    let mut next = text::with_field(text, label, b' ');
+    next = text::with_decimal(next, start as u32, b' ');
+    next = text::with_decimal(next, end as u32, b' ');
+    next = text::with_signed(next, card::lateness(end, departure), b' ');
+    text::with_hexadecimal(next, modules, b'\n')
+}
+
+// The text with the line of job j, whose row is on the card.
+fn with_row(text: Text, sheet: &[u8], card: &[u8], j: usize, departure: u16) -> Text
+    requires { ⌜ (j < 20) × (length (now card) ≡ longestCard) ⌝ }
+    ensures { λ r. ⌜ r ≡ adding text (rowLine (now (sheet .entry)) (now (card .entry)) departure j) ⌝ }
+{
+    let at = 12 * j;
+    let start = number16(card, at);
+    let end = number16(card, at + 2);
+    let modules = number64(card, at + 4);
+    with_line(text, label(sheet, j), start, end, departure, modules)
+}
+
+// The text with a line per job, in sheet order.
+fn with_rows(text: Text, sheet: &[u8], card: &[u8], found: Reading) -> Text
+    requires { ⌜ (found ≡ reading (now sheet)) × (length (now card) ≡ longestCard) ⌝ }
+    ensures { λ r. ⌜ r ≡ adding text (rowLines (now (sheet .entry)) (now (card .entry))) ⌝ }
+{
+    let jobs = found.count;
+    let mut next = text;
+    let mut j: usize = 0;
+    while j < jobs {
+        let job = found.jobs[j];
+        next = with_row(next, sheet, card, j, job.departure);
+        j += 1;
+    }
+    next
+}
+
+// The first line of a plan.
+fn plan_line(end: u16, jobs: u32, modules: u16) -> Text
+    ensures { λ r. ⌜ r ≡ adding empty (planLine end jobs modules) ⌝ }
+{
+    let mut text = text::with_field(text::empty(), b"plan", b' ');
+    text = text::with_decimal(text, end as u32, b' ');
+    text = text::with_decimal(text, jobs, b' ');
+    text::with_decimal(text, modules as u32, b'\n')
+}
+
+// The lines of the plan on the card.
+pub fn plan_lines(sheet: &[u8], card: &[u8]) -> Text
+    requires { ⌜ length (now card) ≡ longestCard ⌝ }
+    ensures { λ r. ⌜ r ≡ adding empty (cardLines (now (sheet .entry)) (now (card .entry))) ⌝ }
+{
+    let found = sheet::read(sheet);
+    let jobs = found.count;
+    let end = number16(card, 13 * jobs + 4);
+    let text = plan_line(end, jobs as u32, found.modules);
+    with_rows(text, sheet, card, found)
+}
+
+// The line of a refused sheet.
+pub fn refused_line(number: u32) -> Text
+    ensures { λ r. ⌜ r ≡ adding empty (refusedLine number) ⌝ }
+{
+    let text = text::with_field(text::empty(), b"refused", b' ');
+    text::with_decimal(text, number, b'\n')
+}

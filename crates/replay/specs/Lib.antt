@@ -1,0 +1,2 @@
+-- What the replay of an order gives.
+pub mod Slots

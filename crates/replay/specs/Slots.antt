@@ -1,0 +1,46 @@
+-- A plan's slots in code: each job's start, end and module set at the job's place.
+use mathlib.Core.Path.{_≡_}
+use mathlib.Core.Bool.{Bool, not}
+use mathlib.Core.List.{List}
+use Prim.Native.Nat.{ℕ, zero, suc, _≤_, _<_}
+use lib.Dec.{ltb}
+use lib.Bits.{bitOr}
+use lib.ListN.{getD, set}
+use Rattle.counting.specs.Counting.{only}
+use Rattle.bits.specs.Bits.{bit, setOf}
+use Rattle.schedule.specs.Plan.{Sheet, finish}
+use Rattle.schedule.specs.ListPlan.{lowest, listPlan}
+use Rattle.replay.specs.declared.Slots.{Slots}
+
+-- the slots with one for job j
+unfoldable pub withSlot : Slots → ℕ → ℕ → ℕ → ℕ → Slots
+withSlot s j start end modules = record {
+  start = set (s .start) j start;
+  end = set (s .end) j end;
+  modules = set (s .modules) j modules;
+}
+
+-- the sets f 0 to f (n - 1) together
+unfoldable pub union : ℕ → (ℕ → ℕ) → ℕ
+union zero f = 0
+union (suc n) f = bitOr (union n f) (f n)
+
+-- the modules of the jobs that end after minute t
+abbrev pub busyAt : Slots → ℕ → ℕ → ℕ
+busyAt s jobs t = union jobs (λ i. only (ltb t (getD (s .end) i 0)) (getD (s .modules) i 0))
+
+-- the modules that are not in the set
+abbrev pub outside : ℕ → ℕ → Bool
+outside busy m = not (bit busy m)
+
+-- the `want` lowest modules that are not in the set, of `modules`
+abbrev pub lowestOutside : ℕ → ℕ → ℕ → ℕ
+lowestOutside busy modules want = setOf modules (lowest modules (outside busy) want)
+
+-- the slots of the list plan of the order o
+pub record Replayed (S : Sheet) (o : List ℕ) (s : Slots) : Type 0 where
+  pub start : (j : ℕ) → j < S .jobs → getD (s .start) j 0 ≡ listPlan S o .start j
+  pub end : (j : ℕ) → j < S .jobs → getD (s .end) j 0 ≡ finish S (listPlan S o) j
+  pub modules : (j : ℕ) → j < S .jobs → getD (s .modules) j 0 ≡ setOf (S .modules) (listPlan S o .uses j)
+  -- "places past the last job … are 0"
+  pub rest : (j : ℕ) → S .jobs ≤ j → (getD (s .start) j 0 ≡ 0) × (getD (s .end) j 0 ≡ 0) × (getD (s .modules) j 0 ≡ 0)
