@@ -98,6 +98,15 @@ impl Planning {
         }
     }
 
+    /// Sheets that read, of n jobs.
+    pub fn of_size(&mut self, n: usize, times: usize) {
+        for _ in 0..times {
+            let sheet = sheets::of_size(&mut self.random, n);
+            let room = self.enough(n);
+            self.compare(&sheet.bytes(), room);
+        }
+    }
+
     /// Sheets with a fault for a check of 1 to 9, some with another one.
     pub fn damaged(&mut self, check: u32, times: usize) {
         for _ in 0..times {

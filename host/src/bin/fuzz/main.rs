@@ -6,7 +6,7 @@ use std::time::{Duration, Instant, SystemTime, UNIX_EPOCH};
 use std::{env, panic, process};
 
 const USAGE: &str = "\
-usage: fuzz [--minutes M] [--seed N] [--rounds R]
+usage: fuzz [--minutes M] [--seed N] [--rounds R] [--larger]
 
 Compares planning, reading, labels, writing, the desk's calls and the search with other implementations, round by round, each
 round with a seed of its own. At the first difference it stops, with the seed of the round and what shows the difference.
@@ -14,17 +14,20 @@ round with a seed of its own. At the first difference it stops, with the seed of
   --minutes M   stop after the first round that ends behind so many minutes (10)
   --seed N      seed of the first round; the next have N + 1, N + 2, .. (the clock's, and it is printed)
   --rounds R    stop after so many rounds too
+  --larger      planning alone, in rounds of 20 sheets of 8 and 9 jobs
 ";
 
 /// What a round compares.
 const SHEETS: usize = 400;
 const FAULTS: usize = 40;
 const DESKS: usize = 2_000;
+const LARGER: usize = 10;
 
 struct Options {
     time: Duration,
     seed: u64,
     rounds: u64,
+    round: fn(u64, &mut Compared),
 }
 
 /// How much was compared.
@@ -52,7 +55,7 @@ fn main() {
     let mut rounds = 0;
     while rounds < options.rounds && start.elapsed() < options.time {
         let seed = options.seed.wrapping_add(rounds);
-        if panic::catch_unwind(panic::AssertUnwindSafe(|| round(seed, &mut compared))).is_err() {
+        if panic::catch_unwind(panic::AssertUnwindSafe(|| (options.round)(seed, &mut compared))).is_err() {
             println!("a difference: it shows again with --seed {seed} --rounds 1");
             process::exit(1);
         }
@@ -103,10 +106,17 @@ fn round(seed: u64, compared: &mut Compared) {
     }
 }
 
+/// One round of larger sheets, from this seed.
+fn larger(seed: u64, compared: &mut Compared) {
+    let mut planning = Planning::new(seed);
+    [8, 9].into_iter().for_each(|n| planning.of_size(n, LARGER));
+    compared.planned += planning.compared;
+}
+
 /// The options, none where help is asked for, or why they cannot be.
 fn options(words: &[String]) -> Result<Option<Options>, String> {
     let now = SystemTime::now().duration_since(UNIX_EPOCH).map_or(0, |since| since.as_secs());
-    let mut options = Options { time: Duration::from_secs(600), seed: now, rounds: u64::MAX };
+    let mut options = Options { time: Duration::from_secs(600), seed: now, rounds: u64::MAX, round };
     let mut words = words.iter();
     while let Some(word) = words.next() {
         let mut number =
@@ -115,6 +125,7 @@ fn options(words: &[String]) -> Result<Option<Options>, String> {
             "--minutes" => options.time = Duration::from_secs(60 * number()?.min(1 << 40)),
             "--seed" => options.seed = number()?,
             "--rounds" => options.rounds = number()?,
+            "--larger" => options.round = larger,
             "--help" | "-h" => return Ok(None),
             _ => return Err(format!("there is no option '{word}'")),
         }
