@@ -1,4 +1,4 @@
--- The bounds by weights and by modules as cuts.
+-- The bounds by weights, by lanes and by modules as cuts.
 use mathlib.Core.Path.{_≡_}
 use mathlib.Core.Logic.{_⊎_, inl, inr}
 use mathlib.Core.Bool.{true, false, not}
@@ -18,6 +18,7 @@ use Rattle.schedule.proofs.Branch.{next-first}
 use Rattle.schedule.proofs.Places.{CannotBeat}
 use Rattle.schedule.proofs.Cuts.{NoneBefore, by-completions}
 use Rattle.schedule.proofs.Weights.{Holds, GoesOn, weights-bound}
+use Rattle.schedule.proofs.Reach.{LastsTo, Rises, gain, reach-bound}
 use Rattle.schedule.proofs.Modulewise.{Lasts, GoesOnWith, modules-bound, by-profile}
 
 module _ (S : Sheet) (lasting : Lasting S) (n : Narrow S) (w : List ℕ) (f : Follows S noJobs w) (l : ℕ) (from : partOf S w .last ≤ l)
@@ -79,6 +80,12 @@ module _ (S : Sheet) (lasting : Lasting S) (n : Narrow S) (w : List ℕ) (f : Fo
       → sum T (λ t. only (leb l t) (K (S .modules - occupied S P t))) < sum (S .jobs) (λ k. only (not (P .placed k)) (S .minutes k * y k))
       → CannotBeat S (suc T) w
   weights-cut y K most over = by-end (λ p c x. omega (arith, over, weights-bound S P l (Q p c) (goes-on p c) T x y K most))
+
+  pub reach-cut : (y v K Z : ℕ → ℕ) → Holds S y K → Rises (S .modules) K → LastsTo S T v Z → Z 0 ≡ 0 → Rises T Z
+      → sum T (λ t. only (leb l t) (K (S .modules - occupied S P t) * gain Z T t)) < sum (S .jobs) (λ k. only (not (P .placed k)) (y k * v k))
+      → CannotBeat S (suc T) w
+  reach-cut y v K Z most more lasts none rises over = by-end (λ p c x.
+      omega (arith, over, reach-bound S lasting P l (Q p c) (goes-on p c) T x y v K Z most more lasts none rises))
 
   pub modules-cut : (y Z : ℕ → ℕ) → Lasts S P y Z → ((a b : ℕ) → a ≤ b → Z a ≤ Z b)
       → sum (S .jobs) (λ k. only (occupies S P l k) (S .need k * Z (T - finish S (P .plan) k))) + (S .modules - occupied S P l) * Z (T - l)

@@ -24,6 +24,9 @@ pub mod Exchange
 pub mod Alike
 pub mod Swaps
 pub mod Weights
+pub mod Lanes
+pub mod Filling
+pub mod Reach
 pub mod Modulewise
 pub mod Bounds
 pub mod Jumps

@@ -3,21 +3,21 @@
 use mathlib.Core.Path.{_≡_, refl, sym, ap, _∙_}
 use mathlib.Core.Logic.{_⊎_, inl, inr, ⊎-elim, _≢_}
 use mathlib.Core.Bool.{Bool, true, false, not, _&&_}
-use Prim.Native.Nat.{ℕ, _+_, _-_, _*_, _≤_, _<_, zero-le, min, max}
+use Prim.Native.Nat.{ℕ, _+_, _-_, _*_, _≤_, _<_, zero-le, max}
 use native.Mathlib.Omega.{arith}
-use lib.Dec.{leb, eqb}
-use borrow.Author.Tests.{ltb-true, leb-true, lt-ltb, le-leb, lt-leb, eqb-true, eqb-false, not-true, not-false}
+use lib.Dec.{leb}
+use borrow.Author.Tests.{leb-true, lt-ltb, le-leb, not-true, not-false}
 use Rattle.counting.specs.Counting.{only, sum, count}
-use Rattle.counting.proofs.Tests.{true-or-false, less-or-not, clash, and-left, and-right, and-both}
+use Rattle.counting.proofs.Tests.{true-or-false, clash, and-left, and-right, and-both}
 use Rattle.counting.proofs.Sums.{sum-le, sum-same, sum-add, sum-swap, sum-zero, sum-mul, le-sum}
 use Rattle.counting.proofs.Intervals.{inside, sum-inside}
 use Rattle.counting.proofs.Ranges.{le-largest, largest-le, any-some}
-use Rattle.counting.proofs.Counts.{count-one, count-none}
 use Rattle.schedule.specs.Plan.{Sheet, Plan, Valid, finish, planEnd, Lasting}
 use Rattle.schedule.specs.ListPlan.{PartPlan, occupies, free, occupied}
 use Rattle.schedule.proofs.Sound.{Sound}
 use Rattle.schedule.proofs.Occupied.{free-count}
 use Rattle.schedule.proofs.Area.{availableFrom}
+use Rattle.schedule.proofs.Lanes.{OnLanes, lanes-bound}
 
 -- no set of jobs that are left and last x minutes together weighs more than Z x
 abbrev pub Lasts : Sheet → PartPlan → (ℕ → ℕ) → (ℕ → ℕ) → Type 0
@@ -62,95 +62,43 @@ module _ (S : Sheet) (w : Lasting S) (P : PartPlan) (l : ℕ) (Q : Plan) (h : Go
           rw c (⊎-elim (λ d. omega (arith, d, s)) (λ d. absurd (omega (arith, d, s, h .early i z p, h .later k x (is-left m k b), w k x)))
           (h .valid .apart i k m z x other u (and-right (not (P .placed k)) _ b)))
 
-  -- ---- one module
+  -- ---- the modules as lanes
 
-  busy : ℕ → ℕ → ℕ → Bool
-  busy m t k = served m k && inside (Q .start k) (finish S Q k) t
+  isOpen : ℕ → ℕ → Bool
+  isOpen m t = leb (freeFrom S P l m) t
 
-  over-minutes : (m k : ℕ) → k < S .jobs → only (served m k) (S .minutes k) ≡ sum T (λ t. only (busy m t k) 1)
-  unfolding busy
-  over-minutes m k x = go (served m k) refl
+  on-modules : OnLanes (S .jobs) (λ k. not (P .placed k)) (Q .start) (S .minutes) (S .need) (S .modules) isOpen (Q .uses)
+  unfolding isOpen
+  on-modules = record {
+    enough = λ k x p. h .valid .enough k x;
+    opened = λ k m x p u. le-leb (freeFrom S P l m) (Q .start k) (starts-free m k x (and-both (not (P .placed k)) _ p u));
+    apart = λ i k m x z p q other u v. ⊎-elim (λ d. inl (omega (arith, d))) (λ d. inr (omega (arith, d)))
+        (h .valid .apart i k m x z other u v);
+  }
+
+  -- a module that is free from minute a on
+  minutes-from : (a : ℕ) → count T (λ t. leb a t) ≡ T - a
+  minutes-from a = sum-same T _ (λ t. only (inside a T t) 1) below ∙ sum-inside T a T 1 ∙ omega arith
     where
-      go : (b : Bool) → served m k ≡ b
-          → only (served m k) (S .minutes k) ≡ sum T (λ t. only (served m k && inside (Q .start k) (finish S Q k) t) 1)
-      go true q =
-          let d : S .minutes k ≡ (min T (finish S Q k) - Q .start k) * 1 = omega (arith, e, le-largest (S .jobs) (finish S Q) k x) in
-          rw q (d ∙ sym (sum-inside T (Q .start k) (finish S Q k) 1))
-      go false q = rw q (sym (sum-zero T))
+      and-true : (b : Bool) → (b && true) ≡ b
+      and-true true = refl
+      and-true false = refl
 
-  -- two jobs do not share a minute of a module
-  alone : (m t i k : ℕ) → i < S .jobs → k < S .jobs → busy m t i ≡ true → busy m t k ≡ true → (b : Bool) → eqb i k ≡ b → i ≡ k
-  unfolding busy
-  alone m t i k x z a b true q = eqb-true i k q
-  alone m t i k x z a b false q =
-      let a1 = leb-true (Q .start i) t (and-left (leb (Q .start i) t) _ (and-right (served m i) _ a)) in
-      let a2 = ltb-true t (finish S Q i) (and-right (leb (Q .start i) t) _ (and-right (served m i) _ a)) in
-      let b1 = leb-true (Q .start k) t (and-left (leb (Q .start k) t) _ (and-right (served m k) _ b)) in
-      let b2 = ltb-true t (finish S Q k) (and-right (leb (Q .start k) t) _ (and-right (served m k) _ b)) in
-      let ui = and-right (not (P .placed i)) _ (and-left (served m i) _ a) in
-      let uk = and-right (not (P .placed k)) _ (and-left (served m k) _ b) in
-      ⊎-elim (λ d. absurd (omega arith)) (λ d. absurd (omega arith)) (h .valid .apart i k m x z (eqb-false i k q) ui uk)
-
-  minute : (m t : ℕ) → (t < freeFrom S P l m) ⊎ (freeFrom S P l m ≤ t)
-      → sum (S .jobs) (λ k. only (busy m t k) 1) ≤ only (leb (freeFrom S P l m) t) 1
-  unfolding busy
-  minute m t (inr c) = rw (le-leb (freeFrom S P l m) t c) (count-one (S .jobs) (busy m t) (λ i k x z a b. alone m t i k x z a b
-      (eqb i k) refl))
-  minute m t (inl c) =
-      let none : count (S .jobs) (busy m t) ≡ 0 = count-none (S .jobs) (busy m t) (λ k x. idle k x (true-or-false (served m k))) in
-      rw none zero-le
-    where
-      idle : (k : ℕ) → k < S .jobs → (served m k ≡ true) ⊎ (served m k ≡ false)
-          → (served m k && inside (Q .start k) (finish S Q k) t) ≡ false
-      idle k x (inr s) = rw s refl
-      idle k x (inl s) = rw (s, lt-leb (Q .start k) t (omega (arith, starts-free m k x s))) refl
-
-  served-minutes : (m : ℕ) → sum (S .jobs) (λ k. only (served m k) (S .minutes k)) ≤ T - freeFrom S P l m
-  served-minutes m =
-      let a = freeFrom S P l m in
-      let all = sum-same (S .jobs) _ (λ k. sum T (λ t. only (busy m t k) 1)) (over-minutes m)
-      ∙ sum-swap (S .jobs) T (λ k t. only (busy m t k) 1) in
-      let each = sum-le T (λ t. sum (S .jobs) (λ k. only (busy m t k) 1)) (λ t. only (leb a t) 1) (λ t x. minute m t (less-or-not t a)) in
-      let span : sum T (λ t. only (leb a t) 1) ≡ T - a = sum-same T _ (λ t. only (inside a T t) 1) (λ t x. below t x)
-      ∙ sum-inside T a T 1 ∙ omega arith in
-      omega (arith, all, each, span)
-    where
-      below : (t : ℕ) → t < T → only (leb (freeFrom S P l m) t) 1 ≡ only (inside (freeFrom S P l m) T t) 1
-      below t x = rw (lt-ltb t T x) (ap (λ (b : Bool). only b 1) (sym (and-true (leb (freeFrom S P l m) t))))
-        where
-          and-true : (b : Bool) → (b && true) ≡ b
-          and-true true = refl
-          and-true false = refl
-
-  -- ---- all modules
-
-  over-modules : (y : ℕ → ℕ) (k : ℕ) → k < S .jobs
-      → only (not (P .placed k)) (S .need k * y k) ≡ sum (S .modules) (λ m. only (served m k) (y k))
-  over-modules y k x = go (not (P .placed k)) refl
-    where
-      one : (m : ℕ) → only (Q .uses k m) 1 * y k ≡ only (Q .uses k m) (y k)
-      one m = two (Q .uses k m)
-        where
-          two : (b : Bool) → only b 1 * y k ≡ only b (y k)
-          two true = omega arith
-          two false = omega arith
-
-      go : (b : Bool) → not (P .placed k) ≡ b → only (not (P .placed k)) (S .need k * y k) ≡ sum (S .modules) (λ m. only (served m k) (y k))
-      go true q =
-          rw q
-          (ap (λ (c : ℕ). c * y k) (sym (h .valid .enough k x)) ∙ sym (sum-mul (S .modules) (λ m. only (Q .uses k m) 1) (y k))
-          ∙ sum-same (S .modules) _ _ (λ m z. one m))
-      go false q = rw q (sym (sum-zero (S .modules)))
+      below : (t : ℕ) → t < T → only (leb a t) 1 ≡ only (inside a T t) 1
+      below t x = rw (lt-ltb t T x) (ap (λ (b : Bool). only b 1) (sym (and-true (leb a t))))
 
   -- The jobs that are left weigh no more than what the modules can serve.
   pub modules-bound : (y Z : ℕ → ℕ) → Lasts S P y Z
       → sum (S .jobs) (λ k. only (not (P .placed k)) (S .need k * y k)) ≤ sum (S .modules) (λ m. Z (T - freeFrom S P l m))
+  unfolding isOpen
   modules-bound y Z most =
-      let all = sum-same (S .jobs) _ (λ k. sum (S .modules) (λ m. only (served m k) (y k))) (over-modules y)
-      ∙ sum-swap (S .jobs) (S .modules) (λ k m. only (served m k) (y k)) in
-      let each = sum-le (S .modules) (λ m. sum (S .jobs) (λ k. only (served m k) (y k))) (λ m. Z (T - freeFrom S P l m))
-      (λ m x. most (served m) (T - freeFrom S P l m) (λ k b. is-left m k b) (served-minutes m)) in
-      omega (arith, all, each)
+      let bound = lanes-bound (S .jobs) (λ k. not (P .placed k)) (Q .start) (S .minutes) (S .need) (S .modules) isOpen (Q .uses) on-modules
+      (λ m t u x b. le-leb (freeFrom S P l m) u (omega (arith, leb-true (freeFrom S P l m) t b)))
+      T (λ k x p. omega (arith, e, le-largest (S .jobs) (finish S Q) k x)) y Z
+      (λ X x a left short. most X x (λ k b. not-true (P .placed k) (left k b)) short) in
+      let each = sum-same (S .modules) (λ m. Z (count T (isOpen m))) (λ m. Z (T - freeFrom S P l m))
+      (λ m x. ap Z (minutes-from (freeFrom S P l m))) in
+      omega (arith, bound, each)
 
 -- ---- the same, from the placed jobs that still run
 

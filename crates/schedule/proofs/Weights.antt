@@ -67,6 +67,22 @@ module _ (S : Sheet) (P : PartPlan) (l : ℕ) (Q : Plan) (h : GoesOn S P l Q) (T
           and-both _ _ (and-left (leb (Q .start k) t) _ b) (lt-ltb t (finish S Q k + S .rest) (omega arith))) in
           rw p (omega (arith, on))
 
+  -- what is left at a minute weighs no more than the free modules hold
+  pub minute-weight : (y K : ℕ → ℕ) → Holds S y K → (t : ℕ)
+      → sum (S .jobs) (λ k. only (left t k) (y k)) ≤ only (leb l t) (K (S .modules - occupied S P t))
+  minute-weight y K most t = one (less-or-not t l)
+    where
+      zero : t < l → (k : ℕ) → k < S .jobs → (P .placed k ≡ true) ⊎ (P .placed k ≡ false) → only (left t k) (y k) ≡ 0
+      zero m k x (inl p) = rw p refl
+      zero m k x (inr p) = rw (p, lt-leb (Q .start k) t (omega (arith, h .later k x p))) refl
+
+      one : (t < l) ⊎ (l ≤ t) → sum (S .jobs) (λ k. only (left t k) (y k)) ≤ only (leb l t) (K (S .modules - occupied S P t))
+      one (inr m) = rw (le-leb l t m) (most (left t) (S .modules - occupied S P t) (omega arith) (omega (arith, beside t m)))
+      one (inl m) =
+          let none : sum (S .jobs) (λ k. only (left t k) (y k)) ≡ 0 =
+          sum-same (S .jobs) _ (λ k. 0) (λ k x. zero m k x (true-or-false (P .placed k))) ∙ sum-zero (S .jobs) in
+          rw none zero-le
+
   -- The jobs that are left weigh no more than the free modules hold.
   pub weights-bound : (y K : ℕ → ℕ) → Holds S y K
       → sum (S .jobs) (λ k. only (not (P .placed k)) (S .minutes k * y k)) ≤ sum T (λ t. only (leb l t) (K (S .modules - occupied S P t)))
@@ -74,16 +90,5 @@ module _ (S : Sheet) (P : PartPlan) (l : ℕ) (Q : Plan) (h : GoesOn S P l Q) (T
       let all = sum-same (S .jobs) _ (λ k. sum T (λ t. only (left t k) (y k))) (over-minutes y)
       ∙ sum-swap (S .jobs) T (λ k t. only (left t k) (y k)) in
       let each = sum-le T (λ t. sum (S .jobs) (λ k. only (left t k) (y k))) (λ t. only (leb l t) (K (S .modules - occupied S P t)))
-      (λ t x. one t (less-or-not t l)) in
+      (λ t x. minute-weight y K most t) in
       omega (arith, all, each)
-    where
-      one : (t : ℕ) → (t < l) ⊎ (l ≤ t) → sum (S .jobs) (λ k. only (left t k) (y k)) ≤ only (leb l t) (K (S .modules - occupied S P t))
-      one t (inr m) = rw (le-leb l t m) (most (left t) (S .modules - occupied S P t) (omega arith) (omega (arith, beside t m)))
-      one t (inl m) =
-          let none : sum (S .jobs) (λ k. only (left t k) (y k)) ≡ 0 =
-          sum-same (S .jobs) _ (λ k. 0) (λ k x. zero k x (true-or-false (P .placed k))) ∙ sum-zero (S .jobs) in
-          rw none zero-le
-        where
-          zero : (k : ℕ) → k < S .jobs → (P .placed k ≡ true) ⊎ (P .placed k ≡ false) → only (left t k) (y k) ≡ 0
-          zero k x (inl p) = rw p refl
-          zero k x (inr p) = rw (p, lt-leb (Q .start k) t (omega (arith, h .later k x p))) refl
