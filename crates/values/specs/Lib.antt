@@ -1,0 +1,2 @@
+-- What the lanes of a sheet are.
+pub mod Values

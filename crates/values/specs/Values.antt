@@ -1,0 +1,50 @@
+-- Lanes: a job of weight x fills x lanes side by side, as many lanes are open as weight can stand on the free modules, and a lane serves
+-- jobs one after another. Each job has a value, and what a lane can serve in so many minutes is at most its reach.
+use mathlib.Core.Path.{_≡_}
+use mathlib.Core.Bool.{Bool}
+use mathlib.Core.List.{List}
+use Prim.Native.Nat.{ℕ, _+_, _*_, _/_, _≤_, _<_}
+use lib.ListN.{length, getD}
+use Rattle.counting.specs.Counting.{only, sum}
+use Rattle.weights.specs.Weights.{Weighs}
+
+-- ---- the parts of the table
+
+-- the most value that a lane can serve in x steps
+abbrev pub reachAt : List ℕ → ℕ → ℕ
+reachAt lanes x = getD lanes x 0
+
+-- how many lanes are open on x free modules: the most weight that can stand on them
+abbrev pub mostAt : List ℕ → ℕ → ℕ
+mostAt lanes x = getD lanes (1024 + x) 0
+
+-- a job's weight times its value
+abbrev pub worthAt : List ℕ → ℕ → ℕ
+worthAt lanes k = getD lanes (1089 + k) 0
+
+-- how many minutes a step has
+abbrev pub stepOf : List ℕ → ℕ
+stepOf lanes = getD lanes 1109 0
+
+-- ---- what they stand for
+
+-- no set of jobs that last fewer than `size` steps together, each counted in whole steps, has more value than Z of them
+abbrev pub Serves : List ℕ → ℕ → ℕ → ℕ → (ℕ → ℕ) → (ℕ → ℕ) → Type 0
+Serves minutes jobs step size value Z = (X : ℕ → Bool) (x : ℕ) → x < size
+    → sum jobs (λ k. only (X k) (getD minutes k 0 / step)) ≤ x → sum jobs (λ k. only (X k) (value k)) ≤ Z x
+
+-- the table of some weights and values
+pub record Laned (need minutes : List ℕ) (jobs modules : ℕ) (lanes : List ℕ) : Type 0 where
+  pub size : length lanes ≡ 1110
+  pub weight : ℕ → ℕ
+  pub value : ℕ → ℕ
+  pub worth-is : (k : ℕ) → k < jobs → worthAt lanes k ≡ weight k * value k
+  pub weighs : Weighs need jobs modules weight (mostAt lanes)
+  pub most-rises : (a b : ℕ) → a ≤ b → b ≤ modules → mostAt lanes a ≤ mostAt lanes b
+  pub step-some : 0 < stepOf lanes
+  pub serves : Serves minutes jobs (stepOf lanes) 1024 value (reachAt lanes)
+  pub reach-rises : (a b : ℕ) → a ≤ b → b < 1024 → reachAt lanes a ≤ reachAt lanes b
+  pub reach-none : reachAt lanes 0 ≡ 0
+  pub worth-small : (k : ℕ) → k < 20 → worthAt lanes k ≤ 16320
+  pub most-small : (x : ℕ) → x < 65 → mostAt lanes x ≤ 720
+  pub reach-small : (x : ℕ) → x < 1024 → reachAt lanes x ≤ 5100

@@ -1,0 +1,1 @@
+// Values of jobs, and the lanes that they fill.
