@@ -48,8 +48,8 @@ module _ {set n : ℕ} {worth : ℕ → ℕ} {rest weight : ℕ} (h : Weighed se
   pub weighed-more : Weighed set n worth (withoutBit rest j) (weight + worth j)
   weighed-more = record { all = omega (arith, h .all, sum-without n rest j worth l e) }
 
-  pub weighed-small : (b : ℕ) → ((k : ℕ) → worth k ≤ b) → weight + worth j ≤ n * b
+  pub weighed-small : (b : ℕ) → ((k : ℕ) → k < n → worth k ≤ b) → weight + worth j ≤ n * b
   weighed-small b small =
       let whole : sum n (λ k. only (bit set k) (worth k)) ≤ n * b =
-      sum-most n (λ k. only (bit set k) (worth k)) b (λ k m. le-trans (only-le (bit set k) (worth k)) (small k)) in
+      sum-most n (λ k. only (bit set k) (worth k)) b (λ k m. le-trans (only-le (bit set k) (worth k)) (small k m)) in
       omega (arith, h .all, sum-without n rest j worth l e)

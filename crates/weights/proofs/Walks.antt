@@ -18,7 +18,7 @@ use Rattle.bits.specs.Bits.{bit}
 use Rattle.weights.specs.Weights.{Weighting, roomFor, Outweighed}
 
 -- a sum over the numbers from a on, of which those below b have the same value
-sum-from : (T a b c : ℕ) (g : ℕ → ℕ) → a ≤ b → b ≤ T → ((t : ℕ) → a ≤ t → t < b → g t ≡ c)
+pub sum-from : (T a b c : ℕ) (g : ℕ → ℕ) → a ≤ b → b ≤ T → ((t : ℕ) → a ≤ t → t < b → g t ≡ c)
     → sum T (λ t. only (leb a t) (g t)) ≡ c * (b - a) + sum T (λ t. only (leb b t) (g t))
 sum-from T a b c g l m h =
     let all = sum-same T (λ t. only (leb a t) (g t)) (λ t. only (inside a b t) c + only (leb b t) (g t))
@@ -35,7 +35,7 @@ sum-from T a b c g l m h =
     one t (inr x) (inr z) = rw (le-leb a t x, le-leb b t z, le-ltb t b z) (omega arith)
 
 -- over no numbers
-sum-past : (T : ℕ) (g : ℕ → ℕ) → sum T (λ t. only (leb T t) (g t)) ≡ 0
+pub sum-past : (T : ℕ) (g : ℕ → ℕ) → sum T (λ t. only (leb T t) (g t)) ≡ 0
 sum-past T g = sum-same T _ (λ t. 0) (λ t l. ap (λ b. only b (g t)) (lt-leb T t l)) ∙ sum-zero T
 
 -- ---- from one end to the next
@@ -92,7 +92,7 @@ module _ {until held : List ℕ} {placed modules T at f i : ℕ} (w : Walk until
       ended k (inr n) = omega (arith, w .ended k n)
 
   -- the modules that are free while the i-th is the next to end
-  free-at : (t : ℕ) → at ≤ t → t < T → ((k : ℕ) → i ≤ k → k < placed → t < getD until k 0) → modules - heldAt until held placed t ≡ f
+  pub free-at : (t : ℕ) → at ≤ t → t < T → ((k : ℕ) → i ≤ k → k < placed → t < getD until k 0) → modules - heldAt until held placed t ≡ f
   free-at t a b n = omega (
     arith,
     w .rest,

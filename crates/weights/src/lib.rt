@@ -168,7 +168,7 @@ fn set_worth(worth: &[u32; 100], set: u32, jobs: usize) -> Totals
 }
 
 // The next minute from `at` on at which a job has ended or the target is reached.
-fn next_end(at: u16, until: u16, target: u16) -> u16
+pub fn next_end(at: u16, until: u16, target: u16) -> u16
     ensures { λ r. ⌜ r ≡ max at (min until target) ⌝ }
 {
     if until <= target {

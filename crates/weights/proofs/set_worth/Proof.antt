@@ -36,7 +36,7 @@ with-worth-requires c κs =
     let k = c .lowest32 .result in
     let member = c .lowest32 .ensures .1 in
     let low = loop .inv .0 .below k member in
-    (omega (arith, pre .1), λ q l. omega (arith, pre .1, weighed-small (loop .inv .1 q l) k low member 51840 (λ i. pre .0 (i * 5 + q))))
+    (omega (arith, pre .1), λ q l. omega (arith, pre .1, weighed-small (loop .inv .1 q l) k low member 51840 (λ i m. pre .0 (i * 5 + q))))
 
 clear32-requires : tie.Need-clear32-requires Inv-loop μ-loop
 clear32-requires c κs =

@@ -1,0 +1,176 @@
+-- What lanes serve, walked from one end of a placed job to the next.
+use mathlib.Core.Path.{_≡_, refl, sym, ap, _∙_}
+use mathlib.Core.Bool.{Bool, true, false}
+use mathlib.Core.List.{List}
+use Prim.Native.Nat.{ℕ, zero, suc, _+_, _-_, _*_, _/_, _≤_, _<_, min, max}
+use native.Mathlib.Omega.{arith}
+use native.Mathlib.Nat.{le-refl, le-trans, mul-add, mul-le-mul-right, zero-div, div-mul-le-self, le-div-iff-mul-le}
+use lib.Dec.{leb}
+use lib.ListN.{getD}
+use Rattle.counting.specs.Counting.{only, sum}
+use Rattle.counting.proofs.Sums.{sum-le, sum-same, sum-mul}
+use Rattle.bits.specs.Bits.{bit}
+use Rattle.placement.specs.Profile.{heldAt, Profile}
+use Rattle.weights.proofs.Walks.{Walk, sum-from, sum-past, free-at}
+use Rattle.values.specs.Values.{reachAt, mostAt, worthAt, stepOf, Laned}
+use Rattle.lanes.specs.Lanes.{reachIn, servedOn, Serving, Overfull}
+
+pub div-rises : (a b s : ℕ) → 0 < s → a ≤ b → a / s ≤ b / s
+div-rises a b s pos x = le-div-iff-mul-le pos .1 (le-trans (div-mul-le-self a s) x)
+
+pub place-inside : (T t s : ℕ) → 0 < s → T / s < 1024 → (T - t) / s < 1024
+place-inside T t s pos l = omega (arith, div-rises (T - t) T s pos (omega arith))
+
+-- ---- a stretch of minutes in which as many lanes are open
+
+difference : (c x y z : ℕ) → y ≤ x → z ≤ y → c * (x - y) + c * (y - z) ≡ c * (x - z)
+difference c x y z l m =
+    let e : x - y + (y - z) ≡ x - z = omega arith in
+    sym (mul-add c (x - y) (y - z)) ∙ ap (λ (n : ℕ). c * n) e
+
+module _ (Z : ℕ → ℕ) (T : ℕ) (rises : (a b : ℕ) → a ≤ b → b ≤ T → Z a ≤ Z b) (g : ℕ → ℕ) (c : ℕ) where
+  abbrev gains : ℕ → ℕ
+  gains a = sum T (λ t. only (leb a t) (g t * (Z (T - t) - Z (T - suc t))))
+
+  gains-from : (d a : ℕ) → a + d ≤ T → ((t : ℕ) → a ≤ t → t < a + d → g t ≡ c)
+      → gains a ≡ c * (Z (T - a) - Z (T - (a + d))) + gains (a + d)
+  gains-from zero a l h =
+      let e : a + 0 ≡ a = omega arith in
+      let z : Z (T - a) - Z (T - a) ≡ 0 = omega arith in
+      rw (e, z) (omega arith)
+  gains-from (suc d) a l h =
+      let e : suc a + d ≡ a + suc d = omega arith in
+      let rec : gains (suc a) ≡ c * (Z (T - suc a) - Z (T - (a + suc d))) + gains (a + suc d) =
+      rw e at (gains-from d (suc a) (omega arith) (λ t x y. h t (omega arith) (omega arith))) in
+      let one = sum-from T a (suc a) (c * (Z (T - a) - Z (T - suc a))) (λ t. g t * (Z (T - t) - Z (T - suc t))) (omega arith) (omega arith)
+      (λ t x y. (let s : t ≡ a = omega arith in rw (h t x (omega arith), s) refl)) in
+      let step : c * (Z (T - a) - Z (T - suc a)) * (suc a - a) ≡ c * (Z (T - a) - Z (T - suc a)) =
+      (let u : suc a - a ≡ 1 = omega arith in rw u (omega arith)) in
+      let all = difference c (Z (T - a)) (Z (T - suc a)) (Z (T - (a + suc d))) (rises (T - suc a) (T - a) (omega arith) (omega arith))
+      (rises (T - (a + suc d)) (T - suc a) (omega arith) (omega arith)) in
+      omega (arith, one, step, rec, all)
+
+-- ---- the walk
+
+module _ {lanes until held : List ℕ} {placed gone free modules l T : ℕ} (s : Serving lanes until held placed gone free modules l T) where
+  pub inside-table : (x : ℕ) → x ≤ T → x / stepOf lanes < 1024
+  inside-table x m = omega (arith, div-rises x T (stepOf lanes) (s .step-some) m, s .inside)
+
+  pub reach-in-rises : (a b : ℕ) → a ≤ b → b ≤ T → reachIn lanes a ≤ reachIn lanes b
+  reach-in-rises a b x y = s .reach-rises (a / stepOf lanes) (b / stepOf lanes) (div-rises a b (stepOf lanes) (s .step-some) x)
+      (inside-table b y)
+
+  pub reach-in-none : reachIn lanes 0 ≡ 0
+  reach-in-none = ap (reachAt lanes) (zero-div (stepOf lanes)) ∙ s .reach-none
+
+  abbrev served : ℕ → ℕ
+  served a = servedOn (mostAt lanes) (reachIn lanes) until held modules placed a T
+
+  -- what is served up to minute `at`, from which a lane reaches so much
+  pub record Served (total at reach : ℕ) : Type 0 where
+    pub reach-is : reach ≡ reachIn lanes (T - at)
+    pub low : total + 720 * reach ≤ 3672000
+    pub all : total + served at ≡ served l
+
+  pub serve-start : (reach : ℕ) → reach ≡ reachIn lanes (T - l) → Served 0 l reach
+  serve-start reach e = record {
+    reach-is = e;
+    low = omega (arith, s .reach-small ((T - l) / stepOf lanes) (inside-table (T - l) (omega arith)));
+    all = omega arith;
+  }
+
+  module _ {at f i total reach : ℕ} (w : Walk until held placed modules T at f i) (h : Served total at reach) where
+    pub lanes-few : mostAt lanes f ≤ 720
+    lanes-few = s .most-small f (omega (arith, w .rest, w .narrow))
+
+    pub reach-falls : (b : ℕ) → at ≤ b → reachIn lanes (T - b) ≤ reach
+    reach-falls b x = rw (h .reach-is) (reach-in-rises (T - b) (T - at) (omega arith) (omega arith))
+
+    pub serve-low : (rest : ℕ) → rest ≤ reach → total + mostAt lanes f * (reach - rest) + 720 * rest ≤ 3672000
+    serve-low rest x = omega (arith, h .low, mul-le-mul-right (reach - rest) lanes-few)
+
+    pub serve-all-low : total + mostAt lanes f * reach ≤ 3672000
+    serve-all-low = omega (arith, h .low, mul-le-mul-right reach lanes-few)
+
+    -- up to a minute before which none of the others ends
+    serve-to : (b : ℕ) → at ≤ b → b ≤ T → ((t k : ℕ) → at ≤ t → t < b → i ≤ k → k < placed → t < getD until k 0)
+        → total + mostAt lanes f * (reach - reachIn lanes (T - b)) + served b ≡ served l
+    unfolding servedOn
+    serve-to b x y n =
+        let d : at + (b - at) ≡ b = omega arith in
+        let g = gains-from (reachIn lanes) T reach-in-rises (λ t. mostAt lanes (modules - heldAt until held placed t)) (mostAt lanes f)
+        (b - at) at (omega arith) (λ t p q. ap (mostAt lanes) (free-at w t p (omega arith) (λ k m o. n t k p (omega arith) m o))) in
+        let step : served at ≡ mostAt lanes f * (reachIn lanes (T - at) - reachIn lanes (T - b)) + served b = rw d at g in
+        rw (h .reach-is) (omega (arith, step, h .all))
+
+    pub serve-step : (to rest : ℕ) → to ≡ max at (min (getD until i 0) T) → rest ≡ reachIn lanes (T - to)
+        → Served (total + mostAt lanes f * (reach - rest)) to rest
+    serve-step to rest e r =
+        let on : at ≤ to = omega arith in
+        let low : rest ≤ reach = rw r (reach-falls to on) in
+        record {
+          reach-is = r;
+          low = serve-low rest low;
+          all = rw r (serve-to to on (omega (arith, w .before)) (λ t k x y n o. omega (arith, w .sorted i k n o)));
+        }
+
+    pub serve-done : placed ≤ i → total + mostAt lanes f * reach ≡ served l
+    unfolding servedOn
+    serve-done m =
+        let all = serve-to T (w .before) (le-refl _) (λ t k x y n o. absurd (omega arith)) in
+        let end : reachIn lanes (T - T) ≡ 0 = ap (reachIn lanes) (omega arith) ∙ reach-in-none in
+        let whole : reach - reachIn lanes (T - T) ≡ reach = omega (arith, end) in
+        let past = sum-past T (λ t. mostAt lanes (modules - heldAt until held placed t) * (reachIn lanes (T - t) - reachIn lanes (T - suc t))) in
+        let done : total + mostAt lanes f * reach + served T ≡ served l = rw whole at all in
+        omega (arith, done, past)
+
+-- ---- the answer
+
+pub serving : {need minutes lanes until held : List ℕ} {jobs placed gone free modules l T : ℕ} → Laned need minutes jobs modules lanes
+    → Profile until held placed gone free modules l → modules ≤ 64 → l ≤ T → T / stepOf lanes < 1024
+    → Serving lanes until held placed gone free modules l T
+serving h profile narrow before inside = record {
+  step-some = h .step-some;
+  inside = inside;
+  most-small = h .most-small;
+  reach-rises = h .reach-rises;
+  reach-none = h .reach-none;
+  reach-small = h .reach-small;
+  profile = profile;
+  narrow = narrow;
+  before = before;
+}
+
+-- jobs that last x minutes together last no more whole steps than x minutes have
+steps-together : (minutes : List ℕ) (jobs s : ℕ) → 0 < s → (X : ℕ → Bool) (x : ℕ) → sum jobs (λ k. only (X k) (getD minutes k 0)) ≤ x
+    → sum jobs (λ k. only (X k) (getD minutes k 0 / s)) ≤ x / s
+steps-together minutes jobs s pos X x l =
+    let each = sum-le jobs (λ k. only (X k) (getD minutes k 0 / s) * s) (λ k. only (X k) (getD minutes k 0)) (λ k m. one k (X k)) in
+    le-div-iff-mul-le pos .1 (omega (arith, each, sum-mul jobs (λ k. only (X k) (getD minutes k 0 / s)) s))
+  where
+    one : (k : ℕ) (b : Bool) → only b (getD minutes k 0 / s) * s ≤ only b (getD minutes k 0)
+    one k true = div-mul-le-self (getD minutes k 0) s
+    one k false = omega arith
+
+pub overfull-by : {need minutes lanes until held : List ℕ} {jobs placed gone free modules set l T : ℕ}
+    → Laned need minutes jobs modules lanes → Serving lanes until held placed gone free modules l T
+    → servedOn (mostAt lanes) (reachIn lanes) until held modules placed l T < sum jobs (λ k. only (bit set k) (worthAt lanes k))
+    → Overfull need minutes until held jobs modules placed set l T
+overfull-by {minutes = minutes} {lanes = lanes} {jobs = jobs} {set = set} {T = T} h s over = record {
+  weight = h .weight;
+  value = h .value;
+  most = mostAt lanes;
+  reach = reachIn lanes;
+  weighs = h .weighs;
+  most-rises = h .most-rises;
+  lasts = λ X x m short. h .serves X (x / stepOf lanes) (inside-table s x m)
+      (steps-together minutes jobs (stepOf lanes) (s .step-some) X x short);
+  reach-rises = reach-in-rises s;
+  reach-none = reach-in-none s;
+  over = omega (
+    arith,
+    over,
+    sum-same jobs (λ k. only (bit set k) (worthAt lanes k)) (λ k. only (bit set k) (h .weight k * h .value k))
+        (λ k m. ap (λ (x : ℕ). only (bit set k) x) (h .worth-is k m)),
+  );
+}

@@ -1,0 +1,2 @@
+-- What the lanes serve.
+pub mod Lanes
