@@ -1,4 +1,4 @@
--- The bounds by weights and by modules, of the figures of a part-plan.
+-- The bounds by weights, by lanes and by modules, of the figures of a part-plan.
 use mathlib.Core.Path.{_≡_, refl, sym, ap, _∙_}
 use mathlib.Core.Logic.{inl, inr}
 use mathlib.Core.Bool.{Bool, true, false, not, _&&_}
@@ -16,13 +16,14 @@ use Rattle.bits.specs.Bits.{bit}
 use Rattle.schedule.specs.Plan.{Sheet, finish}
 use Rattle.schedule.specs.ListPlan.{PartPlan, occupies, occupied}
 use Rattle.schedule.proofs.Places.{CannotBeat}
-use Rattle.schedule.proofs.Bounds.{weights-cut, modules-cut}
+use Rattle.schedule.proofs.Bounds.{weights-cut, reach-cut, modules-cut}
 use Rattle.tables.specs.Tables.{sheetOf}
 use Rattle.placement.specs.declared.Part.{Part}
 use Rattle.placement.specs.Profile.{heldAt}
 use Rattle.placement.specs.Part.{wordOf, Figures}
 use Rattle.placement.proofs.Parts.{occupied-is}
 use Rattle.weights.specs.Weights.{Outweighed}
+use Rattle.lanes.specs.Lanes.{servedOn, Overfull}
 use Rattle.sums.specs.Sums.{together, Unserved}
 use Rattle.candidates.specs.Candidates.{Known, theoryPart, JobStarts}
 use Rattle.candidates.proofs.Starting.{none-before}
@@ -62,6 +63,19 @@ module _ (need minutes earlier : List ℕ) (jobs modules : ℕ) (part : Part) (k
       weights-cut S (known .fit .lasting) (known .fit .narrow) w (known .is .follows) least (starts .low)
       (none-before need minutes earlier jobs modules part known at least starts) T (o .weight) (o .most) (o .weighs)
       (omega (arith, free, of-set (λ k. getD minutes k 0 * o .weight k), o .over))
+
+  overfull-cut : Overfull need minutes (part .until) (part .held) jobs modules (part .placed) (part .unplaced) least T
+      → CannotBeat S (suc T) w
+  unfolding servedOn
+  overfull-cut o =
+      let gain : ℕ → ℕ = λ t. o .reach (T - t) - o .reach (T - suc t) in
+      let free = sum-same T (λ t. only (leb least t) (o .most (modules - heldAt (part .until) (part .held) (part .placed) t) * gain t))
+      (λ t. only (leb least t) (o .most (modules - occupied S P t) * gain t))
+      (λ t l. ap (λ (x : ℕ). only (leb least t) (o .most (modules - x) * gain t)) (held-is t)) in
+      reach-cut S (known .fit .lasting) (known .fit .narrow) w (known .is .follows) least (starts .low)
+      (none-before need minutes earlier jobs modules part known at least starts) T (o .weight) (o .value) (o .most) (o .reach)
+      (o .weighs) (o .most-rises) (o .lasts) (o .reach-none) (o .reach-rises)
+      (omega (arith, free, of-set (λ k. o .weight k * o .value k), o .over))
 
   module _ (u : Unserved minutes (part .until) (part .held) jobs modules (part .placed) (part .unplaced) (part .left) least T) where
     -- some of the jobs that are left
@@ -109,4 +123,5 @@ module _ (need minutes earlier : List ℕ) (jobs modules : ℕ) (part : Part) (k
   pub short-cut : TooFew need minutes (part .until) (part .held) jobs modules (part .placed) (part .unplaced) (part .left) least T
       → CannotBeat S (suc T) w
   short-cut (inl o) = outweighed-cut o
-  short-cut (inr u) = unserved-cut u
+  short-cut (inr (inl o)) = overfull-cut o
+  short-cut (inr (inr u)) = unserved-cut u

@@ -5,6 +5,7 @@ ghost use Prim.Native.Nat.{_+_, _-_, _*_, _<_, _≤_};
 ghost use Rattle.tables.specs.Tables.{Fit};
 ghost use Rattle.placement.specs.Profile.{heldAfter, Profile};
 ghost use Rattle.weights.specs.Weights.{Weighted};
+ghost use Rattle.values.specs.Values.{Laned};
 ghost use Rattle.bounds.specs.Bounds.{HeldAfter, SomeTooLong, TooFew, Hopeless, Bounding};
 
 // ---- the area
@@ -93,12 +94,14 @@ fn some_too_long<'a>(
 
 // ---- the free modules
 
-// Whether the modules that come free from minute l on are too few for the jobs of the set by the target, by weights or one by one.
+// Whether the modules that come free from minute l on are too few for the jobs of the set by the target: by weights, by lanes or one by
+// one.
 fn too_few<'a>(
     need: &[u16; 20],
     minutes: &[u16; 20],
     worth: &[u32; 100],
     most: &[u16; 325],
+    lanes: &[u32; 1110],
     until: &'a [u16; 20],
     held: &'a [u16; 20],
     placed: usize,
@@ -111,8 +114,8 @@ fn too_few<'a>(
     l: u16,
     target: u16,
 ) -> bool
-    requires { ⌜ ((Fit (now need) (now minutes) jobs modules) × (Weighted (now need) (now minutes) jobs modules (now worth) (now most)))
-        × (Profile (now until) (now held) placed gone free modules l) ⌝ }
+    requires { ⌜ ((Fit (now need) (now minutes) jobs modules) × ((Weighted (now need) (now minutes) jobs modules (now worth) (now most))
+        × (Laned (now need) (now minutes) jobs modules (now lanes)))) × (Profile (now until) (now held) placed gone free modules l) ⌝ }
     ensures { λ r. ⌜ (r ≡ true → TooFew (now (need .entry)) (now (minutes .entry)) (now (until .entry)) (now (held .entry)) jobs modules
         placed set left l target) ⌝ }
 {
@@ -124,6 +127,23 @@ fn too_few<'a>(
         minutes,
         worth,
         most,
+        until,
+        held,
+        placed,
+        g,
+        f,
+        modules,
+        set,
+        jobs,
+        l,
+        target,
+    ) {
+        return true;
+    }
+    if lanes::overfull(
+        need,
+        minutes,
+        lanes,
         until,
         held,
         placed,
@@ -162,6 +182,7 @@ pub fn hopeless<'a, 'b>(
     tails: &'a [u16; 20],
     worth: &[u32; 100],
     most: &[u16; 325],
+    lanes: &[u32; 1110],
     until: &'b [u16; 20],
     held: &'b [u16; 20],
     placed: usize,
@@ -175,8 +196,8 @@ pub fn hopeless<'a, 'b>(
     least: u16,
     target: u16,
 ) -> bool
-    requires { ⌜ ((Fit (now need) (now minutes) jobs modules) × (Weighted (now need) (now minutes) jobs modules (now worth) (now most)))
-        × (Bounding (now until) (now held) placed gone free modules left least target) ⌝ }
+    requires { ⌜ ((Fit (now need) (now minutes) jobs modules) × ((Weighted (now need) (now minutes) jobs modules (now worth) (now most))
+        × (Laned (now need) (now minutes) jobs modules (now lanes)))) × (Bounding (now until) (now held) placed gone free modules left least target) ⌝ }
     ensures { λ r. ⌜ (r ≡ true → Hopeless (now (need .entry)) (now (minutes .entry)) (now (tails .entry)) (now (until .entry))
         (now (held .entry)) jobs modules placed unplaced left (now (at .entry)) least target) ⌝ }
 {
@@ -191,6 +212,7 @@ pub fn hopeless<'a, 'b>(
         minutes,
         worth,
         most,
+        lanes,
         until,
         held,
         placed,
