@@ -127,7 +127,9 @@ module _ {need minutes earlier : List ℕ} {jobs modules : ℕ} {part : Part} (k
 
     module _ {child : Part} (placed : Placed part j s (getD need j 0) (getD minutes j 0) modules child) where
       pub next-fewer : ones (child .unplaced) < ones (part .unplaced)
-      next-fewer = omega (arith, child-fewer need minutes earlier jobs modules part known j (next .job) s (next .start) (next .low) child placed)
+      next-fewer =
+          let one = child-fewer need minutes earlier jobs modules part known j (next .job) s (next .start) (next .low) child placed in
+          omega (arith, one)
 
       pub next-known : Known need minutes earlier jobs modules child
       next-known = child-known need minutes earlier jobs modules part known j (next .job) s (next .start) (next .low) child placed
