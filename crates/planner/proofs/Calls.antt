@@ -12,9 +12,9 @@ use Rattle.schedule.specs.TieRule as tie
 use Rattle.schedule.proofs.Orders.{best-is}
 use Rattle.schedule.proofs.Existence.{order-not-circular}
 use Rattle.tables.specs.Tables.{sheetOf, Fit}
-use Rattle.search.specs.declared.Found.{Found}
-use Rattle.search.specs.Search.{Listed}
-use Rattle.search.proofs.Listing.{listed-circle, listed-order}
+use Rattle.listing.specs.declared.Found.{Found}
+use Rattle.listing.specs.Listing.{Listed}
+use Rattle.listing.proofs.Listing.{listed-circle, listed-order}
 use Rattle.card.specs.Card.{cardOf}
 use Rattle.sheet_format.specs.Format.{countOf, jobOf}
 use Rattle.checking.specs.Checking.{firstFailing}

@@ -82,7 +82,7 @@ fn limit_refusal(
     if over_wide(need, jobs, modules) {
         return 8;
     }
-    let listed = search::list_order(need, minutes, earlier, minutes, jobs, modules);
+    let listed = listing::list_order(need, minutes, earlier, minutes, jobs, modules);
     if listed.end == 65535 {
         return 9;
     }

@@ -3,6 +3,5 @@ pub mod Recalls
 pub mod Turns
 pub mod Passing
 pub mod Sweeps
-pub mod Listing
 pub mod Whole
 pub mod Placings

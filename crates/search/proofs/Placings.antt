@@ -1,14 +1,14 @@
 -- The tie rule's order, place by place.
 use mathlib.Core.Path.{_≡_, refl, sym, ap, _∙_, subst}
 use mathlib.Core.Logic.{_⊎_, inl, inr}
-use mathlib.Core.Bool.{true, false}
+use mathlib.Core.Bool.{true}
 use mathlib.Core.List.{List, [], _∷_, _++_, append-nil, append-assoc}
 use Prim.Native.Nat.{ℕ, suc, _+_, _≤_, _<_, zero-le}
 use native.Mathlib.Omega.{arith}
 use native.Mathlib.Nat.{not-suc-le-zero}
 use lib.ListN.{length, getD, take, length-append}
 use lib.Seq.{getD-at, getD-take}
-use Rattle.counting.proofs.Tests.{true-or-false, last-or-below, less-or-not}
+use Rattle.counting.proofs.Tests.{last-or-below, less-or-not}
 use Rattle.schedule.specs.Plan.{Sheet}
 use Rattle.schedule.specs.ListPlan.{Order, ready, partOf}
 use Rattle.schedule.specs.TieRule as tie
@@ -21,10 +21,10 @@ use Rattle.placement.specs.declared.Part.{Part}
 use Rattle.placement.specs.Part.{wordOf, Placed, firstPart}
 use Rattle.placement.proofs.Parts.{left-count, start-short}
 use Rattle.candidates.specs.Candidates.{Known, theoryPart, JobStart}
+use Rattle.candidates.proofs.Children.{child-known}
 use Rattle.branching.specs.Branching.{noneSettled}
-use Rattle.search.specs.declared.Found.{Found}
+use Rattle.listing.specs.declared.Found.{Found}
 use Rattle.search.specs.Search.{Remembered, Fails, Outcome, Searching, Lowest, Going, Placing}
-use Rattle.search.proofs.Turns.{child-known}
 use Rattle.search.proofs.Whole.{none-settled}
 
 -- as many jobs are in the word as are placed
@@ -32,25 +32,6 @@ pub word-length : {need minutes earlier : List ℕ} {jobs modules : ℕ} {part :
     → length (wordOf part) ≡ part .placed
 word-length {need} {minutes} {earlier} {jobs} {modules} {part} k =
     omega (arith, left-count need minutes earlier jobs modules (k .fit) part (wordOf part) (k .is), k .is .figures .sizes)
-
--- a job that may come next has a start
-pub starts-short : {need minutes earlier : List ℕ} {jobs modules : ℕ} {part : Part} {j s : ℕ} → Known need minutes earlier jobs modules part
-    → ready (sheetOf need minutes earlier jobs modules) (theoryPart need minutes earlier jobs modules part .placed) j ≡ true
-    → JobStart need minutes earlier jobs modules part j s → s < 65535
-starts-short {need} {minutes} {earlier} {jobs} {modules} {part} {j} k r h =
-    omega (arith, start-short need minutes earlier jobs modules (k .fit) part (wordOf part) (k .is) j r, h .here r)
-
--- and a job with a start may come next
-pub start-low : {need minutes earlier : List ℕ} {jobs modules : ℕ} {part : Part} {j s : ℕ} → Known need minutes earlier jobs modules part
-    → JobStart need minutes earlier jobs modules part j s → ¬ (s ≡ 65535) → s < 65535
-start-low {need} {minutes} {earlier} {jobs} {modules} {part} {j} {s} k h n =
-    go (true-or-false (ready (sheetOf need minutes earlier jobs modules) (theoryPart need minutes earlier jobs modules part .placed) j))
-  where
-    go : (ready (sheetOf need minutes earlier jobs modules) (theoryPart need minutes earlier jobs modules part .placed) j ≡ true)
-        ⊎ (ready (sheetOf need minutes earlier jobs modules) (theoryPart need minutes earlier jobs modules part .placed) j ≡ false)
-        → s < 65535
-    go (inl r) = starts-short k r h
-    go (inr r) = absurd (n (h .none r))
 
 -- ---- one job tried at a place
 

@@ -29,7 +29,7 @@ use Rattle.relations.specs.Relations.{rowAt, Related}
 use Rattle.candidates.specs.Candidates.{Known, EachStart, ChoiceOf}
 use Rattle.branching.specs.Branching.{Alone, ComesBefore, ToTry, Trying}
 use Rattle.candidates.proofs.Starting.{started}
-use Rattle.search.specs.declared.Found.{Found}
+use Rattle.listing.specs.declared.Found.{Found}
 use Rattle.search.specs.Search.{Fails, Outcome, noneFound, TriedSo}
 
 -- no order

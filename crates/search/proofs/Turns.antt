@@ -1,29 +1,29 @@
 -- What one call of the search does to what is known.
-use mathlib.Core.Path.{_≡_, sym, ap, _∙_, subst}
+use mathlib.Core.Path.{_≡_, sym, ap, _∙_}
 use mathlib.Core.Bool.{true}
 use mathlib.Core.List.{List, [], _∷_, _++_, append-nil}
 use Prim.Native.Nat.{ℕ, suc, _+_, _<_}
 use native.Mathlib.Omega.{arith}
 use lib.Count.{ones}
-use lib.ListN.{length, getD, take, length-append}
+use lib.ListN.{length, getD, length-append}
 use borrow.Author.Tests.{ltb-true, ltb-false, not-true, not-false}
-use Rattle.counting.specs.Counting.{only, largest}
-use Rattle.counting.proofs.Ranges.{largest-same}
-use Rattle.schedule.specs.Plan.{Sheet, finish}
+use Rattle.counting.specs.Counting.{largest}
+use Rattle.schedule.specs.Plan.{Sheet}
 use Rattle.schedule.specs.ListPlan.{Order, PartPlan, ready}
-use Rattle.schedule.specs.TieRule.{endOf}
 use Rattle.schedule.proofs.Starts.{ready-says}
 use Rattle.schedule.proofs.Places.{Begins, CannotBeat}
 use Rattle.schedule.proofs.Cuts.{children-cut}
 use Rattle.tables.specs.Tables.{sheetOf}
 use Rattle.placement.specs.declared.Part.{Part}
-use Rattle.placement.specs.Part.{wordOf, IsPart, Placeable, Placed}
-use Rattle.placement.proofs.Parts.{left-count, all-placed, placeable, fewer, placed-part}
+use Rattle.placement.specs.Part.{wordOf}
+use Rattle.placement.proofs.Parts.{left-count}
 use Rattle.memory.specs.Entries.{Hit, Adds}
-use Rattle.candidates.specs.Candidates.{Known, theoryPart, JobStart, JobStarts}
-use Rattle.candidates.proofs.Starting.{started, none-before}
+use Rattle.candidates.specs.Candidates.{Known, theoryPart, JobStarts}
+use Rattle.candidates.proofs.Starting.{none-before}
+use Rattle.listing.specs.Listing.{finishedAs}
+use Rattle.listing.proofs.Listing.{whole, end-is, word-is, finished-order}
 use Rattle.search.proofs.Recalls.{remembered-adds, hit-cut}
-use Rattle.search.specs.Search.{Remembered, Fails, Outcome, finishedAs}
+use Rattle.search.specs.Search.{Remembered, Fails, Outcome}
 
 module _ (need minutes earlier : List ℕ) (jobs modules : ℕ) where
   abbrev S : Sheet
@@ -42,29 +42,19 @@ module _ (need minutes earlier : List ℕ) (jobs modules : ℕ) where
     -- ---- every job is placed
 
     module _ (z : ones (part .unplaced) ≡ 0) where
-      pub whole : Order S w
-      whole = record { all = omega (arith, size); follows = known .is .follows }
-
-      pub end-is : largest jobs (λ i. getD (part .ends) i 0) ≡ endOf S w
-      end-is = largest-same jobs _ _ (λ i l. known .is .figures .ends i l
-          ∙ ap (λ b. only b (finish S (P .plan) i)) (all-placed need minutes earlier jobs modules (known .fit) part w (known .is) z i l))
-
-      word-is : take jobs (part .order) ≡ w
-      word-is = ap (λ (k : ℕ). take k (part .order)) (let e : jobs ≡ part .placed = omega (arith, known .is .figures .sizes) in e)
-
       pub visit-leaf : (target : ℕ) → Outcome S target w (finishedAs jobs part target)
       unfolding finishedAs CannotBeat
       visit-leaf target = record {
         size = known .is .figures .order-length;
         hit = λ h. record {
-          order = subst (Order S) (sym word-is) whole;
-          begins = ([], word-is ∙ sym (append-nil w));
-          end = ap (endOf S) word-is ∙ sym end-is;
+          order = finished-order known z target .order;
+          begins = ([], word-is known z ∙ sym (append-nil w));
+          end = finished-order known z target .end;
           within = ltb-false target (largest jobs (λ i. getD (part .ends) i 0)) (not-true _ h);
         };
         miss = λ h o d b. rw (alone o d b) (omega (
           arith,
-          end-is,
+          end-is known z,
           ltb-true target (largest jobs (λ i. getD (part .ends) i 0))
               (not-false _ h),
         ));
@@ -72,7 +62,7 @@ module _ (need minutes earlier : List ℕ) (jobs modules : ℕ) where
         where
           alone : (o : List ℕ) → Order S o → Begins w o → o ≡ w
           alone o d ([], e) = e ∙ append-nil w
-          alone o d (j ∷ p, e) = absurd (omega (arith, d .all, whole .all, ap length e, length-append w (j ∷ p)))
+          alone o d (j ∷ p, e) = absurd (omega (arith, d .all, whole known z .all, ap length e, length-append w (j ∷ p)))
 
     -- ---- a part-plan that was remembered
 
@@ -80,32 +70,6 @@ module _ (need minutes earlier : List ℕ) (jobs modules : ℕ) where
         → 0 < ones (part .unplaced) → Remembered S m e → Hit m jobs (part .ends) (part .unplaced) least → CannotBeat S e w
     recall-cut at least starts e m pos = hit-cut need minutes earlier jobs modules part known m e least pos
         (none-before need minutes earlier jobs modules part known at least starts)
-
-    -- ---- a child
-
-    module _ (job : ℕ) (l : job < jobs) (s : ℕ) (start : JobStart need minutes earlier jobs modules part job s) where
-      module _ (low : s < 65535) where
-        pub child-ready : ready S (P .placed) job ≡ true
-        child-ready = started start low
-
-        pub child-placeable : Placeable part job s (getD need job 0) (getD minutes job 0) modules
-        child-placeable = rw (start .here child-ready)
-            (placeable need minutes earlier jobs modules (known .fit) part w (known .is) job child-ready)
-
-        module _ (child : Part) (placed : Placed part job s (getD need job 0) (getD minutes job 0) modules child) where
-          child-is : IsPart S (w ++ (job ∷ [])) child
-          child-is = placed-part need minutes earlier jobs modules (known .fit) part w (known .is) job child-ready child
-              (rw (start .here child-ready) at placed)
-
-          pub child-fewer : suc (ones (child .unplaced)) ≡ ones (part .unplaced)
-          child-fewer = ap (λ (x : ℕ). suc (ones x)) (placed .unplaced)
-              ∙ fewer need minutes earlier jobs modules (known .fit) part w (known .is) job child-ready
-
-          pub child-known : Known need minutes earlier jobs modules child
-          child-known = record { fit = known .fit; is = subst (λ (v : List ℕ). IsPart S v child) (sym (child-is .word)) child-is }
-
-          pub child-word : wordOf child ≡ w ++ (job ∷ [])
-          child-word = child-is .word
 
     -- ---- all children
 

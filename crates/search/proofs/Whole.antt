@@ -17,12 +17,14 @@ use Rattle.schedule.proofs.Places.{CannotBeat}
 use Rattle.schedule.proofs.EndSums.{end-sum}
 use Rattle.tables.specs.Tables.{sheetOf, Fit}
 use Rattle.placement.specs.Part.{wordOf, firstPart}
+use Rattle.candidates.proofs.Children.{first-known}
 use Rattle.branching.specs.Branching.{noneSettled}
 use Rattle.sums.specs.Sums.{Rounded}
-use Rattle.search.specs.declared.Found.{Found}
-use Rattle.search.specs.Search.{Remembered, Outcome, SettledSo, Searching, OrderOf, keptAs, Lowering, Lowered, Lowest}
+use Rattle.listing.specs.declared.Found.{Found}
+use Rattle.listing.specs.Listing.{Listed, OrderOf}
+use Rattle.listing.proofs.Listing.{listed-circle}
+use Rattle.search.specs.Search.{Remembered, Outcome, SettledSo, Searching, keptAs, Lowering, Lowered, Lowest, Answer}
 use Rattle.search.proofs.Recalls.{remembered-less}
-use Rattle.search.proofs.Listing.{first-known}
 
 -- ---- nothing is settled
 
@@ -37,6 +39,11 @@ none-settled S target v = record {
   each = λ u i q x e l b. clash (bit 0 x) (ap (λ (y : ℕ). bit y x) (sym (zeros 20 i)) ∙ b) (bit-none x);
   same-start = λ x l b. clash (bit 0 x) b (bit-none x);
 }
+
+-- ---- no order
+
+pub listed-circular : {S : Sheet} {r : Found} → Listed S r → r .end ≡ 65535 → Answer S r
+listed-circular h e = record { best = λ c. absurd (c (listed-circle h e)); end = λ c. absurd (c (listed-circle h e)) }
 
 -- ---- the earliest end
 

@@ -1,12 +1,10 @@
 -- What the search's figures stand for, and what it keeps true from call to call.
 use mathlib.Core.Path.{_≡_}
-use mathlib.Core.Logic.{_⊎_}
 use mathlib.Core.Bool.{true, false, not}
 use mathlib.Core.List.{List, [], _∷_, _++_}
 use Prim.Native.Nat.{ℕ, suc, _≤_, _<_}
-use lib.Dec.{ltb}
 use lib.ListN.{length, getD, take, replicate}
-use Rattle.counting.specs.Counting.{only, largest}
+use Rattle.counting.specs.Counting.{only}
 use Rattle.bits.specs.Bits.{bit}
 use Rattle.schedule.specs.Plan.{Sheet, finish, Circular}
 use Rattle.schedule.specs.ListPlan.{Order, noJobs, ready, Follows, startOf, partOf}
@@ -18,10 +16,11 @@ use Rattle.placement.specs.declared.Part.{Part}
 use Rattle.placement.specs.Part.{wordOf}
 use Rattle.relations.specs.Relations.{Related}
 use Rattle.candidates.specs.Candidates.{Known}
+use Rattle.listing.specs.declared.Found.{Found}
+use Rattle.listing.specs.Listing.{OrderOf}
 use Rattle.weights.specs.Weights.{Weighted}
 use Rattle.bounds.specs.Bounds.{Tails}
 use Rattle.memory.specs.Entries.{Entry, entries, entryAt, lastAt, endAt}
-use Rattle.search.specs.declared.Found.{Found}
 
 -- ---- working memory
 
@@ -55,12 +54,6 @@ pub record Outcome (S : Sheet) (target : ℕ) (v : List ℕ) (r : Found) : Type 
   pub size : length (r .order) ≡ 20
   pub hit : r .hit ≡ true → Reaches S target v r
   pub miss : r .hit ≡ false → Fails S target v
-
--- the order of a part-plan that has placed every job, where it ends by the target
-unfoldable pub finishedAs : ℕ → Part → ℕ → Found
-finishedAs jobs p target =
-    let end = largest jobs (λ i. getD (p .ends) i 0) in
-    record { hit = not (ltb target end); end = end; order = p .order }
 
 abbrev pub noneFound : Found
 noneFound = record { hit = false; end = 0; order = replicate 20 0 }
@@ -101,22 +94,7 @@ abbrev pub TriedSo : List ℕ → List ℕ → List ℕ → ℕ → ℕ → Part
 TriedSo need minutes earlier jobs modules part target at tried start = (x : ℕ) → x < jobs → bit tried x ≡ true
     → (getD at x 0 ≤ start) × ((getD at x 0 < 65535) × Fails (sheetOf need minutes earlier jobs modules) target (wordOf part ++ (x ∷ [])))
 
--- ---- list heuristics
-
--- the end of an order's list plan and the order, or 65535 where some job would have to end before itself
-pub record Listed (S : Sheet) (r : Found) : Type 0 where
-  pub size : length (r .order) ≡ 20
-  pub says : ((r .end ≡ 65535) × Circular S)
-      ⊎ ((Order S (take (S .jobs) (r .order))) × ((endOf S (take (S .jobs) (r .order)) ≡ r .end) × (r .end < 65535)))
-
 -- ---- the whole search
-
--- an order and its end
-pub record OrderOf (S : Sheet) (r : Found) : Type 0 where
-  pub size : length (r .order) ≡ 20
-  pub order : Order S (take (S .jobs) (r .order))
-  pub end : endOf S (take (S .jobs) (r .order)) ≡ r .end
-  pub low : r .end < 65535
 
 -- the same order, where none ends earlier
 abbrev pub keptAs : Found → Found

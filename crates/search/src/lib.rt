@@ -1,57 +1,21 @@
 // The search for the tie rule's order. One search decides whether some order that goes on from a part-plan ends by a target: it lowers the
 // end until no order ends earlier, and then it settles the places of the order one after another.
 ghost use mathlib.Core.Path.{_≡_};
-ghost use mathlib.Core.Logic.{_⊎_};
 ghost use mathlib.Core.Bool.{true};
 ghost use mathlib.Core.List.{[], _∷_, _++_};
-ghost use Prim.Native.Nat.{suc, _+_, _<_, _≤_};
+ghost use Prim.Native.Nat.{suc, _+_, _<_};
 ghost use lib.ListN.{length, getD, take, replicate};
-ghost use Rattle.counting.specs.Counting.{largest};
 ghost use Rattle.schedule.specs.ListPlan.{ready};
 ghost use Rattle.schedule.specs.TieRule as tie;
 ghost use Rattle.schedule.specs.TieRule.{endOf};
 ghost use Rattle.tables.specs.Tables.{sheetOf, Fit};
 ghost use Rattle.placement.specs.Part.{wordOf, firstPart};
 ghost use Rattle.candidates.specs.Candidates.{Known, theoryPart, EachStart};
-ghost use Rattle.search.specs.Search.{Outcome, finishedAs, noneFound, Searching, TriedSo, Remembered};
-ghost use Rattle.search.specs.Search.{Listed, keptAs, Lowering, Lowered, Lowest, Going, Placing, Answer};
+ghost use Rattle.search.specs.Search.{Outcome, noneFound, Searching, TriedSo, Remembered};
+ghost use Rattle.search.specs.Search.{keptAs, Lowering, Lowered, Lowest, Going, Placing, Answer};
 use branching::Settled;
+use listing::Found;
 use placement::Part;
-
-// An order that ends by a target, with its end, or none.
-pub struct Found {
-    pub hit: bool,
-    pub end: u16,
-    pub order: [u8; 20],
-}
-
-// The last of the ends.
-fn last_end(ends: &[u16; 20], jobs: usize) -> u16
-    requires { ⌜ jobs ≤ 20 ⌝ }
-    ensures { λ r. ⌜ r ≡ largest jobs (λ i. getD (now (ends .entry)) i 0) ⌝ }
-{
-    let mut r: u16 = 0;
-    let mut k: usize = 0;
-    while k < jobs {
-        r = placement::later(r, ends[k]);
-        k += 1;
-    }
-    r
-}
-
-// The order of a part-plan that has placed every job, where it ends by the target.
-fn finished(part: Part, jobs: usize, target: u16) -> Found
-    requires { ⌜ jobs ≤ 20 ⌝ }
-    ensures { λ r. ⌜ r ≡ finishedAs jobs part target ⌝ }
-{
-    let end = last_end(&part.ends, jobs);
-    let order = part.order;
-    Found {
-        hit: !(target < end),
-        end,
-        order,
-    }
-}
 
 // No order.
 fn none_found() -> Found
@@ -90,7 +54,7 @@ fn visit(
 {
     let unplaced = part.unplaced;
     if u32::count_ones(unplaced) == 0 {
-        return finished(part, jobs, target);
+        return listing::finished(part, jobs, target);
     }
     let starts = candidates::ready_starts(
         need,
@@ -244,66 +208,6 @@ fn try_children(
         target,
         memory,
     )
-}
-
-// ---- list heuristics
-
-// The list plan that takes the heaviest of the jobs that start first, or the end 65535 where some job must end before itself.
-pub fn list_order(
-    need: &[u16; 20],
-    minutes: &[u16; 20],
-    earlier: &[u32; 20],
-    weights: &[u16; 20],
-    jobs: usize,
-    modules: u16,
-) -> Found
-    requires { ⌜ Fit (now need) (now minutes) jobs modules ⌝ }
-    ensures { λ r. ⌜ Listed (sheetOf (now (need .entry)) (now (minutes .entry)) (now (earlier .entry)) jobs modules) r ⌝ }
-{
-    let mut part = placement::first_part(need, minutes, jobs, modules);
-    while u32::count_ones(part.unplaced) != 0 {
-        let starts = candidates::starts_of(need, minutes, earlier, jobs, modules, part);
-        let at = starts.at;
-        let c = candidates::next_choice(&at, weights, part.unplaced, jobs);
-        if c.start == 65535 {
-            return Found {
-                hit: false,
-                end: 65535,
-                order: [0u8; 20],
-            };
-        }
-        let j = c.job;
-        part = placement::place(part, j, c.start, need[j], minutes[j], modules);
-    }
-    finished(part, jobs, 65535)
-}
-
-// The order that ends earlier.
-fn better(a: Found, b: Found) -> Found
-    ensures { λ r. ⌜ (r ≡ a) ⊎ (r ≡ b) ⌝ }
-{
-    if b.end < a.end {
-        return b;
-    }
-    a
-}
-
-// The best of three list plans.
-fn first_listed(
-    need: &[u16; 20],
-    minutes: &[u16; 20],
-    earlier: &[u32; 20],
-    tails: &[u16; 20],
-    jobs: usize,
-    modules: u16,
-) -> Found
-    requires { ⌜ Fit (now need) (now minutes) jobs modules ⌝ }
-    ensures { λ r. ⌜ Listed (sheetOf (now (need .entry)) (now (minutes .entry)) (now (earlier .entry)) jobs modules) r ⌝ }
-{
-    let by_tail = list_order(need, minutes, earlier, tails, jobs, modules);
-    let by_minutes = list_order(need, minutes, earlier, minutes, jobs, modules);
-    let by_need = list_order(need, minutes, earlier, need, jobs, modules);
-    better(by_tail, better(by_minutes, by_need))
 }
 
 // ---- the earliest end
@@ -462,13 +366,6 @@ fn try_place(
     )
 }
 
-// A job's number as an index.
-fn wide(x: u8) -> usize
-    ensures { λ r. ⌜ r ≡ x ⌝ }
-{
-    x as usize
-}
-
 // An order that ends first, and at place k has the least job that an order which ends first can have there.
 fn settle_place(
     need: &[u16; 20],
@@ -492,7 +389,7 @@ fn settle_place(
         (now (memory .exit)) (suc (r .end)) ⌝ }
 {
     let k = part.placed;
-    let stop = wide(best.order[k]);
+    let stop = listing::wide(best.order[k]);
     let mut j: usize = 0;
     while j < stop {
         let found = try_place(
@@ -585,7 +482,7 @@ fn first_order(
             jobs,
             modules,
             part,
-            wide(best.order[k]),
+            listing::wide(best.order[k]),
         );
         k += 1;
     }
@@ -613,7 +510,7 @@ pub fn run(
     let weights = weights::weightings(need, minutes, jobs, modules);
     let worth = weights.worth;
     let most = weights.most;
-    let listed = first_listed(need, minutes, earlier, &tails, jobs, modules);
+    let listed = listing::first_listed(need, minutes, earlier, &tails, jobs, modules);
     if listed.end == 65535 {
         return listed;
     }

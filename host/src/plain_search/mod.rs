@@ -1,6 +1,7 @@
 //! The library's search in plain Rust: the same cuts, the same memory, the same order of work. The benchmark measures by it what
 //! the proved code costs, counts the part-plans that it visits, and leaves out one rule after another.
 mod bounds;
+mod listing;
 mod memory;
 mod part;
 mod relations;
@@ -182,7 +183,7 @@ pub fn run_with(tables: &Tables, memory: &mut [u8], rules: &Rules) -> Outcome {
     let mut memory = Memory::new(memory, tables.jobs);
     memory.clear();
     let relations = Relations::of(tables);
-    let Some(listed) = tables.listed(&relations.tails, rules.three_list_plans) else { return Outcome::NoOrder };
+    let Some(listed) = tables.listed(&relations.tails, rules.exchanges) else { return Outcome::NoOrder };
     let weights = Weights::of(tables);
     let settled = [0; MOST_JOBS];
     let mut search = Search { tables, rules: *rules, relations, weights, sums: Sums::new(), memory, settled, visited: 0 };

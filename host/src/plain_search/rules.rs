@@ -23,8 +23,8 @@ pub struct Rules {
     pub alike: bool,
     /// Choice: a job that starts first and can run beside no other comes next.
     pub alone: bool,
-    /// The best of three list plans to begin with, or the first of them.
-    pub three_list_plans: bool,
+    /// The first list plan is improved by exchanges of two jobs.
+    pub exchanges: bool,
     /// A search that would visit more part-plans is given up.
     pub most_visited: u64,
 }
@@ -42,7 +42,7 @@ impl Default for Rules {
             idle: true,
             alike: true,
             alone: true,
-            three_list_plans: true,
+            exchanges: true,
             most_visited: u64::MAX,
         }
     }
@@ -63,7 +63,7 @@ impl Rules {
             ("idle", Rules { idle: false, ..all }),
             ("alike", Rules { alike: false, ..all }),
             ("alone", Rules { alone: false, ..all }),
-            ("three list plans", Rules { three_list_plans: false, ..all }),
+            ("exchanges", Rules { exchanges: false, ..all }),
         ]
     }
 }

@@ -8,10 +8,10 @@ use lib.ListN.{length, getD}
 use Rattle.tables.specs.Tables.{sheetOf}
 use Rattle.placement.specs.Part.{wordOf}
 use Rattle.candidates.proofs.Starting.{job-starts, starts-asked}
+use Rattle.candidates.proofs.Children.{child-placeable, child-fewer, child-known, child-word}
 use Rattle.bounds.proofs.Cuts.{bounding, hopeless-cut}
 use Rattle.search.specs.Search.{Remembered}
 use Rattle.search.proofs.Turns.{visit-leaf, recall-cut, visit-all, visit-remember}
-use Rattle.search.proofs.Turns.{child-placeable, child-fewer, child-known, child-word}
 use Rattle.relations.proofs.Steps.{one-less}
 use Rattle.search.proofs.Passing.{passed-cut, settled-more}
 use Rattle.search.proofs.Sweeps.{none-outcome, found-below, Sweep, sweep-first, chosen-in, sweep-next, sweep-all, all-tried, trying}
@@ -30,7 +30,7 @@ use Rattle.branching.proofs.with_settled.Reads as with-settled-reads
 use Rattle.memory.proofs.recall.Reads as recall-reads
 use Rattle.memory.proofs.remember.Reads as remember-reads
 use Rattle.placement.proofs.with_job.Reads as with-job-reads
-use Rattle.search.proofs.finished.Reads as finished-reads
+use Rattle.listing.proofs.finished.Reads as finished-reads
 use Rattle.search.proofs.none_found.Reads as none-found-reads
 use Rattle.search.proofs.try_children.Kinds as try-children-kinds
 use Rattle.search.proofs.+try_children+visit.Lts-try_children as try-children-lts

@@ -1,8 +1,7 @@
 -- `search::go_on` meets its contract.
 use Rattle.schedule.proofs.Starts.{ready-says}
 use Rattle.relations.proofs.Steps.{in-20, at-2}
-use Rattle.search.proofs.Turns.{child-placeable, child-known, child-word}
-use Rattle.search.proofs.Placings.{starts-short}
+use Rattle.candidates.proofs.Children.{starts-short, child-placeable, child-known, child-word}
 use Rattle.search.proofs.go_on.Statement.{statement}
 use Rattle.search.proofs.go_on.Tie as tie
 

@@ -2,8 +2,10 @@
 use mathlib.Core.Path.{_≡_, ap, _∙_}
 use Prim.Native.Nat.{ℕ}
 use lib.ListN.{length, replicate}
+use Rattle.candidates.proofs.Children.{first-known}
+use Rattle.listing.proofs.Listing.{listed-order}
 use Rattle.search.proofs.Recalls.{remembered-none}
-use Rattle.search.proofs.Listing.{first-known, listed-circular, listed-order}
+use Rattle.search.proofs.Whole.{listed-circular}
 use borrow.Author.Needs.{needs}
 use Rattle.search.proofs.run.Statement.{statement}
 use Rattle.search.proofs.run.Tie as tie

@@ -1,8 +1,8 @@
 -- `search::try_place` meets its contract.
 use Prim.Native.Nat.{_<_}
-use Rattle.search.proofs.Turns.{child-placeable, child-word}
+use Rattle.candidates.proofs.Children.{start-low, child-placeable, child-word}
 use Rattle.search.proofs.Sweeps.{none-outcome}
-use Rattle.search.proofs.Placings.{start-low, not-next, place-enter}
+use Rattle.search.proofs.Placings.{not-next, place-enter}
 use borrow.Author.Needs.{needs}
 use Rattle.search.proofs.try_place.Statement.{statement}
 use Rattle.search.proofs.try_place.Tie as tie

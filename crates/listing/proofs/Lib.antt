@@ -1,0 +1,2 @@
+-- The laws of the list plans to begin with.
+pub mod Listing
