@@ -27,7 +27,7 @@ struct Totals {
 }
 
 // The product of two numbers.
-fn times(a: u16, b: u16) -> u32
+pub fn times(a: u16, b: u16) -> u32
     ensures { λ r. ⌜ r ≡ a * b ⌝ }
 {
     (a as u32) * (b as u32)
