@@ -6,7 +6,7 @@ use mathlib.Core.List.{List}
 use Prim.Native.Nat.{ℕ, _+_, _*_, _/_, _≤_, _<_}
 use lib.ListN.{length, getD}
 use Rattle.counting.specs.Counting.{only, sum}
-use Rattle.weights.specs.Weights.{Weighs}
+use Rattle.weights.specs.Weights.{Weighs, Knapsack}
 
 -- ---- the parts of the table
 
@@ -48,3 +48,34 @@ pub record Laned (need minutes : List ℕ) (jobs modules : ℕ) (lanes : List �
   pub worth-small : (k : ℕ) → k < 20 → worthAt lanes k ≤ 16320
   pub most-small : (x : ℕ) → x < 65 → mostAt lanes x ≤ 720
   pub reach-small : (x : ℕ) → x < 1024 → reachAt lanes x ≤ 5100
+
+-- ---- what it is made of
+
+-- jobs that are no wider than the cabinet
+abbrev pub Narrow : List ℕ → ℕ → ℕ → Type 0
+Narrow need jobs modules = ((0 < modules) × (modules ≤ 64)) × (((j : ℕ) → j < jobs → getD need j 0 ≤ modules) × (jobs ≤ 20))
+
+-- a weight for each job, and the most weight that can stand on each number of modules
+pub record Chosen (need : List ℕ) (jobs modules : ℕ) (weight most : List ℕ) : Type 0 where
+  pub weighs : Weighs need jobs modules (λ k. getD weight k 0) (λ x. getD most x 0)
+  pub rises : (a b : ℕ) → a ≤ b → b ≤ modules → getD most a 0 ≤ getD most b 0
+  pub light : (k : ℕ) → getD weight k 0 ≤ 64
+  pub small : (x : ℕ) → getD most x 0 ≤ 720
+
+-- a value for each job, and none for a job that is shorter than a step
+pub record Valued (minutes : List ℕ) (step : ℕ) (value : List ℕ) : Type 0 where
+  pub small : (k : ℕ) → getD value k 0 ≤ 255
+  pub short : (k : ℕ) → getD minutes k 0 < step → getD value k 0 ≡ 0
+
+-- the most value of the first n jobs that a lane can serve in each number of steps
+pub record Reached (minutes value : List ℕ) (n step : ℕ) (reach : List ℕ) : Type 0 where
+  pub table : Knapsack (λ k. getD minutes k 0 / step) n 1023 255 (λ k. getD value k 0) reach
+  pub none : getD reach 0 0 ≡ 0
+
+-- the parts of the table side by side
+pub record Joined (reach most weight value : List ℕ) (step : ℕ) (lanes : List ℕ) : Type 0 where
+  pub size : length lanes ≡ 1110
+  pub reach-is : (x : ℕ) → x < 1024 → reachAt lanes x ≡ getD reach x 0
+  pub most-is : (x : ℕ) → x < 65 → mostAt lanes x ≡ getD most x 0
+  pub worth-is : (k : ℕ) → k < 20 → worthAt lanes k ≡ getD weight k 0 * getD value k 0
+  pub step-is : stepOf lanes ≡ step

@@ -3,17 +3,17 @@ use mathlib.Core.Path.{_≡_, _∙_}
 use mathlib.Core.Logic.{_⊎_, inl, inr}
 use mathlib.Core.Bool.{true, false}
 use mathlib.Core.List.{List}
-use Prim.Native.Nat.{ℕ, suc, _+_, _-_, _*_, _/_, _%_, _≤_, _<_, zero-le}
+use Prim.Native.Nat.{ℕ, suc, _+_, _-_, _*_, _/_, _%_, _≤_, _<_, max, zero-le}
 use native.Mathlib.Omega.{arith}
-use native.Mathlib.Nat.{le-trans, mul-le-mul, mul-comm, div-le-of-le-mul, not-suc-le-zero}
+use native.Mathlib.Nat.{le-trans, mul-le-mul, mul-comm, mul-suc, div-le-of-le-mul, not-suc-le-zero}
 use native.Mathlib.Numerals.{add-one}
 use lib.Dec.{eqb, leb}
-use borrow.Author.Tests.{le-leb}
+use borrow.Author.Tests.{le-leb, lt-leb}
 use lib.ListN.{getD, replicate, length-replicate}
 use Rattle.counting.specs.Counting.{only, sum}
-use Rattle.counting.proofs.Tests.{true-or-false, last-or-below}
+use Rattle.counting.proofs.Tests.{true-or-false, less-or-not, last-or-below}
 use Rattle.tables.specs.Tables.{Fit}
-use Rattle.weights.specs.Weights.{Weighs, weightIn, mostWith, Put, MostOf, Weighting, WeightedTo}
+use Rattle.weights.specs.Weights.{Holds, weightIn, mostWith, Put, Knapsack, MostOf, Weighting, WeightedTo}
 use Rattle.weights.proofs.Puts.{zeros}
 
 -- ---- the weight of one job
@@ -34,7 +34,7 @@ figures modules q width m w l =
       more = mul-le-mul {n₂ = 6} {m₂ = 6} (omega arith) whole;
     }
 
-weight-light : (modules q width : ℕ) → modules ≤ 64 → width ≤ modules → q < 5 → weightIn modules q width ≤ 36
+pub weight-light : (modules q width : ℕ) → modules ≤ 64 → width ≤ modules → q < 5 → weightIn modules q width ≤ 36
 unfolding weightIn
 weight-light modules q width m w l = go (true-or-false (eqb ((q + 2) * width % modules) 0))
   where
@@ -51,22 +51,22 @@ module _ {need minutes : List ℕ} {jobs modules : ℕ} (fit : Fit need minutes 
   pub worth-small : getD minutes k 0 * weightIn modules q (getD need k 0) ≤ 51840
   worth-small = mul-le-mul {n₂ = 1440} {m₂ = 36} (fit .short k l) job-light
 
--- ---- the table of one weighting
+-- ---- a table with one job more
 
--- a table of the first n jobs, and one that counts one job more
-weighs-more : (need : List ℕ) (n modules : ℕ) (y K K′ : ℕ → ℕ) → Weighs need n modules y K
-    → ((x : ℕ) → x ≤ modules → K x ≤ K′ x) → ((x : ℕ) → x ≤ modules → getD need n 0 ≤ x → y n + K (x - getD need n 0) ≤ K′ x)
-    → Weighs need (suc n) modules y K′
+-- a bound for the first n jobs, and one that counts one job more
+holds-more : (width : ℕ → ℕ) (n top : ℕ) (y K K′ : ℕ → ℕ) → Holds width n top y K
+    → ((x : ℕ) → x ≤ top → K x ≤ K′ x) → ((x : ℕ) → x ≤ top → width n ≤ x → y n + K (x - width n) ≤ K′ x)
+    → Holds width (suc n) top y K′
 unfolding sum
-weighs-more need n modules y K K′ h keeps takes X x l fits = go (true-or-false (X n))
+holds-more width n top y K K′ h keeps takes X x l fits = go (true-or-false (X n))
   where
     go : (X n ≡ true) ⊎ (X n ≡ false) → sum n (λ k. only (X k) (y k)) + only (X n) (y n) ≤ K′ x
     go (inl e) =
-        let f : sum n (λ k. only (X k) (getD need k 0)) + getD need n 0 ≤ x = rw e at fits in
-        let below = h X (x - getD need n 0) (omega arith) (omega arith) in
+        let f : sum n (λ k. only (X k) (width k)) + width n ≤ x = rw e at fits in
+        let below = h X (x - width n) (omega arith) (omega arith) in
         rw e (omega (arith, takes x l (omega arith)))
     go (inr e) =
-        let f : sum n (λ k. only (X k) (getD need k 0)) + 0 ≤ x = rw e at fits in
+        let f : sum n (λ k. only (X k) (width k)) + 0 ≤ x = rw e at fits in
         rw e (omega (arith, h X x l (omega arith), keeps x l))
 
 most-with-keeps : (old : List ℕ) (width weight x : ℕ) → getD old x 0 ≤ mostWith old width weight x
@@ -77,37 +77,65 @@ most-with-takes : (old : List ℕ) (width weight x : ℕ) → width ≤ x → we
 unfolding mostWith
 most-with-takes old width weight x l = rw (le-leb width x l) (omega arith)
 
-most-with-small : (old : List ℕ) (width weight x b : ℕ) → ((p : ℕ) → getD old p 0 ≤ b) → weight ≤ 36 → mostWith old width weight x ≤ b + 36
+most-with-small : (old : List ℕ) (width weight x b each : ℕ) → ((p : ℕ) → getD old p 0 ≤ b) → weight ≤ each
+    → mostWith old width weight x ≤ b + each
 unfolding mostWith
-most-with-small old width weight x b h l = go (true-or-false (leb width x))
+most-with-small old width weight x b each h l = go (true-or-false (leb width x))
   where
-    go : (leb width x ≡ true) ⊎ (leb width x ≡ false) → mostWith old width weight x ≤ b + 36
+    go : (leb width x ≡ true) ⊎ (leb width x ≡ false) → mostWith old width weight x ≤ b + each
     go (inl e) = rw e (omega (arith, h x, h (x - width)))
     go (inr e) = rw e (omega (arith, h x))
 
-pub most-none : (need : List ℕ) (modules q : ℕ) → MostOf need 0 modules q (replicate 65 0)
-unfolding sum
-most-none need modules q = record { weighs = λ X x l fits. zero-le; small = zeros 65 }
+-- in a width that is less than the job's, the table stays
+pub most-with-narrow : (old : List ℕ) (width weight x : ℕ) → x < width → mostWith old width weight x ≡ getD old x 0
+unfolding mostWith
+most-with-narrow old width weight x l = rw (lt-leb width x l) (omega arith)
 
-pub most-more : {need : List ℕ} {n modules q : ℕ} {old new : List ℕ} → MostOf need n modules q old
-    → Put (λ x. x) (replicate 65 0) new (modules + 1) (mostWith old (getD need n 0) (weightIn modules q (getD need n 0)))
-    → weightIn modules q (getD need n 0) ≤ 36 → MostOf need (n + 1) modules q new
-most-more {need} {n} {modules} {q} {old} {new} h put light = record {
-  weighs = rw add-one (weighs-more need n modules (λ k. weightIn modules q (getD need k 0)) (λ x. getD old x 0) (λ x. getD new x 0)
-      (h .weighs) (λ x l. omega (arith, at x l, most-with-keeps old width weight x))
-      (λ x l m. omega (arith, at x l, most-with-takes old width weight x m)));
-  small = λ p. le-trans (put .small (36 * n + 36) (λ i. omega (arith, zeros 65 i))
-      (λ x l. most-with-small old width weight x (36 * n) (h .small) light) p) (omega arith);
+-- in one that is not, the job is worth its weight beside what the rest of the width holds
+pub most-with-wide : (old : List ℕ) (width weight x : ℕ) → width ≤ x
+    → mostWith old width weight x ≡ max (getD old x 0) (weight + getD old (x - width) 0)
+unfolding mostWith
+most-with-wide old width weight x l = rw (le-leb width x l)
+
+most-with-rises : (old : List ℕ) (width weight a b : ℕ) → ((c d : ℕ) → c ≤ d → d ≤ b → getD old c 0 ≤ getD old d 0) → a ≤ b
+    → mostWith old width weight a ≤ mostWith old width weight b
+most-with-rises old width weight a b h l = go (less-or-not a width)
+  where
+    go : (a < width) ⊎ (width ≤ a) → mostWith old width weight a ≤ mostWith old width weight b
+    go (inl m) =
+        omega (arith, most-with-narrow old width weight a m, h a b l (omega arith), most-with-keeps old width weight b)
+    go (inr m) =
+        rw (most-with-wide old width weight a m, most-with-wide old width weight b (omega arith))
+        (omega (arith, h a b l (omega arith), h (a - width) (b - width) (omega arith) (omega arith)))
+
+-- no job is worth nothing
+pub knapsack-none : (width y : ℕ → ℕ) (top each size : ℕ) → Knapsack width 0 top each y (replicate size 0)
+unfolding sum
+knapsack-none width y top each size = record {
+  holds = λ X x l fits. zero-le;
+  rises = λ a b l m. omega (arith, zeros size a);
+  small = λ p. omega (arith, zeros size p);
+}
+
+pub knapsack-more : {width y : ℕ → ℕ} {n top each : ℕ} {base old new : List ℕ} → Knapsack width n top each y old
+    → ((p : ℕ) → getD base p 0 ≤ each * n) → Put (λ x. x) base new (top + 1) (mostWith old (width n) (y n)) → y n ≤ each
+    → Knapsack width (n + 1) top each y new
+knapsack-more {width} {y} {n} {top} {each} {base} {old} {new} h low put light = record {
+  holds = rw add-one (holds-more width n top y (λ x. getD old x 0) (λ x. getD new x 0)
+      (h .holds) (λ x l. omega (arith, at x l, most-with-keeps old (width n) (y n) x))
+      (λ x l m. omega (arith, at x l, most-with-takes old (width n) (y n) x m)));
+  rises = λ a b l m. rises a b l m;
+  small = λ p. rw (add-one, mul-suc each n) (put .small (each * n + each) (λ i. omega (arith, low i))
+      (λ x l. most-with-small old (width n) (y n) x (each * n) each (h .small) light) p);
 }
   where
-    width : ℕ
-    width = getD need n 0
-
-    weight : ℕ
-    weight = weightIn modules q width
-
-    at : (x : ℕ) → x ≤ modules → getD new x 0 ≡ mostWith old width weight x
+    at : (x : ℕ) → x ≤ top → getD new x 0 ≡ mostWith old (width n) (y n) x
     at x l = put .each x (omega arith)
+
+    rises : (a b : ℕ) → a ≤ b → b ≤ top → getD new a 0 ≤ getD new b 0
+    rises a b l m =
+        let w = most-with-rises old (width n) (y n) a b (λ c d i j. h .rises c d i (omega arith)) l in
+        omega (arith, at a (omega arith), at b m)
 
 -- ---- the weightings side by side
 
@@ -146,7 +174,7 @@ weighted-more {need} {minutes} {jobs} {modules} {q} {worth} {worth′} {most} {m
     each p (inl e) = rw e (record {
       weight = λ k. weightIn modules q (getD need k 0);
       worth-is = put .each;
-      weighs = λ X x l fits. omega (arith, put′ .each x (omega (arith, fit .most)), table-is .weighs X x l fits);
+      weighs = λ X x l fits. omega (arith, put′ .each x (omega (arith, fit .most)), table-is .holds X x l fits);
     })
     each p (inr l) =
         weighting-kept (λ k. put .kept (k * 5 + p) (λ i m e. omega arith))

@@ -46,3 +46,24 @@ put-more {place} {old} {new} {n} {value} h x apart l v = record {
     small b before after p (inl z) = rw z (omega (arith, here, after n (omega arith)))
     small b before after p (inr d) =
         omega (arith, getD-set-other new (place n) p x 0 d, h .small b before (λ k m. after k (omega arith)) p)
+
+-- of a list that ends before the n-th place only so many are put in
+pub put-first : {old new : List ℕ} {m n : ℕ} {value : ℕ → ℕ} → Put (λ x. x) old new n value → length old ≤ m → m ≤ n
+    → Put (λ x. x) old new m value
+put-first {old} {new} {m} {n} {value} h short l = record {
+  size = h .size;
+  kept = λ p apart. kept p apart (less-or-not p m);
+  each = λ k i. h .each k (omega arith);
+  small = λ b before after p. small b after p (less-or-not p m);
+}
+  where
+    past : (l : List ℕ) (p : ℕ) → length l ≤ p → getD l p 0 ≡ 0
+    past l p i = List·getD-eq-default {A = ℕ} l 0 i
+
+    kept : (p : ℕ) → ((k : ℕ) → k < m → p ≢ k) → (p < m) ⊎ (m ≤ p) → getD new p 0 ≡ getD old p 0
+    kept p apart (inl i) = absurd (apart p i refl)
+    kept p apart (inr i) = omega (arith, past new p (omega (arith, h .size)), past old p (omega arith))
+
+    small : (b : ℕ) → ((k : ℕ) → k < m → value k ≤ b) → (p : ℕ) → (p < m) ⊎ (m ≤ p) → getD new p 0 ≤ b
+    small b after p (inl i) = omega (arith, h .each p (omega arith), after p i)
+    small b after p (inr i) = omega (arith, past new p (omega (arith, h .size)))

@@ -10,10 +10,13 @@ use Rattle.counting.specs.Counting.{only, sum}
 use Rattle.bits.specs.Bits.{bit}
 use Rattle.placement.specs.Profile.{heldAt}
 
+-- no set of the first n jobs that is at most x wide, where x is at most `top`, is worth more than K x
+abbrev pub Holds : (ℕ → ℕ) → ℕ → ℕ → (ℕ → ℕ) → (ℕ → ℕ) → Type 0
+Holds width n top y K = (X : ℕ → Bool) (x : ℕ) → x ≤ top → sum n (λ k. only (X k) (width k)) ≤ x → sum n (λ k. only (X k) (y k)) ≤ K x
+
 -- no set of jobs that fits on x modules weighs more than K x
 abbrev pub Weighs : List ℕ → ℕ → ℕ → (ℕ → ℕ) → (ℕ → ℕ) → Type 0
-Weighs need jobs modules y K = (X : ℕ → Bool) (x : ℕ) → x ≤ modules → sum jobs (λ k. only (X k) (getD need k 0)) ≤ x
-    → sum jobs (λ k. only (X k) (y k)) ≤ K x
+Weighs need jobs modules y K = Holds (λ k. getD need k 0) jobs modules y K
 
 -- a job that fills j of q + 2 equal parts of the cabinet weighs (q + 1) * j, and one that overruns them (q + 2) * j
 unfoldable pub weightIn : ℕ → ℕ → ℕ → ℕ
@@ -31,10 +34,15 @@ pub record Put (place : ℕ → ℕ) (old new : List ℕ) (n : ℕ) (value : ℕ
   pub each : (k : ℕ) → k < n → getD new (place k) 0 ≡ value k
   pub small : (b : ℕ) → ((p : ℕ) → getD old p 0 ≤ b) → ((k : ℕ) → k < n → value k ≤ b) → (p : ℕ) → getD new p 0 ≤ b
 
+-- a table of the most that the first n jobs are worth, none of them more than `each`, in each width up to `top`
+pub record Knapsack (width : ℕ → ℕ) (n top each : ℕ) (y : ℕ → ℕ) (table : List ℕ) : Type 0 where
+  pub holds : Holds width n top y (λ x. getD table x 0)
+  pub rises : (a b : ℕ) → a ≤ b → b ≤ top → getD table a 0 ≤ getD table b 0
+  pub small : (p : ℕ) → getD table p 0 ≤ each * n
+
 -- the most of the first n jobs that can stand on each number of modules, in weighting q
-pub record MostOf (need : List ℕ) (n modules q : ℕ) (table : List ℕ) : Type 0 where
-  pub weighs : Weighs need n modules (λ k. weightIn modules q (getD need k 0)) (λ x. getD table x 0)
-  pub small : (p : ℕ) → getD table p 0 ≤ 36 * n
+abbrev pub MostOf : List ℕ → ℕ → ℕ → ℕ → List ℕ → Type 0
+MostOf need n modules q table = Knapsack (λ k. getD need k 0) n modules 36 (λ k. weightIn modules q (getD need k 0)) table
 
 -- place k * 5 + q of `worth` is job k's minutes times its weight, place x * 5 + q of `most` the most that can stand on x modules
 pub record Weighting (need minutes : List ℕ) (jobs modules : ℕ) (worth most : List ℕ) (q : ℕ) : Type 0 where

@@ -7,7 +7,7 @@ ghost use Rattle.counting.specs.Counting.{only, sum};
 ghost use Rattle.bits.specs.Bits.{bit};
 ghost use Rattle.tables.specs.Tables.{Fit};
 ghost use Rattle.placement.specs.Profile.{Profile};
-ghost use Rattle.weights.specs.Weights.{weightIn, mostWith, Put, WeightedTo, Weighted, roomFor, Outweighed};
+ghost use Rattle.weights.specs.Weights.{weightIn, mostWith, Put, MostOf, WeightedTo, Weighted, roomFor, Outweighed};
 
 // Five weightings side by side: place k * 5 + q of `worth` is job k's minutes times its weight, place x * 5 + q of `most` the most that
 // can stand on x modules.
@@ -27,7 +27,7 @@ struct Totals {
 }
 
 // The product of two numbers.
-fn times(a: u16, b: u16) -> u32
+pub fn times(a: u16, b: u16) -> u32
     ensures { λ r. ⌜ r ≡ a * b ⌝ }
 {
     (a as u32) * (b as u32)
@@ -36,7 +36,7 @@ fn times(a: u16, b: u16) -> u32
 // ---- the weightings of a sheet
 
 // The weight of a job in weighting q.
-fn weight_of(need: u16, q: usize, modules: u16) -> u16
+pub fn weight_of(need: u16, q: usize, modules: u16) -> u16
     requires { ⌜ ((0 < modules) × (modules ≤ 64)) × ((need ≤ modules) × (q < 5)) ⌝ }
     ensures { λ r. ⌜ r ≡ weightIn modules q need ⌝ }
 {
@@ -78,6 +78,22 @@ fn with_job(table: Most, width: u16, weight: u16, modules: u16) -> Most
     Most { at: next }
 }
 
+// The most of the jobs that can stand on each number of modules, in weighting q.
+pub fn most_of(need: &[u16; 20], jobs: usize, modules: u16, q: usize) -> Most
+    requires { ⌜ ((0 < modules) × (modules ≤ 64)) × (((j : ℕ) → j < jobs → getD (now need) j 0 ≤ modules) × ((jobs ≤ 20) × (q < 5))) ⌝ }
+    ensures { λ r. ⌜ MostOf (now (need .entry)) jobs modules q (r .at) ⌝ }
+{
+    let mut table = Most { at: [0u16; 65] };
+    let mut k: usize = 0;
+    while k < jobs {
+        let width = need[k];
+        let weight = weight_of(width, q, modules);
+        table = with_job(table, width, weight, modules);
+        k += 1;
+    }
+    table
+}
+
 // The weightings with the table put in as the q-th.
 fn put_most(all: Weights, q: usize, table: &[u16; 65]) -> Weights
     requires { ⌜ (q < 5) × (length (all .most) ≡ 325) ⌝ }
@@ -106,15 +122,13 @@ fn with_weighting(
     ensures { λ r. ⌜ WeightedTo (now (need .entry)) (now (minutes .entry)) jobs modules (r .worth) (r .most) (q + 1) ⌝ }
 {
     let mut next = all;
-    let mut table = Most { at: [0u16; 65] };
     let mut k: usize = 0;
     while k < jobs {
-        let width = need[k];
-        let weight = weight_of(width, q, modules);
-        table = with_job(table, width, weight, modules);
+        let weight = weight_of(need[k], q, modules);
         next.worth[k * 5 + q] = times(minutes[k], weight);
         k += 1;
     }
+    let table = most_of(need, jobs, modules, q);
     put_most(next, q, &table.at)
 }
 

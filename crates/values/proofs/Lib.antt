@@ -1,0 +1,2 @@
+-- The laws of lanes.
+pub mod Laws

@@ -1,0 +1,70 @@
+-- `values::first_of` meets its contract.
+use native.Mathlib.Omega.{arith}
+use borrow.Author.Needs.{needs}
+use mathlib.Core.Path.{_≡_, refl}
+use Prim.Native.Nat.{ℕ, _-_, _≤_, _<_}
+use lib.ListN.{getD, replicate, length-replicate}
+use Rattle.weights.specs.Weights.{Put}
+use Rattle.weights.proofs.Puts.{put-none, put-more}
+use Rattle.values.proofs.first_of.Statement.{statement}
+use Rattle.values.proofs.first_of.Tie as tie
+
+abbrev Inv-loop : tie.InvT-loop
+Inv-loop all jobs next₀ k₀ next k = (k ≤ jobs) × Put (λ i. i) (replicate 20 0) next k (λ i. getD all i 0)
+
+abbrev μ-loop : tie.MeasureT-loop
+μ-loop all jobs next₀ k₀ next k = jobs - k
+
+loop-holds : tie.Need-loop-holds Inv-loop μ-loop
+loop-holds c = (search needs, put-none _ _ _)
+
+mul-next : tie.Need-mul-next Inv-loop μ-loop
+mul-next c = search needs
+
+element-copy-out-next : tie.Need-element-copy-out-next Inv-loop μ-loop
+element-copy-out-next c = search needs
+
+mul-next-2 : tie.Need-mul-next-2 Inv-loop μ-loop
+mul-next-2 c = search needs
+
+array-write-next : tie.Need-array-write-next Inv-loop μ-loop
+array-write-next c = search needs
+
+add-k : tie.Need-add-k Inv-loop μ-loop
+add-k c = search needs
+
+loop-less : tie.Need-loop-less Inv-loop μ-loop
+loop-less c = search needs
+
+loop-again : tie.Need-loop-again Inv-loop μ-loop
+loop-again c =
+    let loop = c .before .before .loop in
+    let pre = c .before .before .before .pre in
+    let loop-test = c .before .loop-test in
+    let size = length-replicate {A = ℕ} 20 0 in
+    let low : loop .k < 20 = omega (arith, pre, loop-test .taken) in
+    (search needs, put-more (loop .inv .1) _ (λ i m e. omega arith) (omega arith) refl)
+
+returns : tie.Need-returns Inv-loop μ-loop
+returns c =
+    let loop = c .before .loop in
+    let args = c .before .before .args in
+    let loop-test = c .loop-test in
+    let e : loop .k ≡ args .jobs = omega (arith, loop .inv .0, loop-test .left) in
+    rw e at (loop .inv .1)
+
+pub first-of-spec : {M : Type 1} → statement M
+first-of-spec =
+    tie.close
+    (tie.spec
+    Inv-loop
+    μ-loop
+    loop-holds
+    mul-next
+    element-copy-out-next
+    mul-next-2
+    array-write-next
+    add-k
+    loop-less
+    loop-again
+    returns)
