@@ -31,8 +31,8 @@ use Rattle.candidates.proofs.Starting.{started}
 use Rattle.branching.specs.Branching.{PassedOver}
 use Rattle.search.specs.Search.{Fails, SettledAt, SameStart, SettledSo, Searching, TriedSo}
 
-module _ (need minutes earlier related tails worth most : List ℕ) (jobs modules : ℕ) (part : Part) (by : List ℕ) (same target : ℕ) (memory at : List ℕ)
-    (tried job : ℕ) (s : Searching need minutes earlier related tails worth most jobs modules part by same target memory)
+module _ (need minutes earlier related tails worth most lanes : List ℕ) (jobs modules : ℕ) (part : Part) (by : List ℕ) (same target : ℕ) (memory at : List ℕ)
+    (tried job : ℕ) (s : Searching need minutes earlier related tails worth most lanes jobs modules part by same target memory)
     (starts : EachStart need minutes earlier jobs modules part at)
     (before : TriedSo need minutes earlier jobs modules part target at tried (getD at job 0)) (l : job < jobs)
     (low : getD at job 0 < 65535) where

@@ -35,8 +35,8 @@ word-length {need} {minutes} {earlier} {jobs} {modules} {part} k =
 
 -- ---- one job tried at a place
 
-module _ {need minutes earlier related tails worth most : List ℕ} {jobs modules : ℕ} {part : Part} {target : ℕ} {memory : List ℕ}
-    (g : Going need minutes earlier related tails worth most jobs modules part target memory) {j s : ℕ} (l : j < jobs)
+module _ {need minutes earlier related tails worth most lanes : List ℕ} {jobs modules : ℕ} {part : Part} {target : ℕ} {memory : List ℕ}
+    (g : Going need minutes earlier related tails worth most lanes jobs modules part target memory) {j s : ℕ} (l : j < jobs)
     (start : JobStart need minutes earlier jobs modules part j s) where
   -- a job that may not come next leads nowhere
   pub not-next : s ≡ 65535 → Fails (sheetOf need minutes earlier jobs modules) target (wordOf part ++ (j ∷ []))
@@ -48,13 +48,14 @@ module _ {need minutes earlier related tails worth most : List ℕ} {jobs module
       absurd (omega (arith, start .here r))
 
   pub place-enter : (low : s < 65535) (child : Part) → Placed part j s (getD need j 0) (getD minutes j 0) modules child
-      → Searching need minutes earlier related tails worth most jobs modules child (noneSettled .by) (noneSettled .same) target memory
+      → Searching need minutes earlier related tails worth most lanes jobs modules child (noneSettled .by) (noneSettled .same) target memory
   place-enter low child placed = record {
     low = g .low;
     known = child-known need minutes earlier jobs modules part (g .known) j l s start low child placed;
     chains = g .chains;
     related-is = g .related-is;
     weighted = g .weighted;
+    laned = g .laned;
     settled = none-settled (sheetOf need minutes earlier jobs modules) target (wordOf child);
     remembered = g .remembered;
   }
@@ -182,22 +183,22 @@ placing-first {S} {r} h = record { lowest = h; begins = (take (S .jobs) (r .orde
 -- ---- a turn of the loop
 
 -- k jobs of the order stand in their places
-pub record Standing (need minutes earlier related tails worth most : List ℕ) (jobs modules : ℕ) (part : Part) (best : Found) (memory : List ℕ)
+pub record Standing (need minutes earlier related tails worth most lanes : List ℕ) (jobs modules : ℕ) (part : Part) (best : Found) (memory : List ℕ)
     (k : ℕ) : Type 0 where
   pub inside : k ≤ jobs
-  pub going : Going need minutes earlier related tails worth most jobs modules part (best .end) memory
+  pub going : Going need minutes earlier related tails worth most lanes jobs modules part (best .end) memory
   pub count : part .placed ≡ k
   pub placing : Placing (sheetOf need minutes earlier jobs modules) (wordOf part) best
 
-pub stands-first : {need minutes earlier related tails worth most : List ℕ} {jobs modules : ℕ} {least : Found} {memory : List ℕ}
+pub stands-first : {need minutes earlier related tails worth most lanes : List ℕ} {jobs modules : ℕ} {least : Found} {memory : List ℕ}
     → Lowest (sheetOf need minutes earlier jobs modules) least
-    → Going need minutes earlier related tails worth most jobs modules (firstPart need minutes jobs modules) (least .end) memory
-    → Standing need minutes earlier related tails worth most jobs modules (firstPart need minutes jobs modules) least memory 0
+    → Going need minutes earlier related tails worth most lanes jobs modules (firstPart need minutes jobs modules) (least .end) memory
+    → Standing need minutes earlier related tails worth most lanes jobs modules (firstPart need minutes jobs modules) least memory 0
 unfolding firstPart
 stands-first h g = record { inside = zero-le; going = g; count = refl; placing = placing-first h }
 
-module _ {need minutes earlier related tails worth most : List ℕ} {jobs modules : ℕ} {part : Part} {best : Found} {memory : List ℕ} {k : ℕ}
-    (h : Standing need minutes earlier related tails worth most jobs modules part best memory k) (l : k < jobs) where
+module _ {need minutes earlier related tails worth most lanes : List ℕ} {jobs modules : ℕ} {part : Part} {best : Found} {memory : List ℕ} {k : ℕ}
+    (h : Standing need minutes earlier related tails worth most lanes jobs modules part best memory k) (l : k < jobs) where
   pub stands-below : part .placed < jobs
   stands-below = omega (arith, h .count)
 
@@ -217,10 +218,10 @@ module _ {need minutes earlier related tails worth most : List ℕ} {jobs module
       → Placing (sheetOf need minutes earlier jobs modules) (wordOf part ++ (getD (r .order) (part .placed) 0 ∷ [])) r
       → Remembered (sheetOf need minutes earlier jobs modules) memory′ (suc (r .end)) → {j : ℕ} → j ≡ getD (r .order) k 0 → {next : Part}
       → Known need minutes earlier jobs modules next → wordOf next ≡ wordOf part ++ (j ∷ []) → next .placed ≡ part .placed + 1
-      → Standing need minutes earlier related tails worth most jobs modules next r memory′ (k + 1)
+      → Standing need minutes earlier related tails worth most lanes jobs modules next r memory′ (k + 1)
   stands-next {r} memory′ q m {j} e {next} known word placed = record {
     inside = omega arith;
-    going = record { low = q .lowest .is .low; known = known; chains = h .going .chains; related-is = h .going .related-is; weighted = h .going .weighted; remembered = m };
+    going = record { low = q .lowest .is .low; known = known; chains = h .going .chains; related-is = h .going .related-is; weighted = h .going .weighted; laned = h .going .laned; remembered = m };
     count = omega (arith, h .count);
     placing = subst (λ (v : List ℕ). Placing (sheetOf need minutes earlier jobs modules) v r) same q;
   }
@@ -228,8 +229,8 @@ module _ {need minutes earlier related tails worth most : List ℕ} {jobs module
       same : wordOf part ++ (getD (r .order) (part .placed) 0 ∷ []) ≡ wordOf next
       same = ap (λ (x : ℕ). wordOf part ++ (x ∷ [])) (ap (λ (n : ℕ). getD (r .order) n 0) (h .count) ∙ sym e) ∙ sym word
 
-pub stands-all : {need minutes earlier related tails worth most : List ℕ} {jobs modules : ℕ} {part : Part} {best : Found} {memory : List ℕ} {k : ℕ}
-    → Standing need minutes earlier related tails worth most jobs modules part best memory k → k ≡ jobs
+pub stands-all : {need minutes earlier related tails worth most lanes : List ℕ} {jobs modules : ℕ} {part : Part} {best : Found} {memory : List ℕ} {k : ℕ}
+    → Standing need minutes earlier related tails worth most lanes jobs modules part best memory k → k ≡ jobs
     → tie.Best (sheetOf need minutes earlier jobs modules) (take jobs (best .order))
     × (best .end ≡ endOf (sheetOf need minutes earlier jobs modules) (take jobs (best .order)))
 stands-all h e = placing-best (h .placing) (omega (arith, word-length (h .going .known), h .count))

@@ -54,26 +54,27 @@ first-word need minutes jobs modules = refl
 kept-is : {S : Sheet} {best : Found} → OrderOf S best → OrderOf S (keptAs best)
 kept-is h = record { size = h .size; order = h .order; end = h .end; low = h .low }
 
-module _ (need minutes earlier related tails worth most : List ℕ) (jobs modules : ℕ) where
+module _ (need minutes earlier related tails worth most lanes : List ℕ) (jobs modules : ℕ) where
   abbrev S : Sheet
   S = sheetOf need minutes earlier jobs modules
 
   -- an order that is to end by the target
-  pub enter : {best : Found} {memory : List ℕ} (target : ℕ) → Lowering need minutes earlier related tails worth most jobs modules best memory
+  pub enter : {best : Found} {memory : List ℕ} (target : ℕ) → Lowering need minutes earlier related tails worth most lanes jobs modules best memory
       → target < best .end
-      → Searching need minutes earlier related tails worth most jobs modules (firstPart need minutes jobs modules) (noneSettled .by) (noneSettled .same) target memory
+      → Searching need minutes earlier related tails worth most lanes jobs modules (firstPart need minutes jobs modules) (noneSettled .by) (noneSettled .same) target memory
   enter {best} {memory} target s l = record {
     low = omega (arith, s .best-is .low);
     known = first-known need minutes earlier jobs modules (s .fit);
     chains = s .chains;
     related-is = s .related-is;
     weighted = s .weighted;
+    laned = s .laned;
     settled = none-settled S target _;
     remembered = remembered-less S memory (best .end) (suc target) l (s .remembered);
   }
 
   pub lower-hit : {best r : Found} {memory : List ℕ} (memory′ : List ℕ) {v : List ℕ} (target : ℕ)
-      → Lowering need minutes earlier related tails worth most jobs modules best memory
+      → Lowering need minutes earlier related tails worth most lanes jobs modules best memory
       → target < best .end → Outcome S target v r → r .hit ≡ true → Remembered S memory′ (suc target)
       → Lowered S best r × Remembered S memory′ (r .end)
   lower-hit {best} {r} {memory} memory′ target s l o e m =
@@ -98,7 +99,7 @@ module _ (need minutes earlier related tails worth most : List ℕ) (jobs module
           absurd (omega (arith, e .1, h .none-between (e .0) (omega (arith, e .1))))
 
   -- none ends earlier
-  pub lower-miss : {best : Found} {memory : List ℕ} → Lowering need minutes earlier related tails worth most jobs modules best memory
+  pub lower-miss : {best : Found} {memory : List ℕ} → Lowering need minutes earlier related tails worth most lanes jobs modules best memory
       → ((o : List ℕ) → Order S o → best .end ≤ endOf S o) → Lowered S best (keptAs best)
   lower-miss {best} s least = record { is = kept-is (s .best-is); hit = λ x. clash false x refl; miss = λ x. (refl, least) }
 
@@ -115,13 +116,13 @@ module _ (need minutes earlier related tails worth most : List ℕ) (jobs module
 
   -- while earlier ends are looked for, an order and what is remembered; then no order ends earlier
   pub record Turn (best : Found) (memory : List ℕ) : Type 0 where
-    pub state : Lowering need minutes earlier related tails worth most jobs modules best memory
+    pub state : Lowering need minutes earlier related tails worth most lanes jobs modules best memory
     pub done : best .hit ≡ false → (o : List ℕ) → Order S o → best .end ≤ endOf S o
 
-  pub turn-next : {best r : Found} {memory : List ℕ} (memory′ : List ℕ) → Lowering need minutes earlier related tails worth most jobs modules best memory
+  pub turn-next : {best r : Found} {memory : List ℕ} (memory′ : List ℕ) → Lowering need minutes earlier related tails worth most lanes jobs modules best memory
       → Lowered S best r → Remembered S memory′ (r .end) → Turn r memory′
   turn-next {best} {r} memory′ s l m = record {
-    state = record { fit = s .fit; chains = s .chains; related-is = s .related-is; weighted = s .weighted; best-is = l .is; remembered = m };
+    state = record { fit = s .fit; chains = s .chains; related-is = s .related-is; weighted = s .weighted; laned = s .laned; best-is = l .is; remembered = m };
     done = λ e. l .miss e .1;
   }
 

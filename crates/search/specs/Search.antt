@@ -19,6 +19,7 @@ use Rattle.candidates.specs.Candidates.{Known}
 use Rattle.listing.specs.declared.Found.{Found}
 use Rattle.listing.specs.Listing.{OrderOf}
 use Rattle.weights.specs.Weights.{Weighted}
+use Rattle.values.specs.Values.{Laned}
 use Rattle.bounds.specs.Bounds.{Tails}
 use Rattle.memory.specs.Entries.{Entry, entries, entryAt, lastAt, endAt}
 
@@ -78,7 +79,7 @@ pub record SettledSo (S : Sheet) (target : ℕ) (v by : List ℕ) (same : ℕ) :
       → SettledAt S target u i x
   pub same-start : (x : ℕ) → x < S .jobs → bit same x ≡ true → SameStart S target v x
 
-pub record Searching (need minutes earlier related tails worth most : List ℕ) (jobs modules : ℕ) (part : Part) (by : List ℕ)
+pub record Searching (need minutes earlier related tails worth most lanes : List ℕ) (jobs modules : ℕ) (part : Part) (by : List ℕ)
     (same target : ℕ) (memory : List ℕ)
     : Type 0 where
   pub low : target < 65535
@@ -86,6 +87,7 @@ pub record Searching (need minutes earlier related tails worth most : List ℕ) 
   pub chains : Tails (sheetOf need minutes earlier jobs modules) tails
   pub related-is : Related need minutes earlier jobs modules related
   pub weighted : Weighted need minutes jobs modules worth most
+  pub laned : Laned need minutes jobs modules lanes
   pub settled : SettledSo (sheetOf need minutes earlier jobs modules) target (wordOf part) by same
   pub remembered : Remembered (sheetOf need minutes earlier jobs modules) memory (suc target)
 
@@ -101,11 +103,12 @@ abbrev pub keptAs : Found → Found
 keptAs best = record { hit = false; end = best .end; order = best .order }
 
 -- the tables, an order, and what is remembered of orders that end earlier
-pub record Lowering (need minutes earlier related tails worth most : List ℕ) (jobs modules : ℕ) (best : Found) (memory : List ℕ) : Type 0 where
+pub record Lowering (need minutes earlier related tails worth most lanes : List ℕ) (jobs modules : ℕ) (best : Found) (memory : List ℕ) : Type 0 where
   pub fit : Fit need minutes jobs modules
   pub chains : Tails (sheetOf need minutes earlier jobs modules) tails
   pub related-is : Related need minutes earlier jobs modules related
   pub weighted : Weighted need minutes jobs modules worth most
+  pub laned : Laned need minutes jobs modules lanes
   pub best-is : OrderOf (sheetOf need minutes earlier jobs modules) best
   pub remembered : Remembered (sheetOf need minutes earlier jobs modules) memory (best .end)
 
@@ -121,12 +124,13 @@ pub record Lowest (S : Sheet) (r : Found) : Type 0 where
   pub least : (o : List ℕ) → Order S o → r .end ≤ endOf S o
 
 -- the same, from a part-plan on
-pub record Going (need minutes earlier related tails worth most : List ℕ) (jobs modules : ℕ) (part : Part) (target : ℕ) (memory : List ℕ) : Type 0 where
+pub record Going (need minutes earlier related tails worth most lanes : List ℕ) (jobs modules : ℕ) (part : Part) (target : ℕ) (memory : List ℕ) : Type 0 where
   pub low : target < 65535
   pub known : Known need minutes earlier jobs modules part
   pub chains : Tails (sheetOf need minutes earlier jobs modules) tails
   pub related-is : Related need minutes earlier jobs modules related
   pub weighted : Weighted need minutes jobs modules worth most
+  pub laned : Laned need minutes jobs modules lanes
   pub remembered : Remembered (sheetOf need minutes earlier jobs modules) memory (suc target)
 
 -- an order that ends first and begins with the jobs w, before which nothing ends as early

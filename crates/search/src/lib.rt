@@ -38,6 +38,7 @@ fn visit(
     tails: &[u16; 20],
     worth: &[u32; 100],
     most: &[u16; 325],
+    lanes: &[u32; 1110],
     jobs: usize,
     modules: u16,
     part: Part,
@@ -45,7 +46,7 @@ fn visit(
     target: u16,
     memory: &mut [u8],
 ) -> Found
-    requires { ⌜ Searching (now need) (now minutes) (now earlier) (now related) (now tails) (now worth) (now most) jobs modules part (settled .by) (settled .same) target
+    requires { ⌜ Searching (now need) (now minutes) (now earlier) (now related) (now tails) (now worth) (now most) (now lanes) jobs modules part (settled .by) (settled .same) target
         (now memory) ⌝ }
     ensures outcome { λ r. ⌜ Outcome (sheetOf (now (need .entry)) (now (minutes .entry)) (now (earlier .entry)) jobs modules) target
         (wordOf part) r ⌝ }
@@ -78,6 +79,7 @@ fn visit(
         tails,
         worth,
         most,
+        lanes,
         &part.until,
         &part.held,
         part.placed,
@@ -110,6 +112,7 @@ fn visit(
             tails,
             worth,
             most,
+            lanes,
             jobs,
             modules,
             part,
@@ -140,6 +143,7 @@ fn try_children(
     tails: &[u16; 20],
     worth: &[u32; 100],
     most: &[u16; 325],
+    lanes: &[u32; 1110],
     jobs: usize,
     modules: u16,
     part: Part,
@@ -150,7 +154,7 @@ fn try_children(
     job: usize,
     memory: &mut [u8],
 ) -> Found
-    requires { ⌜ Searching (now need) (now minutes) (now earlier) (now related) (now tails) (now worth) (now most) jobs modules part (settled .by) (settled .same) target
+    requires { ⌜ Searching (now need) (now minutes) (now earlier) (now related) (now tails) (now worth) (now most) (now lanes) jobs modules part (settled .by) (settled .same) target
         (now memory) ⌝ }
     requires { ⌜ EachStart (now need) (now minutes) (now earlier) jobs modules part (now at) ⌝ }
     requires { ⌜ (TriedSo (now need) (now minutes) (now earlier) jobs modules part target (now at) tried (getD (now at) job 0))
@@ -201,6 +205,7 @@ fn try_children(
         tails,
         worth,
         most,
+        lanes,
         jobs,
         modules,
         child,
@@ -233,12 +238,13 @@ fn lower(
     tails: &[u16; 20],
     worth: &[u32; 100],
     most: &[u16; 325],
+    lanes: &[u32; 1110],
     jobs: usize,
     modules: u16,
     best: Found,
     memory: &mut [u8],
 ) -> Found
-    requires { ⌜ Lowering (now need) (now minutes) (now earlier) (now related) (now tails) (now worth) (now most) jobs modules best (now memory) ⌝ }
+    requires { ⌜ Lowering (now need) (now minutes) (now earlier) (now related) (now tails) (now worth) (now most) (now lanes) jobs modules best (now memory) ⌝ }
     ensures lowered { λ r. ⌜ Lowered (sheetOf (now (need .entry)) (now (minutes .entry)) (now (earlier .entry)) jobs modules) best r ⌝ }
     ensures remembered { λ r. ⌜ Remembered (sheetOf (now (need .entry)) (now (minutes .entry)) (now (earlier .entry)) jobs modules)
         (now (memory .exit)) (r .end) ⌝ }
@@ -257,6 +263,7 @@ fn lower(
         tails,
         worth,
         most,
+        lanes,
         jobs,
         modules,
         part,
@@ -279,12 +286,13 @@ fn lowest(
     tails: &[u16; 20],
     worth: &[u32; 100],
     most: &[u16; 325],
+    lanes: &[u32; 1110],
     jobs: usize,
     modules: u16,
     listed: Found,
     memory: &mut [u8],
 ) -> Found
-    requires { ⌜ Lowering (now need) (now minutes) (now earlier) (now related) (now tails) (now worth) (now most) jobs modules listed (now memory) ⌝ }
+    requires { ⌜ Lowering (now need) (now minutes) (now earlier) (now related) (now tails) (now worth) (now most) (now lanes) jobs modules listed (now memory) ⌝ }
     ensures { λ r. ⌜ Lowest (sheetOf (now (need .entry)) (now (minutes .entry)) (now (earlier .entry)) jobs modules) r ⌝ }
 {
     let mut best = lower(
@@ -295,6 +303,7 @@ fn lowest(
         tails,
         worth,
         most,
+        lanes,
         jobs,
         modules,
         listed,
@@ -309,6 +318,7 @@ fn lowest(
             tails,
             worth,
             most,
+            lanes,
             jobs,
             modules,
             best,
@@ -329,6 +339,7 @@ fn try_place(
     tails: &[u16; 20],
     worth: &[u32; 100],
     most: &[u16; 325],
+    lanes: &[u32; 1110],
     jobs: usize,
     modules: u16,
     part: Part,
@@ -336,7 +347,7 @@ fn try_place(
     j: usize,
     memory: &mut [u8],
 ) -> Found
-    requires { ⌜ (Going (now need) (now minutes) (now earlier) (now related) (now tails) (now worth) (now most) jobs modules part target (now memory))
+    requires { ⌜ (Going (now need) (now minutes) (now earlier) (now related) (now tails) (now worth) (now most) (now lanes) jobs modules part target (now memory))
         × (j < jobs) ⌝ }
     ensures outcome { λ r. ⌜ Outcome (sheetOf (now (need .entry)) (now (minutes .entry)) (now (earlier .entry)) jobs modules) target
         (wordOf part ++ (j ∷ [])) r ⌝ }
@@ -357,6 +368,7 @@ fn try_place(
         tails,
         worth,
         most,
+        lanes,
         jobs,
         modules,
         child,
@@ -375,13 +387,14 @@ fn settle_place(
     tails: &[u16; 20],
     worth: &[u32; 100],
     most: &[u16; 325],
+    lanes: &[u32; 1110],
     jobs: usize,
     modules: u16,
     part: Part,
     best: Found,
     memory: &mut [u8],
 ) -> Found
-    requires { ⌜ (Going (now need) (now minutes) (now earlier) (now related) (now tails) (now worth) (now most) jobs modules part (best .end) (now memory))
+    requires { ⌜ (Going (now need) (now minutes) (now earlier) (now related) (now tails) (now worth) (now most) (now lanes) jobs modules part (best .end) (now memory))
         × ((Placing (sheetOf (now need) (now minutes) (now earlier) jobs modules) (wordOf part) best) × (part .placed < jobs)) ⌝ }
     ensures placed { λ r. ⌜ Placing (sheetOf (now (need .entry)) (now (minutes .entry)) (now (earlier .entry)) jobs modules)
         (wordOf part ++ (getD (r .order) (part .placed) 0 ∷ [])) r ⌝ }
@@ -400,6 +413,7 @@ fn settle_place(
             tails,
             worth,
             most,
+            lanes,
             jobs,
             modules,
             part,
@@ -444,13 +458,14 @@ fn first_order(
     tails: &[u16; 20],
     worth: &[u32; 100],
     most: &[u16; 325],
+    lanes: &[u32; 1110],
     jobs: usize,
     modules: u16,
     least: Found,
     memory: &mut [u8],
 ) -> Found
     requires { ⌜ (Lowest (sheetOf (now need) (now minutes) (now earlier) jobs modules) least)
-        × (Going (now need) (now minutes) (now earlier) (now related) (now tails) (now worth) (now most) jobs modules
+        × (Going (now need) (now minutes) (now earlier) (now related) (now tails) (now worth) (now most) (now lanes) jobs modules
         (firstPart (now need) (now minutes) jobs modules) (least .end) (now memory)) ⌝ }
     ensures { λ r. ⌜ (tie.Best (sheetOf (now (need .entry)) (now (minutes .entry)) (now (earlier .entry)) jobs modules)
         (take jobs (r .order)))
@@ -469,6 +484,7 @@ fn first_order(
             tails,
             worth,
             most,
+            lanes,
             jobs,
             modules,
             part,
@@ -487,6 +503,62 @@ fn first_order(
         k += 1;
     }
     best
+}
+
+// The tie rule's order, from some order. The memory is left all zero.
+fn best_order(
+    need: &[u16; 20],
+    minutes: &[u16; 20],
+    earlier: &[u32; 20],
+    related: &[u32; 60],
+    tails: &[u16; 20],
+    worth: &[u32; 100],
+    most: &[u16; 325],
+    lanes: &[u32; 1110],
+    jobs: usize,
+    modules: u16,
+    listed: Found,
+    memory: &mut [u8],
+) -> Found
+    requires { ⌜ Lowering (now need) (now minutes) (now earlier) (now related) (now tails) (now worth) (now most) (now lanes) jobs modules
+        listed (now memory) ⌝ }
+    ensures answer { λ r. ⌜ (tie.Best (sheetOf (now (need .entry)) (now (minutes .entry)) (now (earlier .entry)) jobs modules)
+        (take jobs (r .order)))
+        × (r .end ≡ endOf (sheetOf (now (need .entry)) (now (minutes .entry)) (now (earlier .entry)) jobs modules)
+        (take jobs (r .order))) ⌝ }
+    ensures cleared { λ _. ⌜ now (memory .exit) ≡ replicate (length (now (memory .entry))) 0 ⌝ }
+{
+    let least = lowest(
+        need,
+        minutes,
+        earlier,
+        related,
+        tails,
+        worth,
+        most,
+        lanes,
+        jobs,
+        modules,
+        listed,
+        memory,
+    );
+    memory::clear(memory);
+    let found = first_order(
+        need,
+        minutes,
+        earlier,
+        related,
+        tails,
+        worth,
+        most,
+        lanes,
+        jobs,
+        modules,
+        least,
+        memory,
+    );
+    memory::clear(memory);
+    found
 }
 
 // The tie rule's order and its list plan's end, wherever there is an order. What the memory held changes nothing, and it is left all zero.
@@ -514,7 +586,9 @@ pub fn run(
     if listed.end == 65535 {
         return listed;
     }
-    let least = lowest(
+    let values = values::lanes_of(need, minutes, jobs, modules, listed.end);
+    let lanes = values.of;
+    best_order(
         need,
         minutes,
         earlier,
@@ -522,25 +596,10 @@ pub fn run(
         &tails,
         &worth,
         &most,
+        &lanes,
         jobs,
         modules,
         listed,
         memory,
-    );
-    memory::clear(memory);
-    let found = first_order(
-        need,
-        minutes,
-        earlier,
-        &related,
-        &tails,
-        &worth,
-        &most,
-        jobs,
-        modules,
-        least,
-        memory,
-    );
-    memory::clear(memory);
-    found
+    )
 }

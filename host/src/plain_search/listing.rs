@@ -18,7 +18,7 @@ impl Tables {
     /// The list plan by tails, with exchanges or without; none where some job would have to end before itself.
     pub fn listed(&self, tails: &[u16; MOST_JOBS], exchanges: bool) -> Option<Ordered> {
         let listed = self.list_plan(tails)?;
-        Some(if exchanges { self.improved(listed, (1 << self.jobs) / 64) } else { listed })
+        Some(if exchanges { self.improved(listed, (1 << self.jobs) / 256) } else { listed })
     }
 
     /// The list plan that takes the heaviest of the jobs that start first; none where no job may come next.

@@ -1,6 +1,7 @@
 //! The library's search in plain Rust: the same cuts, the same memory, the same order of work. The benchmark measures by it what
 //! the proved code costs, counts the part-plans that it visits, and leaves out one rule after another.
 mod bounds;
+mod lanes;
 mod listing;
 mod memory;
 mod part;
@@ -8,6 +9,7 @@ mod relations;
 mod rules;
 mod sums;
 mod tables;
+mod values;
 
 use crate::MOST_JOBS;
 use bounds::Weights;
@@ -18,6 +20,7 @@ pub use rules::Rules;
 use sums::{rounded, Sums};
 pub use tables::Tables;
 use tables::{jobs_of, Ordered, Starts};
+use values::Lanes;
 
 /// What the search finds.
 #[derive(Clone, Debug, PartialEq, Eq)]
@@ -45,6 +48,7 @@ struct Search<'a> {
     rules: Rules,
     relations: Relations,
     weights: Weights,
+    lanes: Lanes,
     sums: Sums<SUMS>,
     memory: Memory<'a>,
     /// For each placed job the jobs that were tried before it was chosen: none of them leads to an order that ends by the target.
@@ -115,6 +119,7 @@ impl Search<'_> {
     fn too_few(&mut self, part: &Part, minute: u16, target: u16) -> bool {
         let free = part.free_at(minute);
         self.rules.weights && self.weights.outweighed(part, &free, target)
+            || self.rules.lanes && self.lanes.overfull(part, &free, target)
             || self.rules.modules && self.sums.unserved(self.tables, part, &free, target)
     }
 
@@ -185,8 +190,9 @@ pub fn run_with(tables: &Tables, memory: &mut [u8], rules: &Rules) -> Outcome {
     let relations = Relations::of(tables);
     let Some(listed) = tables.listed(&relations.tails, rules.exchanges) else { return Outcome::NoOrder };
     let weights = Weights::of(tables);
+    let lanes = Lanes::of(tables, listed.end);
     let settled = [0; MOST_JOBS];
-    let mut search = Search { tables, rules: *rules, relations, weights, sums: Sums::new(), memory, settled, visited: 0 };
+    let mut search = Search { tables, rules: *rules, relations, weights, lanes, sums: Sums::new(), memory, settled, visited: 0 };
     let least = search.lowest(listed);
     search.memory.clear();
     let Ordered { end, order } = search.first_order(least);

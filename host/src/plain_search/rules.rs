@@ -9,6 +9,8 @@ pub struct Rules {
     pub chains: bool,
     /// Cut: the jobs that are left weigh more than the free modules can hold.
     pub weights: bool,
+    /// Cut: the jobs that are left have more value than the lanes that come open can serve.
+    pub lanes: bool,
     /// Cut: each module serves some of the jobs one after another, and all modules together serve too little.
     pub modules: bool,
     /// The target is lowered to a sum of minutes of some of the jobs, as every end is one.
@@ -35,6 +37,7 @@ impl Default for Rules {
             area: true,
             chains: true,
             weights: true,
+            lanes: true,
             modules: true,
             rounded_targets: true,
             same_minute: true,
@@ -56,6 +59,7 @@ impl Rules {
             ("area", Rules { area: false, ..all }),
             ("chains", Rules { chains: false, ..all }),
             ("weights", Rules { weights: false, ..all }),
+            ("lanes", Rules { lanes: false, ..all }),
             ("modules", Rules { modules: false, ..all }),
             ("rounded targets", Rules { rounded_targets: false, ..all }),
             ("same minute", Rules { same_minute: false, ..all }),

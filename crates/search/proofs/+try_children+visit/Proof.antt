@@ -39,29 +39,29 @@ use Rattle.search.proofs.+try_children+visit.Lts-visit as visit-lts
 use Rattle.search.proofs.+try_children+visit.{statement}
 use Rattle.search.proofs.+try_children+visit.Tie.{close}
 
-abbrev μ-try-children : Measures 9 try-children-kinds.ps ℕ
-μ-try-children κs a = ones (a .1 .1 .1 .1 .1 .1 .1 .1 .1 .0 .unplaced) * 2
+abbrev μ-try-children : Measures 10 try-children-kinds.ps ℕ
+μ-try-children κs a = ones (a .1 .1 .1 .1 .1 .1 .1 .1 .1 .1 .0 .unplaced) * 2
 
-abbrev μ-visit : Measures 8 visit-kinds.ps ℕ
-μ-visit κs a = ones (a .1 .1 .1 .1 .1 .1 .1 .1 .1 .0 .unplaced) * 2 + 1
+abbrev μ-visit : Measures 9 visit-kinds.ps ℕ
+μ-visit κs a = ones (a .1 .1 .1 .1 .1 .1 .1 .1 .1 .1 .0 .unplaced) * 2 + 1
 
-abbrev try-children-at : ℕ → In 9 try-children-kinds.ps
+abbrev try-children-at : ℕ → In 10 try-children-kinds.ps
 try-children-at t =
-    and 9 try-children-kinds.ps (is 9 try-children-kinds.ps μ-try-children t) try-children.Pre
+    and 10 try-children-kinds.ps (is 10 try-children-kinds.ps μ-try-children t) try-children.Pre
 
-abbrev try-children-below : ℕ → In 9 try-children-kinds.ps
+abbrev try-children-below : ℕ → In 10 try-children-kinds.ps
 try-children-below t =
     and
-    9
+    10
     try-children-kinds.ps
-    (falls 9 try-children-kinds.ps _<_ μ-try-children t)
+    (falls 10 try-children-kinds.ps _<_ μ-try-children t)
     try-children.Pre
 
-abbrev visit-at : ℕ → In 8 visit-kinds.ps
-visit-at t = and 8 visit-kinds.ps (is 8 visit-kinds.ps μ-visit t) visit.Pre
+abbrev visit-at : ℕ → In 9 visit-kinds.ps
+visit-at t = and 9 visit-kinds.ps (is 9 visit-kinds.ps μ-visit t) visit.Pre
 
-abbrev visit-below : ℕ → In 8 visit-kinds.ps
-visit-below t = and 8 visit-kinds.ps (falls 8 visit-kinds.ps _<_ μ-visit t) visit.Pre
+abbrev visit-below : ℕ → In 9 visit-kinds.ps
+visit-below t = and 9 visit-kinds.ps (falls 9 visit-kinds.ps _<_ μ-visit t) visit.Pre
 
 -- what each member knows of the functions that it calls, at the measure t
 abbrev try-children-claims : ℕ → try-children-lts.Claims
@@ -130,8 +130,8 @@ try-children-returns t c =
     let start = c .before .before .before .before .before .before .before .before .before in
     let a = start .args in
     let p = start .pre .1 in
-    let cut = passed-cut (a .need .now) (a .minutes .now) (a .earlier .now) (a .related .now) (a .tails .now) (a .worth .now) (a .most .now)
-    (a .jobs) (a .modules) (a .t10) (a .t11 .by) (a .t11 .same) (a .target) (a .memory .now) (a .at .now) (a .tried) (a .job)
+    let cut = passed-cut (a .need .now) (a .minutes .now) (a .earlier .now) (a .related .now) (a .tails .now) (a .worth .now) (a .most .now) (a .lanes .now)
+    (a .jobs) (a .modules) (a .t11) (a .t12 .by) (a .t12 .same) (a .target) (a .memory .now) (a .at .now) (a .tried) (a .job)
     (p .0) (p .1 .0) (p .1 .1 .0) (p .1 .1 .1 .0) (p .1 .1 .1 .1)
     (c .before .before .passed-over .ensures (c .before .if1 .taken)) in
     (rw (c .none-found .ensures) (none-outcome _ (a .target) _ cut), p .0 .remembered)
@@ -163,7 +163,7 @@ try-children-with-job-requires t c κs =
     let start = c .before .before .before .before .before .before .before .before .before .before .before .before .before .before .before in
     let a = start .args in
     let p = start .pre .1 in
-    child-placeable (a .need .now) (a .minutes .now) (a .earlier .now) (a .jobs) (a .modules) (a .t10) (p .0 .known) (a .job)
+    child-placeable (a .need .now) (a .minutes .now) (a .earlier .now) (a .jobs) (a .modules) (a .t11) (p .0 .known) (a .job)
     (p .1 .1 .1 .0) (getD (a .at .now) (a .job) 0)
     (p .1 .0 (a .job) (p .1 .1 .1 .0)) (p .1 .1 .1 .1)
 
@@ -180,23 +180,24 @@ try-children-visit-requires t c κs =
     let p = start .pre .1 in
     let known = p .0 .known in
     let place = c .before .before .with-job in
-    let less = child-fewer (a .need .now) (a .minutes .now) (a .earlier .now) (a .jobs) (a .modules) (a .t10) known
+    let less = child-fewer (a .need .now) (a .minutes .now) (a .earlier .now) (a .jobs) (a .modules) (a .t11) known
     (a .job) (p .1 .1 .1 .0) (getD (a .at .now) (a .job) 0)
     (p .1 .0 (a .job) (p .1 .1 .1 .0)) (p .1 .1 .1 .1) (place .result) (place .ensures) in
-    let word = child-word (a .need .now) (a .minutes .now) (a .earlier .now) (a .jobs) (a .modules) (a .t10) known
+    let word = child-word (a .need .now) (a .minutes .now) (a .earlier .now) (a .jobs) (a .modules) (a .t11) known
     (a .job) (p .1 .1 .1 .0) (getD (a .at .now) (a .job) 0)
     (p .1 .0 (a .job) (p .1 .1 .1 .0)) (p .1 .1 .1 .1) (place .result) (place .ensures) in (
       omega (arith, start .pre .0, less),
       record {
         low = p .0 .low;
-        known = child-known (a .need .now) (a .minutes .now) (a .earlier .now) (a .jobs) (a .modules) (a .t10) known
+        known = child-known (a .need .now) (a .minutes .now) (a .earlier .now) (a .jobs) (a .modules) (a .t11) known
             (a .job) (p .1 .1 .1 .0) (getD (a .at .now) (a .job) 0)
             (p .1 .0 (a .job) (p .1 .1 .1 .0)) (p .1 .1 .1 .1) (place .result) (place .ensures);
         chains = p .0 .chains;
         related-is = p .0 .related-is;
         weighted = p .0 .weighted;
+        laned = p .0 .laned;
         settled = rw (c .before .with-settled .ensures, word) (settled-more (a .need .now) (a .minutes .now) (a .earlier .now)
-            (a .related .now) (a .tails .now) (a .worth .now) (a .most .now) (a .jobs) (a .modules) (a .t10) (a .t11 .by) (a .t11 .same) (a .target)
+            (a .related .now) (a .tails .now) (a .worth .now) (a .most .now) (a .lanes .now) (a .jobs) (a .modules) (a .t11) (a .t12 .by) (a .t12 .same) (a .target)
             (a .memory .now) (a .at .now) (a .tried) (a .job)
             (p .0) (p .1 .0) (p .1 .1 .0) (p .1 .1 .1 .0) (p .1 .1 .1 .1));
         remembered = p .0 .remembered;
@@ -206,7 +207,7 @@ try-children-visit-requires t c κs =
 try-children-same-length : (t : ℕ) → try-children-lts.Need-same-length (try-children-claims t) (try-children-at t) try-children.Post
 try-children-same-length t c =
     let visit = c .before .before .visit in
-    visit .kept .1 .1 .1 .1 .1 .1 .1 .1 .1 .1 .1 .1 .0
+    visit .kept .1 .1 .1 .1 .1 .1 .1 .1 .1 .1 .1 .1 .1 .0
 
 try-children-returns-2 : (t : ℕ) → try-children-lts.Need-returns-2 (try-children-claims t) (try-children-at t) try-children.Post
 try-children-returns-2 t c =
@@ -215,19 +216,19 @@ try-children-returns-2 t c =
     let p = start .pre .1 in
     let known = p .0 .known in
     let place = c .before .before .before .before .before .with-job in
-    let word = child-word (a .need .now) (a .minutes .now) (a .earlier .now) (a .jobs) (a .modules) (a .t10) known
+    let word = child-word (a .need .now) (a .minutes .now) (a .earlier .now) (a .jobs) (a .modules) (a .t11) known
     (a .job) (p .1 .1 .1 .0) (getD (a .at .now) (a .job) 0)
     (p .1 .0 (a .job) (p .1 .1 .1 .0)) (p .1 .1 .1 .1) (place .result) (place .ensures) in
     let visit = c .before .before .visit in
     (rw word at (visit .ensures .0), visit .ensures .1)
 
 abbrev visit-Inv-loop : visit-lts.InvT-loop
-visit-Inv-loop need minutes earlier related tails worth most jobs modules settled target memory₀ part unplaced at least first left₀ tried₀ c₀ memory left tried c =
+visit-Inv-loop need minutes earlier related tails worth most lanes jobs modules settled target memory₀ part unplaced at least first left₀ tried₀ c₀ memory left tried c =
     Sweep need minutes earlier jobs modules part target at first left tried c
     × (Remembered (sheetOf need minutes earlier jobs modules) memory (suc target) × (length memory ≡ length memory₀))
 
 abbrev visit-μ-loop : visit-lts.MeasureT-loop
-visit-μ-loop need minutes earlier related tails worth most jobs modules settled target memory₀ part unplaced at least first left₀ tried₀ c₀ memory left tried c =
+visit-μ-loop need minutes earlier related tails worth most lanes jobs modules settled target memory₀ part unplaced at least first left₀ tried₀ c₀ memory left tried c =
     ones left
 
 visit-finished-requires : (t : ℕ) → visit-lts.Need-finished-requires (visit-claims t) (visit-at t) visit.Post visit-Inv-loop visit-μ-loop
@@ -241,7 +242,7 @@ visit-returns t c =
     let a = start .args in
     let p = start .pre .1 in (
       rw (c .finished .ensures) (visit-leaf (a .need .now) (a .minutes .now) (a .earlier .now) (a .jobs) (a .modules)
-          (a .t10) (p .known) (c .before .if1 .taken) (a .target)),
+          (a .t11) (p .known) (c .before .if1 .taken) (a .target)),
       p .remembered,
     )
 
@@ -250,7 +251,7 @@ visit-ready-starts-requires : (t : ℕ)
 visit-ready-starts-requires t c κs =
     let start = c .before .before .before .before .before .before in
     let a = start .args in
-    starts-asked (a .need .now) (a .minutes .now) (a .earlier .now) (a .jobs) (a .modules) (a .t10) (start .pre .1 .known)
+    starts-asked (a .need .now) (a .minutes .now) (a .earlier .now) (a .jobs) (a .modules) (a .t11) (start .pre .1 .known)
 
 visit-hopeless-requires : (t : ℕ) → visit-lts.Need-hopeless-requires (visit-claims t) (visit-at t) visit.Post visit-Inv-loop visit-μ-loop
 visit-hopeless-requires t c κs =
@@ -258,10 +259,10 @@ visit-hopeless-requires t c κs =
     let a = start .args in
     let p = start .pre .1 in
     let r = c .before .before .before .before .before .ready-starts in
-    let starts = job-starts (a .need .now) (a .minutes .now) (a .earlier .now) (a .jobs) (a .modules) (a .t10) (p .known) (r .result .at)
+    let starts = job-starts (a .need .now) (a .minutes .now) (a .earlier .now) (a .jobs) (a .modules) (a .t11) (p .known) (r .result .at)
     (r .result .least) (r .ensures) in (
-      (p .known .fit, p .weighted),
-      bounding (a .need .now) (a .minutes .now) (a .earlier .now) (a .tails .now) (a .jobs) (a .modules) (a .t10) (p .known)
+      (p .known .fit, (p .weighted, p .laned)),
+      bounding (a .need .now) (a .minutes .now) (a .earlier .now) (a .tails .now) (a .jobs) (a .modules) (a .t11) (p .known)
           (r .result .at) (r .result .least) starts (p .low),
     )
 
@@ -275,9 +276,9 @@ visit-returns-2 t c =
     let a = start .args in
     let p = start .pre .1 in
     let r = c .before .before .before .before .before .before .before .before .ready-starts in
-    let starts = job-starts (a .need .now) (a .minutes .now) (a .earlier .now) (a .jobs) (a .modules) (a .t10) (p .known) (r .result .at)
+    let starts = job-starts (a .need .now) (a .minutes .now) (a .earlier .now) (a .jobs) (a .modules) (a .t11) (p .known) (r .result .at)
     (r .result .least) (r .ensures) in
-    let cut = hopeless-cut (a .need .now) (a .minutes .now) (a .earlier .now) (a .tails .now) (a .jobs) (a .modules) (a .t10) (p .known)
+    let cut = hopeless-cut (a .need .now) (a .minutes .now) (a .earlier .now) (a .tails .now) (a .jobs) (a .modules) (a .t11) (p .known)
     (r .result .at) (r .result .least) starts (a .target) (p .chains)
     (pos-of-ne-zero (c .before .before .before .before .before .before .before .before .before .before .before .before .before .if1 .left)) (c .before .before .hopeless .ensures
     (c .before .if2 .taken)) in
@@ -301,9 +302,9 @@ visit-returns-3 t c =
     let a = start .args in
     let p = start .pre .1 in
     let r = c .before .before .before .before .before .before .before .before .before .before .before .before .before .ready-starts in
-    let starts = job-starts (a .need .now) (a .minutes .now) (a .earlier .now) (a .jobs) (a .modules) (a .t10) (p .known) (r .result .at)
+    let starts = job-starts (a .need .now) (a .minutes .now) (a .earlier .now) (a .jobs) (a .modules) (a .t11) (p .known) (r .result .at)
     (r .result .least) (r .ensures) in
-    let cut = recall-cut (a .need .now) (a .minutes .now) (a .earlier .now) (a .jobs) (a .modules) (a .t10) (p .known)
+    let cut = recall-cut (a .need .now) (a .minutes .now) (a .earlier .now) (a .jobs) (a .modules) (a .t11) (p .known)
     (r .result .at) (r .result .least) starts (suc (a .target)) (a .memory .now)
     (pos-of-ne-zero (c .before .before .before .before .before .before .before .before .before .before .before .before .before .before .before .before .before .before .if1 .left))
     (p .remembered) (c .before .before .recall .ensures (c .before .if3 .taken)) in
@@ -315,9 +316,9 @@ visit-to-try-requires t c κs =
     let a = start .args in
     let p = start .pre .1 in
     let r = c .before .before .before .before .before .before .before .before .before .before .before .before .before .ready-starts in
-    let starts = job-starts (a .need .now) (a .minutes .now) (a .earlier .now) (a .jobs) (a .modules) (a .t10) (p .known) (r .result .at)
+    let starts = job-starts (a .need .now) (a .minutes .now) (a .earlier .now) (a .jobs) (a .modules) (a .t11) (p .known) (r .result .at)
     (r .result .least) (r .ensures) in
-    trying (a .need .now) (a .minutes .now) (a .earlier .now) (a .jobs) (a .modules) (a .t10) (p .known) (a .target) (r .result .at)
+    trying (a .need .now) (a .minutes .now) (a .earlier .now) (a .jobs) (a .modules) (a .t11) (p .known) (a .target) (r .result .at)
     (starts .each) 0 (r .result .least) (starts .first)
 
 visit-next-choice-requires : (t : ℕ)
@@ -332,9 +333,9 @@ visit-loop-holds t c =
     let a = start .args in
     let p = start .pre .1 in
     let r = c .before .before .before .before .before .before .before .before .before .before .before .before .before .before .before .before .ready-starts in
-    let starts = job-starts (a .need .now) (a .minutes .now) (a .earlier .now) (a .jobs) (a .modules) (a .t10) (p .known) (r .result .at)
+    let starts = job-starts (a .need .now) (a .minutes .now) (a .earlier .now) (a .jobs) (a .modules) (a .t11) (p .known) (r .result .at)
     (r .result .least) (r .ensures) in (
-      sweep-first (a .need .now) (a .minutes .now) (a .earlier .now) (a .jobs) (a .modules) (a .t10) (p .known) (a .target) (r .result .at)
+      sweep-first (a .need .now) (a .minutes .now) (a .earlier .now) (a .jobs) (a .modules) (a .t11) (p .known) (a .target) (r .result .at)
           (starts .each) (c .before .before .to-try .result) (c .next-choice .result) (c .next-choice .ensures),
       (p .remembered, refl),
     )
@@ -346,7 +347,7 @@ visit-try-children-requires t c κs =
     let a = start .args in
     let p = start .pre .1 in
     let r = c .before .before .before .before .before .before .before .before .before .before .before .before .before .before .before .before .before .before .before .before .before .ready-starts in
-    let starts = job-starts (a .need .now) (a .minutes .now) (a .earlier .now) (a .jobs) (a .modules) (a .t10) (p .known) (r .result .at)
+    let starts = job-starts (a .need .now) (a .minutes .now) (a .earlier .now) (a .jobs) (a .modules) (a .t11) (p .known) (r .result .at)
     (r .result .least) (r .ensures) in
     let loop = c .before .before .before .before .loop in
     let sweep = loop .inv .0 in
@@ -360,6 +361,7 @@ visit-try-children-requires t c κs =
           chains = p .chains;
           related-is = p .related-is;
           weighted = p .weighted;
+          laned = p .laned;
           settled = p .settled;
           remembered = loop .inv .1 .0;
         },
@@ -370,7 +372,7 @@ visit-try-children-requires t c κs =
 visit-same-length-2 : (t : ℕ) → visit-lts.Need-same-length-2 (visit-claims t) (visit-at t) visit.Post visit-Inv-loop visit-μ-loop
 visit-same-length-2 t c =
     let loop = c .before .before .before .before .before .before .before .before .loop in
-    c .before .before .before .try-children .kept .1 .1 .1 .1 .1 .1 .1 .1 .1 .1 .1 .1 .1 .1 .1 .0 ∙ loop .inv .1 .1
+    c .before .before .before .try-children .kept .1 .1 .1 .1 .1 .1 .1 .1 .1 .1 .1 .1 .1 .1 .1 .1 .0 ∙ loop .inv .1 .1
 
 visit-returns-4 : (t : ℕ) → visit-lts.Need-returns-4 (visit-claims t) (visit-at t) visit.Post visit-Inv-loop visit-μ-loop
 visit-returns-4 t c =
@@ -379,7 +381,7 @@ visit-returns-4 t c =
     let p = start .pre .1 in
     let loop = c .before .before .before .before .before .before .before .before .loop in
     let try = c .before .before .before .try-children in
-    (found-below _ (a .target) (wordOf (a .t10)) (loop .c .job) _ (try .ensures .0) (c .if5 .taken), try .ensures .1)
+    (found-below _ (a .target) (wordOf (a .t11)) (loop .c .job) _ (try .ensures .0) (c .if5 .taken), try .ensures .1)
 
 visit-clear32-requires : (t : ℕ) → visit-lts.Need-clear32-requires (visit-claims t) (visit-at t) visit.Post visit-Inv-loop visit-μ-loop
 visit-clear32-requires t c κs =
@@ -410,7 +412,7 @@ visit-loop-less t c =
     let a = start .args in
     let p = start .pre .1 in
     let r = c .before .before .before .before .before .before .before .before .before .before .before .before .before .before .before .before .before .before .before .before .before .before .before .before .before .before .before .before .before .ready-starts in
-    let starts = job-starts (a .need .now) (a .minutes .now) (a .earlier .now) (a .jobs) (a .modules) (a .t10) (p .known) (r .result .at)
+    let starts = job-starts (a .need .now) (a .minutes .now) (a .earlier .now) (a .jobs) (a .modules) (a .t11) (p .known) (r .result .at)
     (r .result .least) (r .ensures) in
     let first = c .before .before .before .before .before .before .before .before .before .before .before .before .before .before .before .to-try in
     let loop = c .before .before .before .before .before .before .before .before .before .before .before .before .loop in
@@ -418,7 +420,7 @@ visit-loop-less t c =
     let l : loop .c .start < 65535 = omega
     (arith, c .before .before .before .before .before .before .before .before .before .before .if4 .taken, sweep .choice .low) in
     rw (c .before .before .before .clear32 .ensures) (one-less (chosen-in (a .need .now) (a .minutes .now) (a .earlier .now) (a .jobs)
-    (a .modules) (a .t10) (p .known) (a .target) (r .result .at) (starts .each) (first .result) (loop .left) (loop .c) (sweep .choice) l))
+    (a .modules) (a .t11) (p .known) (a .target) (r .result .at) (starts .each) (first .result) (loop .left) (loop .c) (sweep .choice) l))
 
 visit-loop-again : (t : ℕ) → visit-lts.Need-loop-again (visit-claims t) (visit-at t) visit.Post visit-Inv-loop visit-μ-loop
 visit-loop-again t c =
@@ -426,7 +428,7 @@ visit-loop-again t c =
     let a = start .args in
     let p = start .pre .1 in
     let r = c .before .before .before .before .before .before .before .before .before .before .before .before .before .before .before .before .before .before .before .before .before .before .before .before .before .before .before .before .before .ready-starts in
-    let starts = job-starts (a .need .now) (a .minutes .now) (a .earlier .now) (a .jobs) (a .modules) (a .t10) (p .known) (r .result .at)
+    let starts = job-starts (a .need .now) (a .minutes .now) (a .earlier .now) (a .jobs) (a .modules) (a .t11) (p .known) (r .result .at)
     (r .result .least) (r .ensures) in
     let first = c .before .before .before .before .before .before .before .before .before .before .before .before .before .before .before .to-try in
     let loop = c .before .before .before .before .before .before .before .before .before .before .before .before .loop in
@@ -435,11 +437,11 @@ visit-loop-again t c =
     let l : loop .c .start < 65535 = omega
     (arith, c .before .before .before .before .before .before .before .before .before .before .if4 .taken, sweep .choice .low) in (
       rw (c .before .before .before .clear32 .ensures, c .before .before .set32 .ensures)
-          (sweep-next (a .need .now) (a .minutes .now) (a .earlier .now) (a .jobs) (a .modules) (a .t10) (p .known) (a .target)
+          (sweep-next (a .need .now) (a .minutes .now) (a .earlier .now) (a .jobs) (a .modules) (a .t11) (p .known) (a .target)
           (r .result .at) (starts .each) (first .result) (loop .left) (loop .tried) (loop .c) (c .next-choice2 .result) sweep l
           (try .ensures .0 .miss (c .before .before .before .before .if5 .left)) (rw (c .before .before .before .clear32 .ensures) at
           (c .next-choice2 .ensures))),
-      (try .ensures .1, try .kept .1 .1 .1 .1 .1 .1 .1 .1 .1 .1 .1 .1 .1 .1 .1 .0 ∙ loop .inv .1 .1),
+      (try .ensures .1, try .kept .1 .1 .1 .1 .1 .1 .1 .1 .1 .1 .1 .1 .1 .1 .1 .1 .0 ∙ loop .inv .1 .1),
     )
 
 visit-remember-requires : (t : ℕ) → visit-lts.Need-remember-requires (visit-claims t) (visit-at t) visit.Post visit-Inv-loop visit-μ-loop
@@ -462,21 +464,21 @@ visit-returns-5 t c =
     let a = start .args in
     let p = start .pre .1 in
     let r = c .before .before .before .before .before .before .before .before .before .before .before .before .before .before .before .before .before .before .before .before .before .before .before .before .before .before .ready-starts in
-    let starts = job-starts (a .need .now) (a .minutes .now) (a .earlier .now) (a .jobs) (a .modules) (a .t10) (p .known) (r .result .at)
+    let starts = job-starts (a .need .now) (a .minutes .now) (a .earlier .now) (a .jobs) (a .modules) (a .t11) (p .known) (r .result .at)
     (r .result .least) (r .ensures) in
     let first = c .before .before .before .before .before .before .before .before .before .before .before .before .to-try in
     let loop = c .before .before .before .before .before .before .before .before .before .loop in
     let remember = c .before .before .before .remember in
-    let swept = sweep-all (a .need .now) (a .minutes .now) (a .earlier .now) (a .jobs) (a .modules) (a .t10) (p .known) (a .target)
+    let swept = sweep-all (a .need .now) (a .minutes .now) (a .earlier .now) (a .jobs) (a .modules) (a .t11) (p .known) (a .target)
     (r .result .at) (starts .each) (first .result) (loop .left) (loop .tried) (loop .c) (loop .inv .0)
     (c .before .before .before .before .before .before .before .if4 .left) in
-    let all = all-tried (a .need .now) (a .minutes .now) (a .earlier .now) (a .jobs) (a .modules) (a .t10) (p .known) (a .target)
+    let all = all-tried (a .need .now) (a .minutes .now) (a .earlier .now) (a .jobs) (a .modules) (a .t11) (p .known) (a .target)
     (r .result .at) (starts .each) (first .result) (a .related .now) (p .related-is) (first .ensures) swept in
-    let cut = visit-all (a .need .now) (a .minutes .now) (a .earlier .now) (a .jobs) (a .modules) (a .t10) (p .known)
+    let cut = visit-all (a .need .now) (a .minutes .now) (a .earlier .now) (a .jobs) (a .modules) (a .t11) (p .known)
     (a .target) (pos-of-ne-zero
     (c .before .before .before .before .before .before .before .before .before .before .before .before .before .before .before .before .before .before .before .before .before .before .before .before .before .before .before .before .before .before .before .if1 .left)) all in (
       rw (c .none-found3 .ensures) (none-outcome _ (a .target) _ cut),
-      visit-remember (a .need .now) (a .minutes .now) (a .earlier .now) (a .jobs) (a .modules) (a .t10) (p .known)
+      visit-remember (a .need .now) (a .minutes .now) (a .earlier .now) (a .jobs) (a .modules) (a .t11) (p .known)
           (a .target) (loop .memory) (remember .last .0) (loop .inv .1 .0) cut (remember .ensures),
     )
 

@@ -9,11 +9,11 @@ use Rattle.search.proofs.first_order.Statement.{statement}
 use Rattle.search.proofs.first_order.Tie as tie
 
 abbrev Inv-loop : tie.InvT-loop
-Inv-loop need minutes earlier related tails worth most jobs modules memory₀ best₀ part₀ k₀ memory best part k =
-    Standing need minutes earlier related tails worth most jobs modules part best memory k × (length memory ≡ length memory₀)
+Inv-loop need minutes earlier related tails worth most lanes jobs modules memory₀ best₀ part₀ k₀ memory best part k =
+    Standing need minutes earlier related tails worth most lanes jobs modules part best memory k × (length memory ≡ length memory₀)
 
 abbrev μ-loop : tie.MeasureT-loop
-μ-loop need minutes earlier related tails worth most jobs modules memory₀ best₀ part₀ k₀ memory best part k = jobs - k
+μ-loop need minutes earlier related tails worth most lanes jobs modules memory₀ best₀ part₀ k₀ memory best part k = jobs - k
 
 first-part-requires : tie.Need-first-part-requires Inv-loop μ-loop
 first-part-requires c κs = c .before .pre .1 .known .fit
@@ -59,7 +59,7 @@ loop-again c =
       stands-next (loop .inv .0) (c .before .before .before .before .before .before .before .loop-test .taken) _ (settle .ensures .0)
           (settle .ensures .1) (c .before .wide .ensures) (go .0) (go .1 .0)
           (go .1 .1),
-      settle .kept .1 .1 .1 .1 .1 .1 .1 .1 .1 .1 .1 .0 ∙ loop .inv .1,
+      settle .kept .1 .1 .1 .1 .1 .1 .1 .1 .1 .1 .1 .1 .0 ∙ loop .inv .1,
     )
 
 same-length : tie.Need-same-length Inv-loop μ-loop

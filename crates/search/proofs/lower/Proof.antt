@@ -17,8 +17,8 @@ returns c =
     let start = c .before .before .before .before in
     let a = start .args in
     rw (c .kept .ensures) (
-      lower-miss (a .need .now) (a .minutes .now) (a .earlier .now) (a .related .now) (a .tails .now) (a .worth .now) (a .most .now) (a .jobs)
-          (a .modules) (start .pre) (from-zero (a .need .now) (a .minutes .now) (a .earlier .now) (a .related .now) (a .tails .now) (a .worth .now) (a .most .now) (a .jobs)
+      lower-miss (a .need .now) (a .minutes .now) (a .earlier .now) (a .related .now) (a .tails .now) (a .worth .now) (a .most .now) (a .lanes .now) (a .jobs)
+          (a .modules) (start .pre) (from-zero (a .need .now) (a .minutes .now) (a .earlier .now) (a .related .now) (a .tails .now) (a .worth .now) (a .most .now) (a .lanes .now) (a .jobs)
           (a .modules) (a .best) (c .before .if1 .taken)),
       start .pre .remembered,
     )
@@ -43,7 +43,7 @@ visit-requires c κs =
     let a = start .args in
     let target = c .before .before .before .rounded in
     rw (c .before .before .first-part .ensures, c .before .none-settled .ensures) (enter (a .need .now) (a .minutes .now) (a .earlier .now) (a .related .now)
-    (a .tails .now) (a .worth .now) (a .most .now) (a .jobs) (a .modules) (target .result) (start .pre)
+    (a .tails .now) (a .worth .now) (a .most .now) (a .lanes .now) (a .jobs) (a .modules) (target .result) (start .pre)
     (let low = c .before .before .before .before .before .if1 .left in omega (arith, target .ensures .below)))
 
 same-length : tie.Need-same-length
@@ -55,7 +55,7 @@ returns-2 c =
     let a = start .args in
     let visit = c .before .before .before .visit in
     let target = c .before .before .before .before .before .before .before .rounded in
-    lower-hit (a .need .now) (a .minutes .now) (a .earlier .now) (a .related .now) (a .tails .now) (a .worth .now) (a .most .now) (a .jobs) (a .modules) _
+    lower-hit (a .need .now) (a .minutes .now) (a .earlier .now) (a .related .now) (a .tails .now) (a .worth .now) (a .most .now) (a .lanes .now) (a .jobs) (a .modules) _
     (target .result) (start .pre) (let low = c .before .before .before .before .before .before .before .before .before .if1 .left in omega (arith, target .ensures .below)) (visit .ensures .0) (c .if2 .taken)
     (visit .ensures .1)
 
@@ -72,12 +72,12 @@ returns-3 c =
     let visit = c .before .before .before .before .visit in
     let target = c .before .before .before .before .before .before .before .before .rounded in
     let word = ap wordOf (c .before .before .before .before .before .before .before .first-part .ensures) ∙ first-word (a .need .now) (a .minutes .now) (a .jobs) (a .modules) in
-    let between = none-between (a .need .now) (a .minutes .now) (a .earlier .now) (a .related .now) (a .tails .now) (a .worth .now) (a .most .now) (a .jobs) (a .modules)
+    let between = none-between (a .need .now) (a .minutes .now) (a .earlier .now) (a .related .now) (a .tails .now) (a .worth .now) (a .most .now) (a .lanes .now) (a .jobs) (a .modules)
     (a .best) (target .result) (start .pre .fit) (c .before .before .before .before .before .before .before .before .before .before .if1 .left) (target .ensures) in
-    let none = none-by (a .need .now) (a .minutes .now) (a .earlier .now) (a .related .now) (a .tails .now) (a .worth .now) (a .most .now) (a .jobs) (a .modules)
+    let none = none-by (a .need .now) (a .minutes .now) (a .earlier .now) (a .related .now) (a .tails .now) (a .worth .now) (a .most .now) (a .lanes .now) (a .jobs) (a .modules)
     (target .result) word (visit .ensures .0) (c .before .if2 .left) in
     rw (c .kept2 .ensures) (
-      lower-miss (a .need .now) (a .minutes .now) (a .earlier .now) (a .related .now) (a .tails .now) (a .worth .now) (a .most .now) (a .jobs) (a .modules) (start .pre)
+      lower-miss (a .need .now) (a .minutes .now) (a .earlier .now) (a .related .now) (a .tails .now) (a .worth .now) (a .most .now) (a .lanes .now) (a .jobs) (a .modules) (start .pre)
           (λ o d. between o d (none o d)),
       remembered-until _ _ (suc (target .result)) (a .best .end) between (visit .ensures .1),
     )

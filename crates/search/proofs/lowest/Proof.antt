@@ -8,11 +8,11 @@ use Rattle.search.proofs.lowest.Statement.{statement}
 use Rattle.search.proofs.lowest.Tie as tie
 
 abbrev Inv-loop : tie.InvT-loop
-Inv-loop need minutes earlier related tails worth most jobs modules memory₀ best₀ memory best =
-    Turn need minutes earlier related tails worth most jobs modules best memory × (length memory ≡ length memory₀)
+Inv-loop need minutes earlier related tails worth most lanes jobs modules memory₀ best₀ memory best =
+    Turn need minutes earlier related tails worth most lanes jobs modules best memory × (length memory ≡ length memory₀)
 
 abbrev μ-loop : tie.MeasureT-loop
-μ-loop need minutes earlier related tails worth most jobs modules memory₀ best₀ memory best = best .end + only (best .hit) 1
+μ-loop need minutes earlier related tails worth most lanes jobs modules memory₀ best₀ memory best = best .end + only (best .hit) 1
 
 lower-requires : tie.Need-lower-requires Inv-loop μ-loop
 lower-requires c κs = c .before .before .pre
@@ -22,7 +22,7 @@ loop-holds c =
     let start = c .before .before .before .before .before in
     let a = start .args in
     let lower = c .before .before .lower in (
-      turn-next (a .need .now) (a .minutes .now) (a .earlier .now) (a .related .now) (a .tails .now) (a .worth .now) (a .most .now) (a .jobs) (a .modules) _ (start .pre)
+      turn-next (a .need .now) (a .minutes .now) (a .earlier .now) (a .related .now) (a .tails .now) (a .worth .now) (a .most .now) (a .lanes .now) (a .jobs) (a .modules) _ (start .pre)
           (lower .ensures .0) (lower .ensures .1),
       refl,
     )
@@ -34,7 +34,7 @@ loop-less : tie.Need-loop-less Inv-loop μ-loop
 loop-less c =
     let start = c .before .before .before .before .before .before .before .before .before .before .before in
     let a = start .args in
-    turn-less (a .need .now) (a .minutes .now) (a .earlier .now) (a .related .now) (a .tails .now) (a .worth .now) (a .most .now) (a .jobs) (a .modules)
+    turn-less (a .need .now) (a .minutes .now) (a .earlier .now) (a .related .now) (a .tails .now) (a .worth .now) (a .most .now) (a .lanes .now) (a .jobs) (a .modules)
     (c .before .before .lower2 .ensures .0) (c .before .before .before .before .loop-test .taken)
 
 loop-again : tie.Need-loop-again Inv-loop μ-loop
@@ -43,19 +43,19 @@ loop-again c =
     let a = start .args in
     let lower = c .before .before .lower2 in
     let loop = c .before .before .before .before .before .loop in (
-      turn-next (a .need .now) (a .minutes .now) (a .earlier .now) (a .related .now) (a .tails .now) (a .worth .now) (a .most .now) (a .jobs) (a .modules) _
+      turn-next (a .need .now) (a .minutes .now) (a .earlier .now) (a .related .now) (a .tails .now) (a .worth .now) (a .most .now) (a .lanes .now) (a .jobs) (a .modules) _
           (loop .inv .0 .state) (lower .ensures .0) (lower .ensures .1),
-      lower .kept .1 .1 .1 .1 .1 .1 .1 .1 .1 .1 .0 ∙ loop .inv .1,
+      lower .kept .1 .1 .1 .1 .1 .1 .1 .1 .1 .1 .1 .0 ∙ loop .inv .1,
     )
 
 same-length : tie.Need-same-length Inv-loop μ-loop
-same-length c = c .before .loop .inv .1 ∙ c .before .before .before .before .lower .kept .1 .1 .1 .1 .1 .1 .1 .1 .1 .1 .0
+same-length c = c .before .loop .inv .1 ∙ c .before .before .before .before .lower .kept .1 .1 .1 .1 .1 .1 .1 .1 .1 .1 .1 .0
 
 returns : tie.Need-returns Inv-loop μ-loop
 returns c =
     let start = c .before .before .before .before .before .before .before in
     let a = start .args in
-    turn-last (a .need .now) (a .minutes .now) (a .earlier .now) (a .related .now) (a .tails .now) (a .worth .now) (a .most .now) (a .jobs) (a .modules)
+    turn-last (a .need .now) (a .minutes .now) (a .earlier .now) (a .related .now) (a .tails .now) (a .worth .now) (a .most .now) (a .lanes .now) (a .jobs) (a .modules)
     (c .before .loop .inv .0) (c .loop-test .left)
 
 pub lowest-spec : {M : Type 1} → statement M

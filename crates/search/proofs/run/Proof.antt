@@ -2,7 +2,6 @@
 use mathlib.Core.Path.{_≡_, ap, _∙_}
 use Prim.Native.Nat.{ℕ}
 use lib.ListN.{length, replicate}
-use Rattle.candidates.proofs.Children.{first-known}
 use Rattle.listing.proofs.Listing.{listed-order}
 use Rattle.search.proofs.Recalls.{remembered-none}
 use Rattle.search.proofs.Whole.{listed-circular}
@@ -35,59 +34,35 @@ returns c = (
   c .before .before .before .before .before .before .before .before .before .before .before .before .before .clear .ensures,
 )
 
-lowest-requires : tie.Need-lowest-requires
-lowest-requires c κs =
-    let start = c .before .before .before .before .before .before .before .before .before .before .before .before .before .before .before .before .before .before .before .before .before in
-    let a = start .args in
+lanes-of-requires : tie.Need-lanes-of-requires
+lanes-of-requires c κs = c .before .before .before .before .before .before .before .before .before .before .before .before .before .before .before .before .pre
+
+best-order-requires : tie.Need-best-order-requires
+best-order-requires c κs =
+    let start = c .before .before .before .before .before .before .before .before .before .before .before .before .before .before .before .before .before .before .before .before .before .before .before .before in
     record {
       fit = start .pre;
-      chains = c .before .before .before .before .before .before .before .before .before .before .before .before .before .before .before .chains .ensures .each;
-      related-is = c .before .before .before .before .before .before .before .before .before .before .before .before .before .relate .ensures;
-      weighted = c .before .before .before .before .before .before .before .before .before .before .before .weightings .ensures;
-      best-is = listed-order (c .before .before .before .before .before .before .before .first-listed .ensures) (c .before .before .before .before .before .if1 .left);
-      remembered = remembered-none _ _ (length (a .memory .now)) _
-          (c .before .before .before .before .before .before .before .before .before .before .before .before .before .before .before .before .before .before .clear .ensures);
+      chains = c .before .before .before .before .before .before .before .before .before .before .before .before .before .before .before .before .before .before .chains .ensures .each;
+      related-is = c .before .before .before .before .before .before .before .before .before .before .before .before .before .before .before .before .relate .ensures;
+      weighted = c .before .before .before .before .before .before .before .before .before .before .before .before .before .before .weightings .ensures;
+      laned = c .before .before .before .before .before .before .before .lanes-of .ensures;
+      best-is = listed-order (c .before .before .before .before .before .before .before .before .before .before .first-listed .ensures) (c .before .before .before .before .before .before .before .before .if1 .left);
+      remembered = remembered-none _ _ (length (start .args .memory .now)) _ (c .before .before .before .before .before .before .before .before .before .before .before .before .before .before .before .before .before .before .before .before .before .clear .ensures);
     }
 
-clear-requires-2 : tie.Need-clear-requires-2
-clear-requires-2 c κs = search needs
-
-first-order-requires : tie.Need-first-order-requires
-first-order-requires c κs =
-    let start = c .before .before .before .before .before .before .before .before .before .before .before .before .before .before .before .before .before .before .before .before .before .before .before .before .before .before .before .before .before .before .before .before .before in
-    let a = start .args in
-    let lowest = c .before .before .before .before .before .before .before .before .before .before .before .lowest .ensures in (
-      lowest,
-      record {
-        low = lowest .is .low;
-        known = first-known (a .need .now) (a .minutes .now) (a .earlier .now) (a .jobs) (a .modules) (start .pre);
-        chains = c .before .before .before .before .before .before .before .before .before .before .before .before .before .before .before .before .before .before .before .before .before .before .before .before .before .before .before .chains .ensures .each;
-        related-is = c .before .before .before .before .before .before .before .before .before .before .before .before .before .before .before .before .before .before .before .before .before .before .before .before .before .relate .ensures;
-        weighted = c .before .before .before .before .before .before .before .before .before .before .before .before .before .before .before .before .before .before .before .before .before .before .before .weightings .ensures;
-        remembered = remembered-none _ _ (length
-            (c .before .before .before .before .before .before .before .before .before .before .before .lowest .last .1 .1 .1 .1 .1 .1 .1 .1 .1 .1 .0)) _
-            (c .before .before .before .before .before .before .before .clear2 .ensures);
-      },
-    )
-
-clear-requires-3 : tie.Need-clear-requires-3
-clear-requires-3 c κs = search needs
-
--- the memory's length, up to the last clearing
-memory-length : (c : tie.After-slice-known6)
-    → length (c .before .before .before .before .before .before .first-order .last .1 .1 .1 .1 .1 .1 .1 .1 .1 .1 .0) ≡ length
-    (c .before .before .before .before .before .before .before .before .before .before .before .before .before .before .before .before .before .before .before .before .before .before .before .before .before .before .before .before .before .before .before .before .before .before .before .before .before .before .before .before .args .memory .now)
-memory-length c =
-    c .before .before .before .before .before .before .first-order .kept .1 .1 .1 .1 .1 .1 .1 .1 .1 .1 .0 ∙ c .before .before .before .before .before .before .before .before .before .before .before .before .before .before .clear2 .kept .0 ∙ c .before .before .before .before .before .before .before .before .before .before .before .before .before .before .before .before .before .before .lowest .kept .1 .1 .1 .1 .1 .1 .1 .1 .1 .1 .0 ∙ c .before .before .before .before .before .before .before .before .before .before .before .before .before .before .before .before .before .before .before .before .before .before .before .before .before .before .before .before .before .before .before .before .before .before .before .before .before .clear .kept .0
+-- the memory's length, up to the search
+memory-length : (c : tie.After-slice-known3)
+    → length (c .before .before .best-order .last .1 .1 .1 .1 .1 .1 .1 .1 .1 .1 .1 .0) ≡ length (c .before .before .before .before .before .before .before .before .before .before .before .before .before .before .before .before .before .before .before .before .before .before .before .before .before .before .before .args .memory .now)
+memory-length c = c .before .before .best-order .kept .1 .1 .1 .1 .1 .1 .1 .1 .1 .1 .1 .0 ∙ c .before .before .before .before .before .before .before .before .before .before .before .before .before .before .before .before .before .before .before .before .before .before .before .before .clear .kept .0
 
 same-length-2 : tie.Need-same-length-2
-same-length-2 c = c .before .before .clear3 .kept .0 ∙ memory-length c
+same-length-2 c = memory-length c
 
 returns-2 : tie.Need-returns-2
 returns-2 c =
-    let found = c .before .before .before .before .before .before .first-order .ensures in (
-      record { best = λ _. found .0; end = λ _. found .1 },
-      c .before .before .clear3 .ensures ∙ ap (λ (k : ℕ). replicate k 0) (memory-length c),
+    let found = c .before .before .best-order .ensures in (
+      record { best = λ _. found .0 .0; end = λ _. found .0 .1 },
+      found .1 ∙ ap (λ (k : ℕ). replicate k 0) (c .before .before .before .before .before .before .before .before .before .before .before .before .before .before .before .before .before .before .before .before .before .before .before .before .clear .kept .0),
     )
 
 pub run-spec : {M : Type 1} → statement M
@@ -101,9 +76,7 @@ run-spec =
     first-listed-requires
     same-length
     returns
-    lowest-requires
-    clear-requires-2
-    first-order-requires
-    clear-requires-3
+    lanes-of-requires
+    best-order-requires
     same-length-2
     returns-2)

@@ -13,13 +13,13 @@ use Rattle.search.proofs.settle_place.Statement.{statement}
 use Rattle.search.proofs.settle_place.Tie as tie
 
 abbrev Inv-loop : tie.InvT-loop
-Inv-loop need minutes earlier related tails worth most jobs modules part memory₀ best k stop j₀ memory j =
+Inv-loop need minutes earlier related tails worth most lanes jobs modules part memory₀ best k stop j₀ memory j =
     (j ≤ stop)
     × (NoneUpto (sheetOf need minutes earlier jobs modules) (best .end) (wordOf part) j
     × (Remembered (sheetOf need minutes earlier jobs modules) memory (suc (best .end)) × (length memory ≡ length memory₀)))
 
 abbrev μ-loop : tie.MeasureT-loop
-μ-loop need minutes earlier related tails worth most jobs modules part memory₀ best k stop j₀ memory j = stop - j
+μ-loop need minutes earlier related tails worth most lanes jobs modules part memory₀ best k stop j₀ memory j = stop - j
 
 element-copy-out-wide : tie.Need-element-copy-out-wide Inv-loop μ-loop
 element-copy-out-wide c = omega (arith, c .before .pre .1 .1, c .before .pre .0 .known .fit .few)
@@ -49,12 +49,12 @@ try-place-requires c κs =
       job-below h
           (a .part .placed) (word-length (g .known)) (start .pre .1 .1),
     ) in (
-      record { low = g .low; known = g .known; chains = g .chains; related-is = g .related-is; weighted = g .weighted; remembered = loop .inv .1 .1 .0 },
+      record { low = g .low; known = g .known; chains = g .chains; related-is = g .related-is; weighted = g .weighted; laned = g .laned; remembered = loop .inv .1 .1 .0 },
       below,
     )
 
 same-length : tie.Need-same-length Inv-loop μ-loop
-same-length c = c .before .before .before .try-place .kept .1 .1 .1 .1 .1 .1 .1 .1 .1 .1 .1 .1 .0 ∙ c .before .before .before .before .before .before .loop .inv .1 .1 .1
+same-length c = c .before .before .before .try-place .kept .1 .1 .1 .1 .1 .1 .1 .1 .1 .1 .1 .1 .1 .0 ∙ c .before .before .before .before .before .before .loop .inv .1 .1 .1
 
 returns : tie.Need-returns Inv-loop μ-loop
 returns c =
@@ -84,8 +84,8 @@ loop-again c =
     let loop = c .before .before .before .before .before .before .loop in (
       omega (arith, c .before .before .before .before .before .loop-test .taken),
       (
-        upto-more _ (a .t11 .end) (wordOf (a .part)) (loop .j) (loop .inv .1 .0) (try .ensures .0 .miss (c .if1 .left)),
-        (try .ensures .1, try .kept .1 .1 .1 .1 .1 .1 .1 .1 .1 .1 .1 .1 .0 ∙ loop .inv .1 .1 .1),
+        upto-more _ (a .t12 .end) (wordOf (a .part)) (loop .j) (loop .inv .1 .0) (try .ensures .0 .miss (c .if1 .left)),
+        (try .ensures .1, try .kept .1 .1 .1 .1 .1 .1 .1 .1 .1 .1 .1 .1 .1 .0 ∙ loop .inv .1 .1 .1),
       ),
     )
 
@@ -101,8 +101,8 @@ returns-2 c =
     let loop = c .before .loop in
     let k = a .part .placed in
     let some = placed-at h k (word-length (g .known)) (start .pre .1 .1) in
-    let at : loop .j ≡ getD (a .t11 .order) k 0 = omega (arith, loop .inv .0, c .loop-test .left, c .before .before .wide .ensures) in
-    (place-miss h (getD (a .t11 .order) k 0) (some .0) (some .1) (rw at at (loop .inv .1 .0)), loop .inv .1 .1 .0)
+    let at : loop .j ≡ getD (a .t12 .order) k 0 = omega (arith, loop .inv .0, c .loop-test .left, c .before .before .wide .ensures) in
+    (place-miss h (getD (a .t12 .order) k 0) (some .0) (some .1) (rw at at (loop .inv .1 .0)), loop .inv .1 .1 .0)
 
 pub settle-place-spec : {M : Type 1} → statement M
 settle-place-spec =
