@@ -7,6 +7,8 @@ mod relations;
 mod rules;
 mod sums;
 mod tables;
+#[allow(dead_code)]
+mod values;
 
 use crate::MOST_JOBS;
 use bounds::Weights;
