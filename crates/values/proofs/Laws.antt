@@ -106,6 +106,7 @@ put-narrow old width value = record {
 
 pub reached-none : (minutes value : List ℕ) (step : ℕ) → Reached minutes value 0 step (replicate 1024 0)
 reached-none minutes value step = record {
+  size = length-replicate {A = ℕ} 1024 0;
   table = knapsack-none (λ k. getD minutes k 0 / step) (λ k. getD value k 0) 1023 255 1024;
   none = omega (arith, zeros 1024 0);
 }
@@ -114,6 +115,7 @@ pub reached-more : {minutes value old new : List ℕ} {n step : ℕ} → 0 < ste
     → Reached minutes value n step old → Put (λ x. x) old new 1024 (mostWith old (getD minutes n 0 / step) (getD value n 0))
     → Reached minutes value (n + 1) step new
 reached-more {minutes} {value} {old} {new} {n} {step} some valued h put = record {
+  size = put .size ∙ h .size;
   table = knapsack-more (h .table) (h .table .small) put (valued .small n);
   none = put .each 0 (omega arith) ∙ none (less-or-not 0 (getD minutes n 0 / step));
 }

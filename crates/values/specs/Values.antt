@@ -69,6 +69,7 @@ pub record Valued (minutes : List ℕ) (step : ℕ) (value : List ℕ) : Type 0 
 
 -- the most value of the first n jobs that a lane can serve in each number of steps
 pub record Reached (minutes value : List ℕ) (n step : ℕ) (reach : List ℕ) : Type 0 where
+  pub size : length reach ≡ 1024
   pub table : Knapsack (λ k. getD minutes k 0 / step) n 1023 255 (λ k. getD value k 0) reach
   pub none : getD reach 0 0 ≡ 0
 

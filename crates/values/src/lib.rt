@@ -417,6 +417,19 @@ fn parts_in(round: usize, most: u16) -> u64
     parts
 }
 
+// The shares after a round in which a lane serves the jobs of the set.
+fn shares_after(shares: &[u32; 20], weight: &[u16; 20], most: u16, round: usize, set: u32) -> Shares
+    requires { ⌜ round < 100 ⌝ }
+{
+    let next = turn(shares, weight, most, parts_in(round, most), set);
+    scaled(&next.of)
+}
+
+// Whether the jobs are worth more than so many lanes serve.
+fn outdone(most: u16, served: u16, worth: u64) -> bool {
+    (weights::times(most, served) as u64) < worth
+}
+
 // The best values so far, or these where they bound better.
 fn keep(best: Best, value: Figures, worth: u64, served: u16) -> Best
     requires { ⌜ (best .worth ≤ 85899345920) × (worth ≤ 85899345920) ⌝ }
@@ -463,16 +476,15 @@ fn values_for(
         worth: 0,
         served: 1,
     };
+    let rounds = 5 * jobs;
     let mut round: usize = 0;
-    while round < 5 * jobs {
+    while round < rounds {
         let value = values_of(&shares.of, minutes, jobs, step);
         let served = serve(minutes, &value.of, jobs, step, t);
         let worth = total(weight, &value.of, jobs);
         best = keep(best, value, worth, served.value);
-        let next = turn(&shares.of, weight, most, parts_in(round, most), served.set);
-        shares = scaled(&next.of);
-        let room = weights::times(most, served.value) as u64;
-        round = round_after(round, 5 * jobs, room < worth);
+        shares = shares_after(&shares.of, weight, most, round, served.set);
+        round = round_after(round, rounds, outdone(most, served.value, worth));
     }
     let of = best.value;
     Figures { of: of }

@@ -4,7 +4,6 @@ use mathlib.Core.Path.{_∙_}
 use Prim.Native.Nat.{ℕ}
 use lib.ListN.{length-replicate}
 use Rattle.values.proofs.Laws.{joined-of}
-use borrow.Author.Needs.{needs}
 use Rattle.values.proofs.joined.Statement.{statement}
 use Rattle.values.proofs.joined.Tie as tie
 

@@ -2,7 +2,6 @@
 use borrow.Author.Needs.{needs}
 use mathlib.Core.Path.{refl}
 use mathlib.Core.Logic.{inl, inr}
-use borrow.Author.Needs.{needs}
 use Rattle.values.proofs.keep.Statement.{statement}
 use Rattle.values.proofs.keep.Tie as tie
 

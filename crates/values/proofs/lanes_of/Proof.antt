@@ -2,7 +2,6 @@
 use native.Mathlib.Omega.{arith}
 use borrow.Author.Needs.{needs}
 use Rattle.values.proofs.Laws.{laned}
-use borrow.Author.Needs.{needs}
 use Rattle.values.proofs.lanes_of.Statement.{statement}
 use Rattle.values.proofs.lanes_of.Tie as tie
 
@@ -32,9 +31,10 @@ joined-requires c κs = search needs
 
 returns : tie.Need-returns
 returns c =
-    let pre = c .before .before .before .before .before .before .before .before .before .before .before .before .before .before .before .before .pre in
-    let chosen = c .before .before .before .before .before .before .before .before .before .before .before .before .before .before .chosen in
-    let values-for = c .before .before .before .before .before .before .before .before .before .before .values-for in
+    let back = c .before .before .before .before .before .before .before .before .before .before in
+    let pre = back .before .before .before .before .before .before .pre in
+    let chosen = back .before .before .before .before .chosen in
+    let values-for = back .values-for in
     let reach-of = c .before .before .before .before .before .before .before .reach-of in
     let joined = c .joined in
     laned pre (omega arith) (chosen .ensures) (values-for .ensures) (reach-of .ensures) (joined .ensures)

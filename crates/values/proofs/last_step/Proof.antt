@@ -3,7 +3,6 @@ use native.Mathlib.Omega.{arith}
 use borrow.Author.Needs.{needs}
 use Prim.Native.Nat.{_-_}
 use native.Mathlib.Nat.{div-lt-iff-lt-mul}
-use borrow.Author.Needs.{needs}
 use Rattle.values.proofs.last_step.Statement.{statement}
 use Rattle.values.proofs.last_step.Tie as tie
 

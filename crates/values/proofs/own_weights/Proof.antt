@@ -1,7 +1,6 @@
 -- `values::own_weights` meets its contract.
 use borrow.Author.Needs.{needs}
 use Rattle.values.proofs.Laws.{chosen-own}
-use borrow.Author.Needs.{needs}
 use Rattle.values.proofs.own_weights.Statement.{statement}
 use Rattle.values.proofs.own_weights.Tie as tie
 

@@ -4,7 +4,6 @@ use borrow.Author.Needs.{needs}
 use Prim.Native.Nat.{_*_, _≤_}
 use native.Mathlib.Nat.{mul-le-mul}
 use native.Mathlib.Nat.{div-le-self}
-use borrow.Author.Needs.{needs}
 use Rattle.values.proofs.raised.Statement.{statement}
 use Rattle.values.proofs.raised.Tie as tie
 

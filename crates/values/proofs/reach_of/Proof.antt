@@ -1,22 +1,21 @@
 -- `values::reach_of` meets its contract.
 use native.Mathlib.Omega.{arith}
 use borrow.Author.Needs.{needs}
-use mathlib.Core.Path.{_≡_, _∙_, subst}
+use mathlib.Core.Path.{_≡_, subst}
 use Prim.Native.Nat.{ℕ, _-_, _≤_}
-use lib.ListN.{length-replicate, length}
 use Rattle.values.proofs.Laws.{reached-none, reached-more}
 use Rattle.values.specs.Values.{Reached}
 use Rattle.values.proofs.reach_of.Statement.{statement}
 use Rattle.values.proofs.reach_of.Tie as tie
 
 abbrev Inv-loop : tie.InvT-loop
-Inv-loop minutes value jobs step reach₀ k₀ reach k = (k ≤ jobs) × ((length (reach .at) ≡ 1024) × Reached minutes value k step (reach .at))
+Inv-loop minutes value jobs step reach₀ k₀ reach k = (k ≤ jobs) × Reached minutes value k step (reach .at)
 
 abbrev μ-loop : tie.MeasureT-loop
 μ-loop minutes value jobs step reach₀ k₀ reach k = jobs - k
 
 loop-holds : tie.Need-loop-holds Inv-loop μ-loop
-loop-holds c = (search needs, (length-replicate {A = ℕ} 1024 0, reached-none _ _ _))
+loop-holds c = (search needs, reached-none _ _ _)
 
 mul-steps : tie.Need-mul-steps Inv-loop μ-loop
 mul-steps c = search needs
@@ -40,8 +39,8 @@ with-value-requires c κs =
     let loop = c .before .before .before .before .before .before .loop in
     let pre = c .before .before .before .before .before .before .before .pre in
     let loop-test = c .before .before .before .before .before .loop-test in
-    let reached = loop .inv .1 .1 in
-    (loop .inv .1 .0, (λ p. omega (arith, reached .table .small p, pre .0 .0, loop-test .taken), pre .1 .small (loop .k)))
+    let reached = loop .inv .1 in
+    (reached .size, (λ p. omega (arith, reached .table .small p, pre .0 .0, loop-test .taken), pre .1 .small (loop .k)))
 
 add-k : tie.Need-add-k Inv-loop μ-loop
 add-k c = search needs
@@ -51,11 +50,11 @@ loop-less c = search needs
 
 loop-again : tie.Need-loop-again Inv-loop μ-loop
 loop-again c =
-    let with-value = c .with-value in
-    let loop = c .before .before .before .before .before .before .before .loop in
     let pre = c .before .before .before .before .before .before .before .before .pre in
+    let loop = c .before .before .before .before .before .before .before .loop in
     let steps = c .before .before .before .before .steps in
-    (search needs, (with-value .ensures .size ∙ loop .inv .1 .0, reached-more (pre .0 .1) (pre .1) (loop .inv .1 .1) (rw (steps .ensures) at (with-value .ensures))))
+    let with-value = c .with-value in
+    (search needs, reached-more (pre .0 .1) (pre .1) (loop .inv .1) (rw (steps .ensures) at (with-value .ensures)))
 
 returns : tie.Need-returns Inv-loop μ-loop
 returns c =
@@ -63,7 +62,7 @@ returns c =
     let args = c .before .before .args in
     let loop-test = c .loop-test in
     let e : loop .k ≡ args .jobs = omega (arith, loop .inv .0, loop-test .left) in
-    subst (λ (n : ℕ). Reached (args .minutes .now) (args .value .now) n (args .step) (loop .reach .at)) e (loop .inv .1 .1)
+    subst (λ (n : ℕ). Reached (args .minutes .now) (args .value .now) n (args .step) (loop .reach .at)) e (loop .inv .1)
 
 pub reach-of-spec : {M : Type 1} → statement M
 reach-of-spec =

@@ -1,22 +1,20 @@
 -- `values::serve` meets its contract.
 use native.Mathlib.Omega.{arith}
 use borrow.Author.Needs.{needs}
-use mathlib.Core.Path.{_≡_, _∙_}
-use Prim.Native.Nat.{ℕ, _-_, _≤_}
-use lib.ListN.{length-replicate, length}
+use Prim.Native.Nat.{_-_, _≤_}
 use Rattle.values.proofs.Laws.{reached-none, reached-more}
 use Rattle.values.specs.Values.{Reached}
 use Rattle.values.proofs.serve.Statement.{statement}
 use Rattle.values.proofs.serve.Tie as tie
 
 abbrev Inv-loop : tie.InvT-loop
-Inv-loop minutes value jobs step t reach₀ sets₀ k₀ reach sets k = (k ≤ jobs) × ((length (reach .at) ≡ 1024) × Reached minutes value k step (reach .at))
+Inv-loop minutes value jobs step t reach₀ sets₀ k₀ reach sets k = (k ≤ jobs) × Reached minutes value k step (reach .at)
 
 abbrev μ-loop : tie.MeasureT-loop
 μ-loop minutes value jobs step t reach₀ sets₀ k₀ reach sets k = jobs - k
 
 loop-holds : tie.Need-loop-holds Inv-loop μ-loop
-loop-holds c = (search needs, (length-replicate {A = ℕ} 1024 0, reached-none _ _ _))
+loop-holds c = (search needs, reached-none _ _ _)
 
 mul-steps : tie.Need-mul-steps Inv-loop μ-loop
 mul-steps c = search needs
@@ -46,7 +44,7 @@ with-set-requires c κs =
     let loop = c .before .before .before .before .before .before .before .before .loop in
     let pre = c .before .before .before .before .before .before .before .before .before .pre in
     let loop-test = c .before .before .before .before .before .before .before .loop-test in
-    let reached = loop .inv .1 .1 in
+    let reached = loop .inv .1 in
     (λ p. omega (arith, reached .table .small p, pre .0 .0, loop-test .taken), pre .1 .0 .small (loop .k))
 
 mul-with-value : tie.Need-mul-with-value Inv-loop μ-loop
@@ -60,8 +58,8 @@ with-value-requires c κs =
     let loop = c .before .before .before .before .before .before .before .before .before .before .before .before .loop in
     let pre = c .before .before .before .before .before .before .before .before .before .before .before .before .before .pre in
     let loop-test = c .before .before .before .before .before .before .before .before .before .before .before .loop-test in
-    let reached = loop .inv .1 .1 in
-    (loop .inv .1 .0, (λ p. omega (arith, reached .table .small p, pre .0 .0, loop-test .taken), pre .1 .0 .small (loop .k)))
+    let reached = loop .inv .1 in
+    (reached .size, (λ p. omega (arith, reached .table .small p, pre .0 .0, loop-test .taken), pre .1 .0 .small (loop .k)))
 
 add-k : tie.Need-add-k Inv-loop μ-loop
 add-k c = search needs
@@ -71,11 +69,12 @@ loop-less c = search needs
 
 loop-again : tie.Need-loop-again Inv-loop μ-loop
 loop-again c =
+    let back = c .before .before .before .before .before .before .before .before .before .before in
+    let pre = back .before .before .before .before .pre in
+    let loop = back .before .before .before .loop in
+    let steps = back .steps in
     let with-value = c .with-value in
-    let loop = c .before .before .before .before .before .before .before .before .before .before .before .before .before .loop in
-    let pre = c .before .before .before .before .before .before .before .before .before .before .before .before .before .before .pre in
-    let steps = c .before .before .before .before .before .before .before .before .before .before .steps in
-    (search needs, (with-value .ensures .size ∙ loop .inv .1 .0, reached-more (pre .0 .1) (pre .1 .0) (loop .inv .1 .1) (rw (steps .ensures) at (with-value .ensures))))
+    (search needs, reached-more (pre .0 .1) (pre .1 .0) (loop .inv .1) (rw (steps .ensures) at (with-value .ensures)))
 
 mul-t28 : tie.Need-mul-t28 Inv-loop μ-loop
 mul-t28 c = search needs

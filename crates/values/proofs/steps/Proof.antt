@@ -2,7 +2,6 @@
 use native.Mathlib.Omega.{arith}
 use borrow.Author.Needs.{needs}
 use native.Mathlib.Nat.{div-le-self}
-use borrow.Author.Needs.{needs}
 use Rattle.values.proofs.steps.Statement.{statement}
 use Rattle.values.proofs.steps.Tie as tie
 

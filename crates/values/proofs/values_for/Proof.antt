@@ -1,17 +1,18 @@
 -- `values::values_for` meets its contract.
 use native.Mathlib.Omega.{arith}
 use borrow.Author.Needs.{needs}
-use Prim.Native.Nat.{_-_, _*_, _≤_}
+use Prim.Native.Nat.{_-_, _≤_}
 use Rattle.values.specs.Values.{Valued}
 use Rattle.values.proofs.Laws.{valued-none, valued-of}
 use Rattle.values.proofs.values_for.Statement.{statement}
 use Rattle.values.proofs.values_for.Tie as tie
 
 abbrev Inv-loop : tie.InvT-loop
-Inv-loop weight most minutes jobs step t shares₀ best₀ round₀ shares best round = (round ≤ 5 * jobs) × ((best .worth ≤ 85899345920) × Valued minutes step (best .value))
+Inv-loop weight most minutes jobs step t shares₀ best₀ rounds round₀ shares best round =
+    ((round ≤ rounds) × (rounds ≤ 100)) × ((best .worth ≤ 85899345920) × Valued minutes step (best .value))
 
 abbrev μ-loop : tie.MeasureT-loop
-μ-loop weight most minutes jobs step t shares₀ best₀ round₀ shares best round = 5 * jobs - round
+μ-loop weight most minutes jobs step t shares₀ best₀ rounds round₀ shares best round = rounds - round
 
 lengths-requires : tie.Need-lengths-requires Inv-loop μ-loop
 lengths-requires c κs =
@@ -21,11 +22,13 @@ lengths-requires c κs =
 scaled-requires : tie.Need-scaled-requires Inv-loop μ-loop
 scaled-requires c κs = search needs
 
-loop-holds : tie.Need-loop-holds Inv-loop μ-loop
-loop-holds c = (search needs, (search needs, valued-none _ _))
+mul-rounds : tie.Need-mul-rounds Inv-loop μ-loop
+mul-rounds c = search needs
 
-mul-loop : tie.Need-mul-loop Inv-loop μ-loop
-mul-loop c = search needs
+loop-holds : tie.Need-loop-holds Inv-loop μ-loop
+loop-holds c =
+    let pre = c .before .before .before .before .pre in
+    ((search needs, omega (arith, pre .0 .0)), (search needs, valued-none _ _))
 
 values-of-requires : tie.Need-values-of-requires Inv-loop μ-loop
 values-of-requires c κs =
@@ -40,7 +43,8 @@ serve-requires c κs =
 
 total-requires : tie.Need-total-requires Inv-loop μ-loop
 total-requires c κs =
-    let pre = c .before .before .before .before .before .before .before .before .before .before .before .before .before .before .pre in
+    let back = c .before .before .before .before .before .before .before .before .before .before .before .before .before .before in
+    let pre = back .pre in
     pre .0 .0
 
 keep-requires : tie.Need-keep-requires Inv-loop μ-loop
@@ -49,36 +53,22 @@ keep-requires c κs =
     let total = c .total in
     (loop .inv .1 .0, total .ensures)
 
-parts-in-requires : tie.Need-parts-in-requires Inv-loop μ-loop
-parts-in-requires c κs =
-    let pre = c .before .before .before .before .before .before .before .before .before .before .before .before .before .before .before .before .before .before .pre in
-    let loop-test = c .before .before .before .before .before .before .before .before .before .before .before .before .loop-test in
-    omega (arith, pre .0 .0, loop-test .taken)
+shares-after-requires : tie.Need-shares-after-requires Inv-loop μ-loop
+shares-after-requires c κs =
+    let back = c .before .before .before .before .before .before .before .before .before .before .before .before in
+    let loop = back .before .loop in
+    let loop-test = back .loop-test in
+    omega (arith, loop .inv .0 .1, loop-test .taken)
 
-turn-requires : tie.Need-turn-requires Inv-loop μ-loop
-turn-requires c κs =
-    let parts-in = c .parts-in in
-    parts-in .ensures
-
-scaled-requires-2 : tie.Need-scaled-requires-2 Inv-loop μ-loop
-scaled-requires-2 c κs = search needs
-
-times-requires : tie.Need-times-requires Inv-loop μ-loop
-times-requires c κs = search needs
-
-cast-room : tie.Need-cast-room Inv-loop μ-loop
-cast-room c = search needs
-
-mul-round-after : tie.Need-mul-round-after Inv-loop μ-loop
-mul-round-after c =
-    let pre = c .before .before .before .before .before .before .before .before .before .before .before .before .before .before .before .before .before .before .before .before .before .before .before .before .pre in
-    record { fits = omega (arith, pre .0 .0) }
+outdone-requires : tie.Need-outdone-requires Inv-loop μ-loop
+outdone-requires c κs = search needs
 
 round-after-requires : tie.Need-round-after-requires Inv-loop μ-loop
 round-after-requires c κs =
-    let loop-test = c .before .before .before .before .before .before .before .before .before .before .before .before .before .before .before .before .before .before .loop-test in
-    let pre = c .before .before .before .before .before .before .before .before .before .before .before .before .before .before .before .before .before .before .before .before .before .before .before .before .pre in
-    (loop-test .taken, omega (arith, pre .0 .0))
+    let back = c .before .before .before .before .before .before .before .before .before .before .before .before .before .before in
+    let loop-test = back .loop-test in
+    let loop = back .before .loop in
+    (loop-test .taken, loop .inv .0 .1)
 
 loop-less : tie.Need-loop-less Inv-loop μ-loop
 loop-less c =
@@ -87,11 +77,13 @@ loop-less c =
 
 loop-again : tie.Need-loop-again Inv-loop μ-loop
 loop-again c =
+    let back = c .before .before .before .before .before .before .before .before .before .before .before .before in
+    let loop = back .before .before .before .before .loop in
     let round-after = c .round-after in
-    let keep = c .before .before .before .before .before .before .before .before .before .keep in
-    let loop = c .before .before .before .before .before .before .before .before .before .before .before .before .before .before .before .before .before .before .before .before .loop in
-    let values-of = c .before .before .before .before .before .before .before .before .before .before .before .before .before .before .before .before .values-of in
-    (round-after .ensures .1, (keep .ensures .0, valued-of (keep .ensures .1) (loop .inv .1 .1) (values-of .ensures)))
+    let keep = c .before .before .before .before .before .keep in
+    let values-of = back .values-of in
+    let best = loop .inv .1 .1 in
+    ((round-after .ensures .1, loop .inv .0 .1), (keep .ensures .0, valued-of (keep .ensures .1) best (values-of .ensures)))
 
 returns : tie.Need-returns Inv-loop μ-loop
 returns c =
@@ -106,18 +98,14 @@ values-for-spec =
     μ-loop
     lengths-requires
     scaled-requires
+    mul-rounds
     loop-holds
-    mul-loop
     values-of-requires
     serve-requires
     total-requires
     keep-requires
-    parts-in-requires
-    turn-requires
-    scaled-requires-2
-    times-requires
-    cast-room
-    mul-round-after
+    shares-after-requires
+    outdone-requires
     round-after-requires
     loop-less
     loop-again

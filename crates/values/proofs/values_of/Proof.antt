@@ -2,7 +2,7 @@
 use native.Mathlib.Omega.{arith}
 use borrow.Author.Needs.{needs}
 use mathlib.Core.Path.{_≡_}
-use Prim.Native.Nat.{_-_, _≤_}
+use Prim.Native.Nat.{_-_, _≤_, _<_}
 use lib.ListN.{length}
 use Rattle.values.specs.Values.{Valued}
 use Rattle.values.proofs.Laws.{valued-none, valued-more}
@@ -51,7 +51,8 @@ loop-again c =
     let loop-test = c .before .before .before .loop-test in
     let pre = c .before .before .before .before .before .pre in
     let value-of = c .value-of in
-    (search needs, (search needs, valued-more (loop .inv .1 .1) (loop .k) _ (omega (arith, loop .inv .1 .0, loop-test .taken, pre)) (value-of .ensures .0) (value-of .ensures .1)))
+    let low : loop .k < length (loop .next) = omega (arith, loop .inv .1 .0, loop-test .taken, pre) in
+    (search needs, (search needs, valued-more (loop .inv .1 .1) (loop .k) _ low (value-of .ensures .0) (value-of .ensures .1)))
 
 returns : tie.Need-returns Inv-loop μ-loop
 returns c =

@@ -1,7 +1,6 @@
 -- `values::weighting` meets its contract.
 use borrow.Author.Needs.{needs}
 use Rattle.values.proofs.Laws.{chosen-in}
-use borrow.Author.Needs.{needs}
 use Rattle.values.proofs.weighting.Statement.{statement}
 use Rattle.values.proofs.weighting.Tie as tie
 
