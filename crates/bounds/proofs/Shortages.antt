@@ -1,4 +1,4 @@
--- The bounds by weights, by lanes and by modules, of the figures of a part-plan.
+-- Jobs that must overlap, and the bounds by weights, by lanes and by modules, of the figures of a part-plan.
 use mathlib.Core.Path.{_≡_, refl, sym, ap, _∙_}
 use mathlib.Core.Logic.{inl, inr}
 use mathlib.Core.Bool.{Bool, true, false, not, _&&_}
@@ -16,13 +16,14 @@ use Rattle.bits.specs.Bits.{bit}
 use Rattle.schedule.specs.Plan.{Sheet, finish}
 use Rattle.schedule.specs.ListPlan.{PartPlan, occupies, occupied}
 use Rattle.schedule.proofs.Places.{CannotBeat}
-use Rattle.schedule.proofs.Bounds.{weights-cut, reach-cut, modules-cut}
+use Rattle.schedule.proofs.Bounds.{overlap-cut, weights-cut, reach-cut, modules-cut}
 use Rattle.tables.specs.Tables.{sheetOf}
 use Rattle.placement.specs.declared.Part.{Part}
 use Rattle.placement.specs.Profile.{heldAt}
 use Rattle.placement.specs.Part.{wordOf, Figures}
 use Rattle.placement.proofs.Parts.{occupied-is}
 use Rattle.weights.specs.Weights.{Outweighed}
+use Rattle.overlaps.specs.Overlaps.{runsAt, mustHold, Overlapping}
 use Rattle.lanes.specs.Lanes.{servedOn, Overfull}
 use Rattle.sums.specs.Sums.{together, Unserved}
 use Rattle.candidates.specs.Candidates.{Known, theoryPart, JobStarts}
@@ -53,6 +54,20 @@ module _ (need minutes earlier : List ℕ) (jobs modules : ℕ) (part : Part) (k
   -- the jobs of the set are those that are left
   of-set : (f : ℕ → ℕ) → sum jobs (λ k. only (bit (part .unplaced) k) (f k)) ≡ sum jobs (λ k. only (not (P .placed k)) (f k))
   of-set f = sum-same jobs _ _ (λ k l. ap (λ b. only b (f k)) (F .set k l))
+
+  overlapping-cut : Overlapping need minutes (part .until) (part .held) jobs modules (part .placed) (part .unplaced) least T
+      → CannotBeat S (suc T) w
+  overlapping-cut o =
+      let m = o .minute in
+      let same = sum-same jobs (λ k. only (not (P .placed k)) (mustHold need minutes least T m k))
+      (λ k. only (not (P .placed k) && runsAt least T m (S .minutes k)) (S .need k)) (λ k l. both (not (P .placed k)) _ (S .need k)) in
+      overlap-cut S (known .fit .lasting) (known .fit .narrow) w (known .is .follows) least (starts .low)
+      (none-before need minutes earlier jobs modules part known at least starts) T m (o .from)
+      (omega (arith, o .over, of-set (mustHold need minutes least T m), same, held-is m))
+    where
+      both : (a b : Bool) (x : ℕ) → only a (only b x) ≡ only (a && b) x
+      both true b x = refl
+      both false b x = refl
 
   outweighed-cut : Outweighed need minutes (part .until) (part .held) jobs modules (part .placed) (part .unplaced) least T
       → CannotBeat S (suc T) w
@@ -122,6 +137,7 @@ module _ (need minutes earlier : List ℕ) (jobs modules : ℕ) (part : Part) (k
 
   pub short-cut : TooFew need minutes (part .until) (part .held) jobs modules (part .placed) (part .unplaced) (part .left) least T
       → CannotBeat S (suc T) w
-  short-cut (inl o) = outweighed-cut o
-  short-cut (inr (inl o)) = overfull-cut o
-  short-cut (inr (inr u)) = unserved-cut u
+  short-cut (inl o) = overlapping-cut o
+  short-cut (inr (inl o)) = outweighed-cut o
+  short-cut (inr (inr (inl o))) = overfull-cut o
+  short-cut (inr (inr (inr u))) = unserved-cut u

@@ -8,6 +8,7 @@ use Rattle.schedule.specs.Plan.{Sheet}
 use Rattle.schedule.proofs.Chains.{chain}
 use Rattle.placement.specs.Profile.{heldAfter, Profile}
 use Rattle.weights.specs.Weights.{Outweighed}
+use Rattle.overlaps.specs.Overlaps.{Overlapping}
 use Rattle.lanes.specs.Lanes.{Overfull}
 use Rattle.sums.specs.Sums.{Unserved}
 
@@ -26,12 +27,13 @@ pub record HeldAfter (until held : List ℕ) (gone count l : ℕ) : Type 0 where
 abbrev pub SomeTooLong : List ℕ → List ℕ → ℕ → ℕ → Type 0
 SomeTooLong at tails jobs end = (j : ℕ) × (j < jobs) × (getD at j 0 < 65535) × (end ≤ getD at j 0 + getD tails j 0)
 
--- the free modules are too few for the jobs of the set by minute T: these outweigh them or overfill the lanes, or the modules, one by one,
--- cannot serve them
+-- the free modules are too few for the jobs of the set by minute T: jobs that must overlap have no room, the jobs outweigh the modules or
+-- overfill the lanes, or the modules, one by one, cannot serve them
 abbrev pub TooFew : List ℕ → List ℕ → List ℕ → List ℕ → ℕ → ℕ → ℕ → ℕ → ℕ → ℕ → ℕ → Type 0
 TooFew need minutes until held jobs modules placed set left l T =
-    Outweighed need minutes until held jobs modules placed set l T
-    ⊎ (Overfull need minutes until held jobs modules placed set l T ⊎ Unserved minutes until held jobs modules placed set left l T)
+    Overlapping need minutes until held jobs modules placed set l T
+    ⊎ (Outweighed need minutes until held jobs modules placed set l T
+    ⊎ (Overfull need minutes until held jobs modules placed set l T ⊎ Unserved minutes until held jobs modules placed set left l T))
 
 -- no completion can end by minute T: the modules are taken, some job and the chain behind it last longer, or the modules are too few
 abbrev pub Hopeless : List ℕ → List ℕ → List ℕ → List ℕ → List ℕ → ℕ → ℕ → ℕ → ℕ → ℕ → List ℕ → ℕ → ℕ → Type 0

@@ -94,8 +94,8 @@ fn some_too_long<'a>(
 
 // ---- the free modules
 
-// Whether the modules that come free from minute l on are too few for the jobs of the set by the target: by weights, by lanes or one by
-// one.
+// Whether the modules that come free from minute l on are too few for the jobs of the set by the target: where jobs must overlap, by
+// weights, by lanes or one by one.
 fn too_few<'a>(
     need: &[u16; 20],
     minutes: &[u16; 20],
@@ -122,6 +122,22 @@ fn too_few<'a>(
     let ended = placement::advance(until, held, placed, gone, free, modules, l);
     let g = ended.gone;
     let f = ended.free;
+    if overlaps::overlapping(
+        need,
+        minutes,
+        until,
+        held,
+        placed,
+        g,
+        f,
+        modules,
+        set,
+        jobs,
+        l,
+        target,
+    ) {
+        return true;
+    }
     if weights::outweighed(
         need,
         minutes,

@@ -1,7 +1,7 @@
--- The bounds by weights, by lanes and by modules as cuts.
+-- The bounds by weights, by lanes and by modules, and jobs that must overlap, as cuts.
 use mathlib.Core.Path.{_≡_}
 use mathlib.Core.Logic.{_⊎_, inl, inr}
-use mathlib.Core.Bool.{true, false, not}
+use mathlib.Core.Bool.{true, false, not, _&&_}
 use mathlib.Core.List.{List, [], _∷_}
 use Prim.Native.Nat.{ℕ, suc, _+_, _-_, _*_, _≤_, _<_}
 use native.Mathlib.Omega.{arith}
@@ -19,6 +19,7 @@ use Rattle.schedule.proofs.Places.{CannotBeat}
 use Rattle.schedule.proofs.Cuts.{NoneBefore, by-completions}
 use Rattle.schedule.proofs.Weights.{Holds, GoesOn, weights-bound}
 use Rattle.schedule.proofs.Reach.{LastsTo, Rises, gain, reach-bound}
+use Rattle.schedule.proofs.Overlaps.{mustRun, must-fit}
 use Rattle.schedule.proofs.Modulewise.{Lasts, GoesOnWith, modules-bound, by-profile}
 
 module _ (S : Sheet) (lasting : Lasting S) (n : Narrow S) (w : List ℕ) (f : Follows S noJobs w) (l : ℕ) (from : partOf S w .last ≤ l)
@@ -86,6 +87,11 @@ module _ (S : Sheet) (lasting : Lasting S) (n : Narrow S) (w : List ℕ) (f : Fo
       → CannotBeat S (suc T) w
   reach-cut y v K Z most more lasts none rises over = by-end (λ p c x.
       omega (arith, over, reach-bound S lasting P l (Q p c) (goes-on p c) T x y v K Z most more lasts none rises))
+
+  pub overlap-cut : (m : ℕ) → l ≤ m
+      → S .modules < sum (S .jobs) (λ k. only (not (P .placed k) && mustRun l T m (S .minutes k)) (S .need k)) + occupied S P m
+      → CannotBeat S (suc T) w
+  overlap-cut m on over = by-end (λ p c x. omega (arith, over, must-fit S P l (Q p c) (goes-on p c) T x m on))
 
   pub modules-cut : (y Z : ℕ → ℕ) → Lasts S P y Z → ((a b : ℕ) → a ≤ b → Z a ≤ Z b)
       → sum (S .jobs) (λ k. only (occupies S P l k) (S .need k * Z (T - finish S (P .plan) k))) + (S .modules - occupied S P l) * Z (T - l)

@@ -27,6 +27,7 @@ pub mod Weights
 pub mod Lanes
 pub mod Filling
 pub mod Reach
+pub mod Overlaps
 pub mod Modulewise
 pub mod Bounds
 pub mod Jumps

@@ -30,7 +30,7 @@ pub record GoesOn (S : Sheet) (P : PartPlan) (l : ℕ) (Q : Plan) : Type 0 where
 
 module _ (S : Sheet) (P : PartPlan) (l : ℕ) (Q : Plan) (h : GoesOn S P l Q) (T : ℕ) (e : planEnd S Q ≤ T) where
   -- job k is one of those that are left, and it runs at minute t
-  abbrev left : ℕ → ℕ → Bool
+  abbrev pub left : ℕ → ℕ → Bool
   left t k = not (P .placed k) && inside (Q .start k) (finish S Q k) t
 
   -- over all minutes a job that is left weighs its minutes
@@ -45,7 +45,7 @@ module _ (S : Sheet) (P : PartPlan) (l : ℕ) (Q : Plan) (h : GoesOn S P l Q) (T
       go false q = rw q (sym (sum-zero T))
 
   -- at a minute, what is left beside what is placed
-  beside : (t : ℕ) → l ≤ t → sum (S .jobs) (λ k. only (left t k) (S .need k)) + occupied S P t ≤ S .modules
+  pub beside : (t : ℕ) → l ≤ t → sum (S .jobs) (λ k. only (left t k) (S .need k)) + occupied S P t ≤ S .modules
   unfolding occupied
   beside t m =
       let each = sum-le (S .jobs) (λ k. only (left t k) (S .need k) + only (occupies S P t k) (S .need k)) (λ k. only (runs S Q t k)

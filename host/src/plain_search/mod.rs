@@ -4,6 +4,7 @@ mod bounds;
 mod lanes;
 mod listing;
 mod memory;
+mod overlaps;
 mod part;
 mod relations;
 mod rules;
@@ -118,7 +119,8 @@ impl Search<'_> {
 
     fn too_few(&mut self, part: &Part, minute: u16, target: u16) -> bool {
         let free = part.free_at(minute);
-        self.rules.weights && self.weights.outweighed(part, &free, target)
+        self.rules.overlaps && self.tables.overlapping(part, &free, target)
+            || self.rules.weights && self.weights.outweighed(part, &free, target)
             || self.rules.lanes && self.lanes.overfull(part, &free, target)
             || self.rules.modules && self.sums.unserved(self.tables, part, &free, target)
     }

@@ -7,6 +7,8 @@ pub struct Rules {
     pub area: bool,
     /// Cut: a job that may come next begins a chain that is too long.
     pub chains: bool,
+    /// Cut: jobs that must run at the same minute have no room there.
+    pub overlaps: bool,
     /// Cut: the jobs that are left weigh more than the free modules can hold.
     pub weights: bool,
     /// Cut: the jobs that are left have more value than the lanes that come open can serve.
@@ -36,6 +38,7 @@ impl Default for Rules {
         Rules {
             area: true,
             chains: true,
+            overlaps: true,
             weights: true,
             lanes: true,
             modules: true,
@@ -58,6 +61,7 @@ impl Rules {
         vec![
             ("area", Rules { area: false, ..all }),
             ("chains", Rules { chains: false, ..all }),
+            ("overlaps", Rules { overlaps: false, ..all }),
             ("weights", Rules { weights: false, ..all }),
             ("lanes", Rules { lanes: false, ..all }),
             ("modules", Rules { modules: false, ..all }),

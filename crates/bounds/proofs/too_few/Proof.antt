@@ -7,41 +7,51 @@ use Rattle.bounds.proofs.too_few.Tie as tie
 advance-requires : tie.Need-advance-requires
 advance-requires c κs = search needs
 
-outweighed-requires : tie.Need-outweighed-requires
-outweighed-requires c κs =
+overlapping-requires : tie.Need-overlapping-requires
+overlapping-requires c κs =
     let pre = c .before .pre in
-    ((pre .0 .0, pre .0 .1 .0), c .advance .ensures .profile)
+    (pre .0 .0, c .advance .ensures .profile)
 
 returns : tie.Need-returns
-returns c = λ _. inl (c .before .outweighed .ensures (c .if1 .taken))
+returns c = λ _. inl (c .before .overlapping .ensures (c .if1 .taken))
+
+outweighed-requires : tie.Need-outweighed-requires
+outweighed-requires c κs =
+    let pre = c .before .before .before .pre in
+    ((pre .0 .0, pre .0 .1 .0), c .before .before .advance .ensures .profile)
+
+returns-2 : tie.Need-returns-2
+returns-2 c = λ _. inr (inl (c .before .outweighed .ensures (c .if2 .taken)))
 
 overfull-requires : tie.Need-overfull-requires
 overfull-requires c κs =
-    let pre = c .before .before .before .pre in
-    ((pre .0 .0, pre .0 .1 .1), c .before .before .advance .ensures .profile)
+    let pre = c .before .before .before .before .before .pre in
+    ((pre .0 .0, pre .0 .1 .1), c .before .before .before .before .advance .ensures .profile)
 
-returns-2 : tie.Need-returns-2
-returns-2 c = λ _. inr (inl (c .before .overfull .ensures (c .if2 .taken)))
+returns-3 : tie.Need-returns-3
+returns-3 c = λ _. inr (inr (inl (c .before .overfull .ensures (c .if3 .taken))))
 
 unserved-requires : tie.Need-unserved-requires
 unserved-requires c κs =
-    let fit = c .before .before .before .before .before .pre .0 .0 in
-    let ended = c .before .before .before .before .advance .ensures in (
+    let fit = c .before .before .before .before .before .before .before .pre .0 .0 in
+    let ended = c .before .before .before .before .before .before .advance .ensures in (
       record { few = fit .few; day = fit .short },
       record { profile = ended .profile; live = ended .live; most = fit .most },
     )
 
-returns-3 : tie.Need-returns-3
-returns-3 c = λ e. inr (inr (c .unserved .ensures e))
+returns-4 : tie.Need-returns-4
+returns-4 c = λ e. inr (inr (inr (c .unserved .ensures e)))
 
 pub too-few-spec : {M : Type 1} → statement M
 too-few-spec =
     tie.close
     (tie.spec
     advance-requires
-    outweighed-requires
+    overlapping-requires
     returns
-    overfull-requires
+    outweighed-requires
     returns-2
+    overfull-requires
+    returns-3
     unserved-requires
-    returns-3)
+    returns-4)

@@ -1,0 +1,2 @@
+-- The laws of jobs that must overlap.
+pub mod Laws

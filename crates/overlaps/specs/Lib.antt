@@ -1,0 +1,2 @@
+-- When jobs that are left must overlap.
+pub mod Overlaps
