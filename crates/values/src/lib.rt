@@ -226,8 +226,8 @@ fn reach_of(minutes: &[u16; 20], value: &[u16; 20], jobs: usize, step: u16) -> R
     let mut reach = Reach { at: [0u16; 1024] };
     let mut k: usize = 0;
     while k < jobs {
-        let width = steps(minutes[k], step);
-        reach = with_value(&reach.at, width, value[k]);
+        let lasts = steps(minutes[k], step);
+        reach = with_value(&reach.at, lasts, value[k]);
         k += 1;
     }
     reach
