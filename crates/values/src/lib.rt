@@ -40,7 +40,7 @@ struct Served {
     set: u32,
 }
 
-// What each job's value is raised or lowered by: its share of the largest, which is 1048576.
+// The value of each job before it is rounded: a share of the largest, which is 1048576.
 struct Shares {
     of: [u32; 20],
 }
@@ -75,7 +75,7 @@ fn first_of(all: &[u16; 20], jobs: usize) -> Figures
     Figures { of: next }
 }
 
-// As many as there are modules.
+// The most that can stand where each job weighs as many as the modules that it needs: x on x modules.
 fn counted(modules: u16) -> weights::Most
     requires { ⌜ modules ≤ 64 ⌝ }
     ensures { λ r. ⌜ Put (λ x. x) (replicate 65 0) (r .at) (modules + 1) (λ x. x) ⌝ }
@@ -89,17 +89,14 @@ fn counted(modules: u16) -> weights::Most
     weights::Most { at: next }
 }
 
-// Each job weighs as many as the modules that it needs.
+// The weighting in which each job weighs as many as the modules that it needs.
 fn own_weights(need: &[u16; 20], jobs: usize, modules: u16) -> Weighed
     requires { ⌜ Narrow (now need) jobs modules ⌝ }
     ensures { λ r. ⌜ Chosen (now (need .entry)) jobs modules (r .weight) (r .most) ⌝ }
 {
     let weight = first_of(need, jobs).of;
     let most = counted(modules).at;
-    Weighed {
-        weight: weight,
-        most: most,
-    }
+    Weighed { weight, most }
 }
 
 // The weight of each job in weighting q.
@@ -123,10 +120,7 @@ fn weighting(need: &[u16; 20], jobs: usize, modules: u16, q: usize) -> Weighed
 {
     let weight = weights_in(need, jobs, modules, q).of;
     let most = weights::most_of(need, jobs, modules, q).at;
-    Weighed {
-        weight: weight,
-        most: most,
-    }
+    Weighed { weight, most }
 }
 
 // The products of two numbers of each job, summed up.
@@ -226,8 +220,8 @@ fn reach_of(minutes: &[u16; 20], value: &[u16; 20], jobs: usize, step: u16) -> R
     let mut reach = Reach { at: [0u16; 1024] };
     let mut k: usize = 0;
     while k < jobs {
-        let width = steps(minutes[k], step);
-        reach = with_value(&reach.at, width, value[k]);
+        let lasts = steps(minutes[k], step);
+        reach = with_value(&reach.at, lasts, value[k]);
         k += 1;
     }
     reach
@@ -379,7 +373,7 @@ fn lowered(share: u32, by: u16, parts: u64) -> u32
     share - (less as u32)
 }
 
-// The share of a job that the lane serves falls, the others rise: each lane should serve jobs of all weight once.
+// The share of a job that the lane serves falls, the more the less it weighs; that of another job rises, the more the more it weighs.
 fn turned(share: u32, weight: u16, most: u16, parts: u64, served: bool) -> u32
     requires { ⌜ 0 < parts ⌝ }
 {
@@ -487,7 +481,7 @@ fn values_for(
         round = round_after(round, rounds, outdone(most, served.value, worth));
     }
     let of = best.value;
-    Figures { of: of }
+    Figures { of }
 }
 
 // ---- the tables side by side
@@ -561,7 +555,7 @@ fn last_step(end: u16, step: u16) -> usize
     ((end - 1) / step) as usize
 }
 
-// The lanes of a sheet, with weights and values for which no plan is likely to be seen to end before `end`.
+// The lanes of a sheet, with weights and values chosen so that few of the plans that end before `end` are left to be looked at.
 pub fn lanes_of(need: &[u16; 20], minutes: &[u16; 20], jobs: usize, modules: u16, end: u16) -> Lanes
     requires { ⌜ Fit (now need) (now minutes) jobs modules ⌝ }
     ensures { λ r. ⌜ Laned (now (need .entry)) (now (minutes .entry)) jobs modules (r .of) ⌝ }

@@ -45,7 +45,7 @@ weight-light modules q width m w l = go (true-or-false (eqb ((q + 2) * width % m
 -- the weight of one of the sheet's jobs, alone and times its minutes
 module _ {need minutes : List ℕ} {jobs modules : ℕ} (fit : Fit need minutes jobs modules)
     (q : ℕ) (low : q < 5) (k : ℕ) (l : k < jobs) where
-  pub job-light : weightIn modules q (getD need k 0) ≤ 36
+  job-light : weightIn modules q (getD need k 0) ≤ 36
   job-light = weight-light modules q (getD need k 0) (fit .most) (fit .narrow k l) low
 
   pub worth-small : getD minutes k 0 * weightIn modules q (getD need k 0) ≤ 51840
