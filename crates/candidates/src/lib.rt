@@ -131,7 +131,7 @@ pub fn ready_starts<'a>(
         );
         at[j] = s;
         least = sooner(least, s);
-        rest = bits::clear32(rest, j);
+        rest = bits::without_lowest32(rest);
     }
     Starts { at, least }
 }
@@ -206,7 +206,7 @@ pub fn next_choice<'a>(at: &'a [u16; 20], weights: &'a [u16; 20], left: u32, job
     while rest != 0 {
         let j = bits::lowest32(rest);
         c = choose(c, j, at[j], weights[j]);
-        rest = bits::clear32(rest, j);
+        rest = bits::without_lowest32(rest);
     }
     c
 }

@@ -40,18 +40,21 @@ element-copy-out-choose-2 c = omega (arith, c .before .before .before .loop .inv
 choose-requires : tie.Need-choose-requires Inv-loop μ-loop
 choose-requires c κs = tt
 
-clear32-requires : tie.Need-clear32-requires Inv-loop μ-loop
-clear32-requires c κs = c .before .before .before .lowest32 .ensures .0
+without-lowest32-requires : tie.Need-without-lowest32-requires Inv-loop μ-loop
+without-lowest32-requires c κs = pos-of-ne-zero (c .before .before .before .before .loop-test .taken)
 
 loop-less : tie.Need-loop-less Inv-loop μ-loop
-loop-less c = rw (c .clear32 .ensures) (walk-less _ _ (c .before .before .before .before .lowest32 .ensures .1))
+loop-less c =
+    let low = c .before .before .before .before .lowest32 .ensures in
+    rw (c .without-lowest32 .ensures _ (low .1) (low .2)) (walk-less _ _ (low .1))
 
 loop-again : tie.Need-loop-again Inv-loop μ-loop
 loop-again c =
+    let low = c .before .before .before .before .lowest32 .ensures in
     let a = c .before .before .before .before .before .before .before .before .args in
     let loop = c .before .before .before .before .before .before .loop in
     let j = c .before .before .before .before .lowest32 in
-    rw (c .clear32 .ensures) (choosing-step (a .at .now) (a .left) (a .jobs) (loop .rest) (j .result) (loop .c) (c .before .choose .result)
+    rw (c .without-lowest32 .ensures _ (low .1) (low .2)) (choosing-step (a .at .now) (a .left) (a .jobs) (loop .rest) (j .result) (loop .c) (c .before .choose .result)
     (loop .inv) (j .ensures .1) (c .before .choose .ensures))
 
 returns : tie.Need-returns Inv-loop μ-loop
@@ -74,7 +77,7 @@ next-choice-spec =
     mul-choose-2
     element-copy-out-choose-2
     choose-requires
-    clear32-requires
+    without-lowest32-requires
     loop-less
     loop-again
     returns)
