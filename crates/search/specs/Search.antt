@@ -63,7 +63,7 @@ finishedAs jobs p target =
     record { hit = not (ltb target end); end = end; order = p .order }
 
 abbrev pub noneFound : Found
-noneFound = record { hit = false; end = 0; order = replicate 20 0 }
+noneFound = record { hit = false; end = 65535; order = replicate 20 0 }
 
 -- ---- what the search keeps true from call to call
 

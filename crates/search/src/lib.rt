@@ -59,7 +59,7 @@ fn none_found() -> Found
 {
     Found {
         hit: false,
-        end: 0,
+        end: 65535,
         order: [0u8; 20],
     }
 }
@@ -211,6 +211,7 @@ fn try_children(
     ) {
         return none_found();
     }
+    let next = branching::with_settled(settled, job, tried, start, part.last);
     let child = placement::with_job(
         &part.ends,
         &part.until,
@@ -228,7 +229,6 @@ fn try_children(
         minutes[job],
         modules,
     );
-    let next = branching::with_settled(settled, job, tried, start, part.last);
     visit(
         need,
         minutes,

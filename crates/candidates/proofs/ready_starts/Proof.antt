@@ -31,8 +31,10 @@ lowest32-requires c κs = pos-of-ne-zero (c .loop-test .taken)
 next-start-requires : tie.Need-next-start-requires Inv-loop μ-loop
 next-start-requires c κs =
     let pre = c .before .before .before .before .pre in
-    let inside = c .before .before .loop .inv .walk .below _ (c .lowest32 .ensures .1) in
-    (pre .profile, (pre .narrow _ inside, (pre .few, omega (arith, inside, pre .few))))
+    let walk = c .before .before .loop .inv .walk in
+    let inside = walk .below _ (c .lowest32 .ensures .1) in
+    let unplaced = walk .inside _ (c .lowest32 .ensures .1) in
+    (pre .profile, (pre .narrow _ inside, (pre .few, (omega (arith, inside, pre .few), unplaced))))
 
 mul-at : tie.Need-mul-at Inv-loop μ-loop
 mul-at c = record { fits = omega (arith, c .before .lowest32 .ensures .0) }
