@@ -2,17 +2,18 @@
 use mathlib.Core.Path.{_≡_, refl, sym, ap, _∙_}
 use mathlib.Core.Logic.{_⊎_, inl, inr}
 use mathlib.Core.Bool.{Bool, true, false, _&&_}
-use Prim.Native.Nat.{ℕ, zero, suc, _/_, _%_, _^_, _≤_, _<_}
+use Prim.Native.Nat.{ℕ, zero, suc, _+_, _-_, _*_, _/_, _%_, _^_, _≤_, _<_, min}
 use native.Mathlib.Omega.{arith}
 use native.Mathlib.Nat.{pos-of-ne-zero, not-suc-le-zero}
 use lib.Dec.{eqb}
-use lib.Bits.{bitAnd, and-le-l}
+use lib.Bits.{bitAnd, and-le-l, and-step, and-self}
 use lib.Count.{ones, trailingZeros}
-use borrow.Author.Tests.{eqb-true}
+use lib.Pow.{pow-pos}
+use borrow.Author.Tests.{eqb-true, eqb-false}
 use Rattle.counting.proofs.Tests.{clash, and-left, and-right, less-or-not}
 use Rattle.bits.specs.Bits.{bit, withoutBit, setOf}
 use Rattle.bits.proofs.Digits.{bit-first, bit-suc, bit-and}
-use Rattle.bits.proofs.Members.{bit-without}
+use Rattle.bits.proofs.Members.{bit-without, without-set, bit-le}
 use Rattle.bits.proofs.Sets.{bit-setOf, bit-setOf-above}
 use Rattle.bits.proofs.Ones.{ones-without}
 
@@ -42,6 +43,25 @@ lowest-member (suc k) x p l = go (x % 2) refl (lowest-member k (x / 2))
       omega arith,
       (bit-first x ∙ ap (λ (y : ℕ). eqb y 1) (let f : x % 2 ≡ 1 = omega arith in f), λ i m. absurd (not-suc-le-zero m)),
     )
+
+-- x and the number before it have all members in common but the lowest of x
+pub without-lowest : (k x : ℕ) → Lowest x k → bitAnd x (x - 1) ≡ withoutBit x k
+without-lowest zero x (b, low) =
+    let odd : x % 2 ≡ 1 = eqb-true (x % 2) 1 (sym (bit-first x) ∙ b) in
+    let half : (x - 1) / 2 ≡ x / 2 = omega arith in
+    let even : (x - 1) % 2 ≡ 0 = omega arith in
+    let step : bitAnd x (x - 1) ≡ x / 2 * 2 + min 1 0 = rw (half, even, odd, and-self) at (and-step x (x - 1)) in
+    omega (arith, without-set x 0 b)
+without-lowest (suc k) x (b, low) =
+    let not-odd : x % 2 ≡ 1 → ⊥ = eqb-false (x % 2) 1 (sym (bit-first x) ∙ low 0 (omega arith)) in
+    let even : x % 2 ≡ 0 = omega (arith, not-odd) in
+    let high : bit (x / 2) k ≡ true = sym (bit-suc x k) ∙ b in
+    let large : 1 ≤ x / 2 = omega (arith, bit-le (x / 2) k high, pow-pos k) in
+    let half : (x - 1) / 2 ≡ x / 2 - 1 = omega arith in
+    let odd : (x - 1) % 2 ≡ 1 = omega arith in
+    let step : bitAnd x (x - 1) ≡ bitAnd (x / 2) (x / 2 - 1) * 2 + min 0 1 = rw (half, odd, even) at (and-step x (x - 1)) in
+    let less = without-lowest k (x / 2) (high, λ i l. sym (bit-suc x i) ∙ low (suc i) (omega arith)) in
+    omega (arith, without-set x (suc k) b, without-set (x / 2) k high)
 
 -- two sets that are not disjoint have a common member
 pub common-member : (n a b : ℕ) → a < 2 ^ n → ¬ (bitAnd a b ≡ 0) → (i : ℕ) × (bit a i ≡ true) × (bit b i ≡ true)

@@ -44,6 +44,14 @@ pub fn lowest32(set: u32) -> usize
     u32::trailing_zeros(set) as usize
 }
 
+// The members of a set that is not empty but the lowest.
+pub fn without_lowest32(set: u32) -> u32
+    requires { ⌜ 0 < set ⌝ }
+    ensures { λ r. ⌜ ((k : ℕ) → bit set k ≡ true → ((i : ℕ) → i < k → bit set i ≡ false) → r ≡ withoutBit set k) ⌝ }
+{
+    set & (set - 1)
+}
+
 // The members below n.
 pub fn below32(set: u32, n: usize) -> u32
     requires { ⌜ n < 32 ⌝ }

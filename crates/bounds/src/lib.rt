@@ -87,7 +87,7 @@ fn some_too_long<'a>(
         if too_long(at[j], tails[j], end) {
             return true;
         }
-        rest = bits::clear32(rest, j);
+        rest = bits::without_lowest32(rest);
     }
     false
 }

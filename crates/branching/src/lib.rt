@@ -86,13 +86,13 @@ fn swapped<'a>(
     requires { ⌜ (jobs ≤ 20) × (j < 20) ⌝ }
     ensures { λ r. ⌜ (r ≡ true → Swapped (now (related .entry)) (now (ends .entry)) (now (by .entry)) unplaced start jobs j) ⌝ }
 {
-    let mut rest = bits::below32(related[j * 3 + 1], jobs);
+    let mut rest = bits::below32(related[j * 3 + 1] & (4294967295 - unplaced), jobs);
     while rest != 0 {
         let i = bits::lowest32(rest);
         if starts_behind(ends[i], by[i], unplaced, start, i, j) {
             return true;
         }
-        rest = bits::clear32(rest, i);
+        rest = bits::without_lowest32(rest);
     }
     false
 }
@@ -149,7 +149,7 @@ fn first_alone(related: &[u32; 60], at: &[u16; 20], least: u16, set: u32, jobs: 
         if alone_at(related, at[i], least, set, i) {
             return i;
         }
-        rest = bits::clear32(rest, i);
+        rest = bits::without_lowest32(rest);
     }
     jobs
 }
@@ -172,7 +172,7 @@ fn first_end(minutes: &[u16; 20], at: &[u16; 20], set: u32, jobs: usize) -> u32
     while rest != 0 {
         let j = bits::lowest32(rest);
         r = or_ends(r, at[j], minutes[j]);
-        rest = bits::clear32(rest, j);
+        rest = bits::without_lowest32(rest);
     }
     r
 }
@@ -198,7 +198,7 @@ fn early(at: &[u16; 20], end: u32, set: u32, jobs: usize) -> u32
     while rest != 0 {
         let j = bits::lowest32(rest);
         r = with_early(r, at[j], end, j);
-        rest = bits::clear32(rest, j);
+        rest = bits::without_lowest32(rest);
     }
     r
 }

@@ -1,9 +1,9 @@
 -- The job of a set that starts first.
-use mathlib.Core.Path.{_≡_, refl, sym, subst}
+use mathlib.Core.Path.{_≡_, refl, sym, _∙_}
 use mathlib.Core.Logic.{_⊎_, inl, inr}
 use mathlib.Core.Bool.{true, false}
 use mathlib.Core.List.{List}
-use Prim.Native.Nat.{ℕ, _≤_, _<_}
+use Prim.Native.Nat.{ℕ, _+_, _-_, _*_, _/_, _≤_, _<_}
 use native.Mathlib.Omega.{arith}
 use lib.ListN.{getD}
 use Rattle.counting.proofs.Tests.{clash}
@@ -13,44 +13,52 @@ use Rattle.bits.proofs.Walks.{Walk, walk-first, walk-none, walk-next, walk-gone
 use Rattle.candidates.specs.declared.Choice.{Choice}
 use Rattle.candidates.specs.Candidates.{Chosen, ChoiceOf}
 
--- the choice among the jobs of the set that are not still to come
-pub record Choosing (at : List ℕ) (left jobs rest : ℕ) (c : Choice) : Type 0 where
+-- the choice, by rank, among the jobs of the set that are not still to come
+pub record Choosing (at : List ℕ) (left jobs rest job rank : ℕ) : Type 0 where
   pub walk : Walk left jobs rest
-  pub first : (k : ℕ) → k < jobs → bit left k ≡ true → bit rest k ≡ false → c .start ≤ getD at k 0
-  pub some : c .start < 65535 → (c .job < jobs) × ((bit left (c .job) ≡ true) × (getD at (c .job) 0 ≡ c .start))
-  pub low : c .start ≤ 65535
+  pub first : (k : ℕ) → k < jobs → bit left k ≡ true → bit rest k ≡ false → rank / 65536 ≤ getD at k 0
+  pub some : rank / 65536 < 65535 → (job < jobs) × ((bit left job ≡ true) × (getD at job 0 ≡ rank / 65536))
+  pub low : rank / 65536 ≤ 65535
 
 module _ (at : List ℕ) (left jobs : ℕ) where
-  pub choosing-none : (c : Choice) → c .start ≡ 65535 → Choosing at left jobs (setOf jobs (bit left)) c
-  choosing-none c e = record {
+  pub choosing-none : Choosing at left jobs (setOf jobs (bit left)) 0 4294901760
+  choosing-none = record {
     walk = walk-first jobs left;
     first = λ k l b g. clash (bit left k) b (walk-none jobs left k l g);
     some = λ h. absurd (omega arith);
     low = omega arith;
   }
 
-  pub choosing-step : (rest j : ℕ) (c r : Choice) → Choosing at left jobs rest c → bit rest j ≡ true → Chosen c j (getD at j 0) r
-      → Choosing at left jobs (withoutBit rest j) r
-  choosing-step rest j c r h t (b, inl (e, m)) = subst (Choosing at left jobs (withoutBit rest j)) (sym e) (record {
+  pub choosing-step : (rest j weight c rank d least : ℕ) → getD at j 0 ≤ 65535 → Choosing at left jobs rest c rank → bit rest j ≡ true
+      → Chosen c rank j (getD at j 0 * 65536 + (65535 - weight)) d least → Choosing at left jobs (withoutBit rest j) d least
+  choosing-step rest j weight c rank d least top h t (inl (e, (f, m))) = record {
     walk = walk-next j (h .walk);
     first = λ k l x g. go k l x (walk-gone rest j k g);
-    some = h .some;
-    low = h .low;
-  })
+    some = λ q. rw (e, f) (h .some (rw f at q));
+    low = omega (arith, h .low);
+  }
     where
-      go : (k : ℕ) → k < jobs → bit left k ≡ true → (k ≡ j) ⊎ (bit rest k ≡ false) → c .start ≤ getD at k 0
-      go k l x (inl z) = rw z m
-      go k l x (inr z) = h .first k l x z
-  choosing-step rest j c r h t (b, inr (i, e, m)) = record {
+      go : (k : ℕ) → k < jobs → bit left k ≡ true → (k ≡ j) ⊎ (bit rest k ≡ false) → least / 65536 ≤ getD at k 0
+      go k l x (inl z) = rw z (omega arith)
+      go k l x (inr z) = omega (arith, h .first k l x z)
+  choosing-step rest j weight c rank d least top h t (inr (e, (f, m))) = record {
     walk = walk-next j (h .walk);
     first = λ k l x g. go k l x (walk-gone rest j k g);
-    some = λ q. rw (i, e) (h .walk .below j t, (h .walk .inside j t, refl));
+    some = λ q. rw e (h .walk .below j t, (h .walk .inside j t, here));
     low = omega arith;
   }
     where
-      go : (k : ℕ) → k < jobs → bit left k ≡ true → (k ≡ j) ⊎ (bit rest k ≡ false) → r .start ≤ getD at k 0
-      go k l x (inl z) = rw z (omega arith)
+      here : getD at j 0 ≡ least / 65536
+      here = omega arith
+
+      go : (k : ℕ) → k < jobs → bit left k ≡ true → (k ≡ j) ⊎ (bit rest k ≡ false) → least / 65536 ≤ getD at k 0
+      go k l x (inl z) = rw z (omega (arith, here))
       go k l x (inr z) = omega (arith, h .first k l x z)
 
-  pub choosing-all : (rest : ℕ) (c : Choice) → Choosing at left jobs rest c → rest ≡ 0 → ChoiceOf at left jobs c
-  choosing-all rest c h e = record { first = λ k l b. h .first k l b (rw e (bit-none k)); some = h .some; low = h .low }
+  pub choosing-all : (rest rank : ℕ) (c : Choice) → Choosing at left jobs rest (c .job) rank → rest ≡ 0 → c .start ≡ rank / 65536
+      → ChoiceOf at left jobs c
+  choosing-all rest rank c h e s = record {
+    first = λ k l b. rw s (h .first k l b (rw e (bit-none k)));
+    some = λ q. rw s (h .some (rw s at q));
+    low = omega (arith, h .low);
+  }

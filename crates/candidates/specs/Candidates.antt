@@ -68,9 +68,10 @@ EachStart need minutes earlier jobs modules part at = (j : ℕ) → j < jobs →
 
 -- ---- the next job
 
--- r is the choice c, or job j with this start, whichever starts earlier
-abbrev pub Chosen : Choice → ℕ → ℕ → Choice → Type 0
-Chosen c j start r = (start ≤ 65535) × (((r ≡ c) × (c .start ≤ start)) ⊎ ((r .job ≡ j) × (r .start ≡ start) × (start ≤ c .start)))
+-- of job c and job j, job d has the lower rank
+abbrev pub Chosen : ℕ → ℕ → ℕ → ℕ → ℕ → ℕ → Type 0
+Chosen c low j rank d least =
+    ((d ≡ c) × ((least ≡ low) × (low ≤ rank))) ⊎ ((d ≡ j) × ((least ≡ rank) × (rank ≤ low)))
 
 -- a choice among the first n jobs of a set: the one that starts first; none where none of them may come next
 pub record ChoiceOf (at : List ℕ) (left n : ℕ) (c : Choice) : Type 0 where

@@ -1,7 +1,9 @@
 // The jobs that may come next from a part-plan, when each of them starts, and which of them is the next to be tried.
 ghost use mathlib.Core.Path.{_≡_};
-ghost use Prim.Native.Nat.{_<_, _≤_, min};
+ghost use mathlib.Core.Bool.{true};
+ghost use Prim.Native.Nat.{_+_, _-_, _*_, _<_, _≤_, min};
 ghost use lib.ListN.{getD};
+ghost use Rattle.bits.specs.Bits.{bit};
 ghost use Rattle.placement.specs.Profile.{Profile};
 ghost use Rattle.candidates.specs.Candidates.{Known, NextStart, StartsAsked, NextStarts, JobStart, JobStarts, Chosen, ChoiceOf};
 use placement::Part;
@@ -14,7 +16,7 @@ pub struct Starts {
     pub least: u16,
 }
 
-// The start of job j, or 65535 where it may not come next.
+// The start of the unplaced job j, or 65535 where it may not come next.
 fn next_start<'a>(
     need: &[u16; 20],
     earlier: &[u32; 20],
@@ -31,7 +33,7 @@ fn next_start<'a>(
     j: usize,
 ) -> u16
     requires { ⌜ (Profile (now until) (now held) placed gone free modules last)
-        × ((getD (now need) j 0 ≤ modules) × ((jobs ≤ 20) × (j < 20))) ⌝ }
+        × ((getD (now need) j 0 ≤ modules) × ((jobs ≤ 20) × ((j < 20) × (bit unplaced j ≡ true)))) ⌝ }
     ensures { λ r. ⌜ NextStart (now (need .entry)) (now (earlier .entry)) (now (ends .entry)) (now (until .entry)) (now (held .entry))
         unplaced placed modules last jobs j r ⌝ }
 {
@@ -53,7 +55,7 @@ fn next_start<'a>(
     65535
 }
 
-// The same of a part-plan.
+// The start of job j from a part-plan on, or 65535 where it may not come next.
 pub fn start_or_none(
     need: &[u16; 20],
     minutes: &[u16; 20],
@@ -66,21 +68,24 @@ pub fn start_or_none(
     requires { ⌜ (Known (now need) (now minutes) (now earlier) jobs modules part) × (j < jobs) ⌝ }
     ensures { λ r. ⌜ JobStart (now (need .entry)) (now (minutes .entry)) (now (earlier .entry)) jobs modules part j r ⌝ }
 {
-    next_start(
-        need,
-        earlier,
-        &part.ends,
-        &part.until,
-        &part.held,
-        part.unplaced,
-        part.placed,
-        part.gone,
-        part.free,
-        modules,
-        part.last,
-        jobs,
-        j,
-    )
+    if bits::test32(part.unplaced, j) {
+        return next_start(
+            need,
+            earlier,
+            &part.ends,
+            &part.until,
+            &part.held,
+            part.unplaced,
+            part.placed,
+            part.gone,
+            part.free,
+            modules,
+            part.last,
+            jobs,
+            j,
+        );
+    }
+    65535
 }
 
 // The earlier of two minutes.
@@ -131,7 +136,7 @@ pub fn ready_starts<'a>(
         );
         at[j] = s;
         least = sooner(least, s);
-        rest = bits::clear32(rest, j);
+        rest = bits::without_lowest32(rest);
     }
     Starts { at, least }
 }
@@ -166,30 +171,33 @@ pub fn starts_of(
 
 // ---- the next job
 
-// A job that may come next, its start and its weight; the start 65535 stands for none.
+// A job that may come next, and its start; the start 65535 stands for none.
 pub struct Choice {
     pub job: usize,
     pub start: u16,
-    pub weight: u16,
 }
 
-// The choice so far, or job j where it starts earlier or, at the same minute, has more weight.
-fn choose(c: Choice, j: usize, start: u16, weight: u16) -> Choice
-    ensures { λ r. ⌜ Chosen c j start r ⌝ }
+// A job and its rank, which is less for an earlier start and, at the same minute, for more weight.
+struct Ranked {
+    job: usize,
+    rank: u32,
+}
+
+// The rank of a job.
+fn rank_of(start: u16, weight: u16) -> u32
+    ensures { λ r. ⌜ (r ≡ start * 65536 + (65535 - weight)) × (start ≤ 65535) ⌝ }
 {
-    if c.start < start {
-        return c;
+    (start as u32) * 65536 + (65535 - (weight as u32))
+}
+
+// The choice so far, or job j where its rank is less.
+fn choose(c: Ranked, j: usize, rank: u32) -> Ranked
+    ensures { λ r. ⌜ Chosen (c .job) (c .rank) j rank (r .job) (r .rank) ⌝ }
+{
+    if rank < c.rank {
+        return Ranked { job: j, rank };
     }
-    if start == c.start {
-        if weight <= c.weight {
-            return c;
-        }
-    }
-    Choice {
-        job: j,
-        start,
-        weight,
-    }
+    c
 }
 
 // The job of the set to come next, by the least start and, of those, the greatest weight.
@@ -197,16 +205,18 @@ pub fn next_choice<'a>(at: &'a [u16; 20], weights: &'a [u16; 20], left: u32, job
     requires { ⌜ jobs ≤ 20 ⌝ }
     ensures { λ r. ⌜ ChoiceOf (now (at .entry)) left jobs r ⌝ }
 {
-    let mut c = Choice {
+    let mut c = Ranked {
         job: 0,
-        start: 65535,
-        weight: 65535,
+        rank: 4294901760,
     };
     let mut rest = bits::below32(left, jobs);
     while rest != 0 {
         let j = bits::lowest32(rest);
-        c = choose(c, j, at[j], weights[j]);
-        rest = bits::clear32(rest, j);
+        c = choose(c, j, rank_of(at[j], weights[j]));
+        rest = bits::without_lowest32(rest);
     }
-    c
+    Choice {
+        job: c.job,
+        start: (c.rank / 65536) as u16,
+    }
 }

@@ -57,7 +57,7 @@ pub record Outcome (S : Sheet) (target : ℕ) (v : List ℕ) (r : Found) : Type 
   pub miss : r .hit ≡ false → Fails S target v
 
 abbrev pub noneFound : Found
-noneFound = record { hit = false; end = 0; order = replicate 20 0 }
+noneFound = record { hit = false; end = 65535; order = replicate 20 0 }
 
 -- ---- what the search keeps true from call to call
 

@@ -23,7 +23,7 @@ fn none_found() -> Found
 {
     Found {
         hit: false,
-        end: 0,
+        end: 65535,
         order: [0u8; 20],
     }
 }
@@ -179,6 +179,7 @@ fn try_children(
     ) {
         return none_found();
     }
+    let next = branching::with_settled(settled, job, tried, start, part.last);
     let child = placement::with_job(
         &part.ends,
         &part.until,
@@ -196,7 +197,6 @@ fn try_children(
         minutes[job],
         modules,
     );
-    let next = branching::with_settled(settled, job, tried, start, part.last);
     visit(
         need,
         minutes,

@@ -45,7 +45,7 @@ pub fn subset_sums(at: &mut [u16], minutes: &[u16; 20], set: u32, jobs: usize) -
     while rest != 0 {
         let j = bits::lowest32(rest);
         count = with_job(at, count, minutes, set, j);
-        rest = bits::clear32(rest, j);
+        rest = bits::without_lowest32(rest);
     }
     count
 }

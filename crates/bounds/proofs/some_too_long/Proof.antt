@@ -46,14 +46,18 @@ returns c = λ e.
     let j = c .before .before .before .before .lowest32 in
     (j .result, c .before .before .before .before .before .before .loop .inv .below _ (j .ensures .1), f .0, f .1)
 
-clear32-requires : tie.Need-clear32-requires Inv-loop μ-loop
-clear32-requires c κs = c .before .before .before .before .lowest32 .ensures .0
+without-lowest32-requires : tie.Need-without-lowest32-requires Inv-loop μ-loop
+without-lowest32-requires c κs = pos-of-ne-zero (c .before .before .before .before .before .loop-test .taken)
 
 loop-less : tie.Need-loop-less Inv-loop μ-loop
-loop-less c = rw (c .clear32 .ensures) (walk-less _ _ (c .before .before .before .before .before .lowest32 .ensures .1))
+loop-less c =
+    let low = c .before .before .before .before .before .lowest32 .ensures in
+    rw (c .without-lowest32 .ensures _ (low .1) (low .2)) (walk-less _ _ (low .1))
 
 loop-again : tie.Need-loop-again Inv-loop μ-loop
-loop-again c = rw (c .clear32 .ensures) (walk-next _ (c .before .before .before .before .before .before .before .loop .inv))
+loop-again c =
+    let low = c .before .before .before .before .before .lowest32 .ensures in
+    rw (c .without-lowest32 .ensures _ (low .1) (low .2)) (walk-next _ (c .before .before .before .before .before .before .before .loop .inv))
 
 returns-2 : tie.Need-returns-2 Inv-loop μ-loop
 returns-2 c = λ e. clash false e refl
@@ -73,7 +77,7 @@ some-too-long-spec =
     element-copy-out-too-long-2
     too-long-requires
     returns
-    clear32-requires
+    without-lowest32-requires
     loop-less
     loop-again
     returns-2)

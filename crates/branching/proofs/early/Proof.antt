@@ -33,17 +33,20 @@ element-copy-out-with-early c = omega (arith, c .before .before .loop .inv .walk
 with-early-requires : tie.Need-with-early-requires Inv-loop μ-loop
 with-early-requires c κs = omega (arith, c .before .before .before .loop .inv .walk .below _ (c .before .lowest32 .ensures .1), c .before .before .before .before .before .pre)
 
-clear32-requires : tie.Need-clear32-requires Inv-loop μ-loop
-clear32-requires c κs = c .before .before .lowest32 .ensures .0
+without-lowest32-requires : tie.Need-without-lowest32-requires Inv-loop μ-loop
+without-lowest32-requires c κs = pos-of-ne-zero (c .before .before .before .loop-test .taken)
 
 loop-less : tie.Need-loop-less Inv-loop μ-loop
-loop-less c = rw (c .clear32 .ensures) (walk-less _ _ (c .before .before .before .lowest32 .ensures .1))
+loop-less c =
+    let low = c .before .before .before .lowest32 .ensures in
+    rw (c .without-lowest32 .ensures _ (low .1) (low .2)) (walk-less _ _ (low .1))
 
 loop-again : tie.Need-loop-again Inv-loop μ-loop
 loop-again c =
+    let low = c .before .before .before .lowest32 .ensures in
     let a = c .before .before .before .before .before .before .before .args in
     let loop = c .before .before .before .before .before .loop in
-    rw (c .clear32 .ensures, c .before .with-early .ensures) (sifting-step (a .at .now) (a .end) (a .set) (a .jobs) (loop .r) (loop .rest)
+    rw (c .without-lowest32 .ensures _ (low .1) (low .2), c .before .with-early .ensures) (sifting-step (a .at .now) (a .end) (a .set) (a .jobs) (loop .r) (loop .rest)
     (c .before .before .before .lowest32 .result) (loop .inv))
 
 returns : tie.Need-returns Inv-loop μ-loop
@@ -64,7 +67,7 @@ early-spec =
     mul-with-early
     element-copy-out-with-early
     with-early-requires
-    clear32-requires
+    without-lowest32-requires
     loop-less
     loop-again
     returns)

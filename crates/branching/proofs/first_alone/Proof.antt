@@ -33,14 +33,18 @@ alone-at-requires c κs = omega (arith, c .before .before .before .loop .inv .be
 returns : tie.Need-returns Inv-loop μ-loop
 returns c = λ l. c .before .alone-at .ensures (c .if1 .taken)
 
-clear32-requires : tie.Need-clear32-requires Inv-loop μ-loop
-clear32-requires c κs = c .before .before .before .lowest32 .ensures .0
+without-lowest32-requires : tie.Need-without-lowest32-requires Inv-loop μ-loop
+without-lowest32-requires c κs = pos-of-ne-zero (c .before .before .before .before .loop-test .taken)
 
 loop-less : tie.Need-loop-less Inv-loop μ-loop
-loop-less c = rw (c .clear32 .ensures) (walk-less _ _ (c .before .before .before .before .lowest32 .ensures .1))
+loop-less c =
+    let low = c .before .before .before .before .lowest32 .ensures in
+    rw (c .without-lowest32 .ensures _ (low .1) (low .2)) (walk-less _ _ (low .1))
 
 loop-again : tie.Need-loop-again Inv-loop μ-loop
-loop-again c = rw (c .clear32 .ensures) (walk-next _ (c .before .before .before .before .before .before .loop .inv))
+loop-again c =
+    let low = c .before .before .before .before .lowest32 .ensures in
+    rw (c .without-lowest32 .ensures _ (low .1) (low .2)) (walk-next _ (c .before .before .before .before .before .before .loop .inv))
 
 returns-2 : tie.Need-returns-2 Inv-loop μ-loop
 returns-2 c = λ l. absurd (omega arith)
@@ -58,7 +62,7 @@ first-alone-spec =
     element-copy-out-alone-at
     alone-at-requires
     returns
-    clear32-requires
+    without-lowest32-requires
     loop-less
     loop-again
     returns-2)

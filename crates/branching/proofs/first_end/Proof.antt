@@ -41,18 +41,21 @@ element-copy-out-or-ends-2 c = omega (arith, c .before .before .before .loop .in
 or-ends-requires : tie.Need-or-ends-requires Inv-loop μ-loop
 or-ends-requires c κs = search needs
 
-clear32-requires : tie.Need-clear32-requires Inv-loop μ-loop
-clear32-requires c κs = c .before .before .before .lowest32 .ensures .0
+without-lowest32-requires : tie.Need-without-lowest32-requires Inv-loop μ-loop
+without-lowest32-requires c κs = pos-of-ne-zero (c .before .before .before .before .loop-test .taken)
 
 loop-less : tie.Need-loop-less Inv-loop μ-loop
-loop-less c = rw (c .clear32 .ensures) (walk-less _ _ (c .before .before .before .before .lowest32 .ensures .1))
+loop-less c =
+    let low = c .before .before .before .before .lowest32 .ensures in
+    rw (c .without-lowest32 .ensures _ (low .1) (low .2)) (walk-less _ _ (low .1))
 
 loop-again : tie.Need-loop-again Inv-loop μ-loop
 loop-again c =
+    let low = c .before .before .before .before .lowest32 .ensures in
     let a = c .before .before .before .before .before .before .before .before .args in
     let loop = c .before .before .before .before .before .before .loop in
     let j = c .before .before .before .before .lowest32 in (
-      rw (c .clear32 .ensures) (walk-next _ (loop .inv .0)),
+      rw (c .without-lowest32 .ensures _ (low .1) (low .2)) (walk-next _ (loop .inv .0)),
       rw (c .before .or-ends .ensures) (or-ends (a .minutes .now) (a .at .now) (a .jobs) (j .result) (loop .r)
           (loop .inv .0 .below _ (j .ensures .1)) (loop .inv .1)),
     )
@@ -74,7 +77,7 @@ first-end-spec =
     mul-or-ends-2
     element-copy-out-or-ends-2
     or-ends-requires
-    clear32-requires
+    without-lowest32-requires
     loop-less
     loop-again
     returns)

@@ -31,8 +31,10 @@ lowest32-requires c κs = pos-of-ne-zero (c .loop-test .taken)
 next-start-requires : tie.Need-next-start-requires Inv-loop μ-loop
 next-start-requires c κs =
     let pre = c .before .before .before .before .pre in
-    let inside = c .before .before .loop .inv .walk .below _ (c .lowest32 .ensures .1) in
-    (pre .profile, (pre .narrow _ inside, (pre .few, omega (arith, inside, pre .few))))
+    let walk = c .before .before .loop .inv .walk in
+    let inside = walk .below _ (c .lowest32 .ensures .1) in
+    let unplaced = walk .inside _ (c .lowest32 .ensures .1) in
+    (pre .profile, (pre .narrow _ inside, (pre .few, (omega (arith, inside, pre .few), unplaced))))
 
 mul-at : tie.Need-mul-at Inv-loop μ-loop
 mul-at c = record { fits = omega (arith, c .before .lowest32 .ensures .0) }
@@ -43,19 +45,22 @@ array-write-at c = omega (arith, c .before .before .before .loop .inv .walk .bel
 sooner-requires : tie.Need-sooner-requires Inv-loop μ-loop
 sooner-requires c κs = search needs
 
-clear32-requires : tie.Need-clear32-requires Inv-loop μ-loop
-clear32-requires c κs = c .before .before .lowest32 .ensures .0
+without-lowest32-requires : tie.Need-without-lowest32-requires Inv-loop μ-loop
+without-lowest32-requires c κs = pos-of-ne-zero (c .before .before .before .loop-test .taken)
 
 loop-less : tie.Need-loop-less Inv-loop μ-loop
-loop-less c = rw (c .clear32 .ensures) (walk-less _ _ (c .before .before .before .lowest32 .ensures .1))
+loop-less c =
+    let low = c .before .before .before .lowest32 .ensures in
+    rw (c .without-lowest32 .ensures _ (low .1) (low .2)) (walk-less _ _ (low .1))
 
 loop-again : tie.Need-loop-again Inv-loop μ-loop
 loop-again c =
+    let low = c .before .before .before .lowest32 .ensures in
     let start = c .before .before .before .before .before .before .before in
     let a = start .args in
     let loop = c .before .before .before .before .before .loop in
     let next = c .before .before .next-start in
-    rw (c .before .sooner .ensures, c .clear32 .ensures) (starting-step (a .need .now) (a .earlier .now) (a .ends .now) (a .until .now)
+    rw (c .before .sooner .ensures, c .without-lowest32 .ensures _ (low .1) (low .2)) (starting-step (a .need .now) (a .earlier .now) (a .ends .now) (a .until .now)
     (a .held .now) (a .unplaced) (a .placed) (a .modules) (a .last) (a .jobs) (start .pre .few) (start .pre .short) (loop .at) (loop .least)
     (loop .rest) (c .before .before .before .lowest32 .result) (next .result) (loop .inv) (c .before .before .before .lowest32 .ensures .1) (next .ensures))
 
@@ -79,7 +84,7 @@ ready-starts-spec =
     mul-at
     array-write-at
     sooner-requires
-    clear32-requires
+    without-lowest32-requires
     loop-less
     loop-again
     returns)

@@ -70,10 +70,10 @@ try-children-claims t = (
   passed-over-reads.Learnt,
   none-found-reads.Asked,
   none-found-reads.Learnt,
-  with-job-reads.Asked,
-  with-job-reads.Learnt,
   with-settled-reads.Asked,
   with-settled-reads.Learnt,
+  with-job-reads.Asked,
+  with-job-reads.Learnt,
   visit-below t,
   visit.Post,
 )
@@ -136,42 +136,42 @@ try-children-returns t c =
     (c .before .before .passed-over .ensures (c .before .if1 .taken)) in
     (rw (c .none-found .ensures) (none-outcome _ (a .target) _ cut), p .0 .remembered)
 
+try-children-with-settled-requires : (t : ℕ)
+    → try-children-lts.Need-with-settled-requires (try-children-claims t) (try-children-at t) try-children.Post
+try-children-with-settled-requires t c κs =
+    let p = c .before .before .before .before .before .before .before .before .pre .1 in
+    omega (arith, p .1 .1 .1 .0, p .0 .known .fit .few)
+
 try-children-mul-with-job : (t : ℕ) → try-children-lts.Need-mul-with-job (try-children-claims t) (try-children-at t) try-children.Post
 try-children-mul-with-job t c =
-    let p = c .before .before .before .before .before .before .before .before .before .before .before .before .before .pre .1 in
+    let p = c .before .before .before .before .before .before .before .before .before .before .before .before .before .before .pre .1 in
     record { fits = omega (arith, p .1 .1 .1 .0, p .0 .known .fit .few) }
 
 try-children-element-copy-out-with-job : (t : ℕ)
     → try-children-lts.Need-element-copy-out-with-job (try-children-claims t) (try-children-at t) try-children.Post
 try-children-element-copy-out-with-job t c =
-    let p = c .before .before .before .before .before .before .before .before .before .before .before .before .before .pre .1 in
+    let p = c .before .before .before .before .before .before .before .before .before .before .before .before .before .before .pre .1 in
     omega (arith, p .1 .1 .1 .0, p .0 .known .fit .few)
 
 try-children-mul-with-job-2 : (t : ℕ) → try-children-lts.Need-mul-with-job-2 (try-children-claims t) (try-children-at t) try-children.Post
 try-children-mul-with-job-2 t c =
-    let p = c .before .before .before .before .before .before .before .before .before .before .before .before .before .before .pre .1 in
+    let p = c .before .before .before .before .before .before .before .before .before .before .before .before .before .before .before .pre .1 in
     record { fits = omega (arith, p .1 .1 .1 .0, p .0 .known .fit .few) }
 
 try-children-element-copy-out-with-job-2 : (t : ℕ)
     → try-children-lts.Need-element-copy-out-with-job-2 (try-children-claims t) (try-children-at t) try-children.Post
 try-children-element-copy-out-with-job-2 t c =
-    let p = c .before .before .before .before .before .before .before .before .before .before .before .before .before .before .pre .1 in
+    let p = c .before .before .before .before .before .before .before .before .before .before .before .before .before .before .before .pre .1 in
     omega (arith, p .1 .1 .1 .0, p .0 .known .fit .few)
 
 try-children-with-job-requires : (t : ℕ) → try-children-lts.Need-with-job-requires (try-children-claims t) (try-children-at t) try-children.Post
 try-children-with-job-requires t c κs =
-    let start = c .before .before .before .before .before .before .before .before .before .before .before .before .before .before .before in
+    let start = c .before .before .before .before .before .before .before .before .before .before .before .before .before .before .before .before in
     let a = start .args in
     let p = start .pre .1 in
     child-placeable (a .need .now) (a .minutes .now) (a .earlier .now) (a .jobs) (a .modules) (a .t11) (p .0 .known) (a .job)
     (p .1 .1 .1 .0) (getD (a .at .now) (a .job) 0)
     (p .1 .0 (a .job) (p .1 .1 .1 .0)) (p .1 .1 .1 .1)
-
-try-children-with-settled-requires : (t : ℕ)
-    → try-children-lts.Need-with-settled-requires (try-children-claims t) (try-children-at t) try-children.Post
-try-children-with-settled-requires t c κs =
-    let p = c .before .before .before .before .before .before .before .before .before .before .before .before .before .before .before .before .pre .1 in
-    omega (arith, p .1 .1 .1 .0, p .0 .known .fit .few)
 
 try-children-visit-requires : (t : ℕ) → try-children-lts.Need-visit-requires (try-children-claims t) (try-children-at t) try-children.Post
 try-children-visit-requires t c κs =
@@ -179,7 +179,7 @@ try-children-visit-requires t c κs =
     let a = start .args in
     let p = start .pre .1 in
     let known = p .0 .known in
-    let place = c .before .before .with-job in
+    let place = c .before .with-job in
     let less = child-fewer (a .need .now) (a .minutes .now) (a .earlier .now) (a .jobs) (a .modules) (a .t11) known
     (a .job) (p .1 .1 .1 .0) (getD (a .at .now) (a .job) 0)
     (p .1 .0 (a .job) (p .1 .1 .1 .0)) (p .1 .1 .1 .1) (place .result) (place .ensures) in
@@ -196,7 +196,7 @@ try-children-visit-requires t c κs =
         related-is = p .0 .related-is;
         weighted = p .0 .weighted;
         laned = p .0 .laned;
-        settled = rw (c .before .with-settled .ensures, word) (settled-more (a .need .now) (a .minutes .now) (a .earlier .now)
+        settled = rw (c .before .before .before .before .before .before .before .before .before .with-settled .ensures, word) (settled-more (a .need .now) (a .minutes .now) (a .earlier .now)
             (a .related .now) (a .tails .now) (a .worth .now) (a .most .now) (a .lanes .now) (a .jobs) (a .modules) (a .t11) (a .t12 .by) (a .t12 .same) (a .target)
             (a .memory .now) (a .at .now) (a .tried) (a .job)
             (p .0) (p .1 .0) (p .1 .1 .0) (p .1 .1 .1 .0) (p .1 .1 .1 .1));
@@ -215,7 +215,7 @@ try-children-returns-2 t c =
     let a = start .args in
     let p = start .pre .1 in
     let known = p .0 .known in
-    let place = c .before .before .before .before .before .with-job in
+    let place = c .before .before .before .before .with-job in
     let word = child-word (a .need .now) (a .minutes .now) (a .earlier .now) (a .jobs) (a .modules) (a .t11) known
     (a .job) (p .1 .1 .1 .0) (getD (a .at .now) (a .job) 0)
     (p .1 .0 (a .job) (p .1 .1 .1 .0)) (p .1 .1 .1 .1) (place .result) (place .ensures) in
@@ -488,10 +488,10 @@ pub +try-children+visit-spec : {M : Type 1} → statement M
   passed-over-reads.Learnt,
   none-found-reads.Asked,
   none-found-reads.Learnt,
-  with-job-reads.Asked,
-  with-job-reads.Learnt,
   with-settled-reads.Asked,
   with-settled-reads.Learnt,
+  with-job-reads.Asked,
+  with-job-reads.Learnt,
   visit-below t,
   visit.Post,
 )
@@ -502,12 +502,12 @@ pub +try-children+visit-spec : {M : Type 1} → statement M
     (try-children-passed-over-requires t)
     (try-children-none-found-requires t)
     (try-children-returns t)
+    (try-children-with-settled-requires t)
     (try-children-mul-with-job t)
     (try-children-element-copy-out-with-job t)
     (try-children-mul-with-job-2 t)
     (try-children-element-copy-out-with-job-2 t)
     (try-children-with-job-requires t)
-    (try-children-with-settled-requires t)
     (try-children-visit-requires t)
     (try-children-same-length t)
     (try-children-returns-2 t))

@@ -42,19 +42,22 @@ with-job-requires c κs =
       (omega (arith, inside, start .pre .1 .few), start .pre .1 .day (j .result) inside),
     )
 
-clear32-requires : tie.Need-clear32-requires Inv-loop μ-loop
-clear32-requires c κs = c .before .before .before .before .lowest32 .ensures .0
+without-lowest32-requires : tie.Need-without-lowest32-requires Inv-loop μ-loop
+without-lowest32-requires c κs = pos-of-ne-zero (c .before .before .before .before .before .loop-test .taken)
 
 loop-less : tie.Need-loop-less Inv-loop μ-loop
-loop-less c = rw (c .clear32 .ensures) (walk-less _ _ (c .before .before .before .before .before .lowest32 .ensures .1))
+loop-less c =
+    let low = c .before .before .before .before .before .lowest32 .ensures in
+    rw (c .without-lowest32 .ensures _ (low .1) (low .2)) (walk-less _ _ (low .1))
 
 loop-again : tie.Need-loop-again Inv-loop μ-loop
 loop-again c =
+    let low = c .before .before .before .before .before .lowest32 .ensures in
     let a = c .before .before .before .before .before .before .before .before .before .before .args in
     let loop = c .before .before .before .before .before .before .before .loop in
     let j = c .before .before .before .before .before .lowest32 in
     let with-job = c .before .before .before .with-job in (
-      rw (c .clear32 .ensures) (summing-step (a .minutes .now) (a .set) (a .jobs) (loop .inv .0) (j .result) (j .ensures .1) (j .ensures .2)
+      rw (c .without-lowest32 .ensures _ (low .1) (low .2)) (summing-step (a .minutes .now) (a .set) (a .jobs) (loop .inv .0) (j .result) (j .ensures .1) (j .ensures .2)
           (with-job .ensures)),
       with-job .kept .0 ∙ loop .inv .1,
     )
@@ -78,7 +81,7 @@ subset-sums-spec =
     loop-holds
     lowest32-requires
     with-job-requires
-    clear32-requires
+    without-lowest32-requires
     loop-less
     loop-again
     same-length
