@@ -87,7 +87,7 @@ fn set_worth(lanes: &[u32; 1110], set: u32, jobs: usize) -> u32
     while rest != 0 {
         let k = bits::lowest32(rest);
         total += worth_of(lanes, k);
-        rest = bits::clear32(rest, k);
+        rest = bits::without_lowest32(rest);
     }
     total
 }

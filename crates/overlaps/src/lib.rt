@@ -41,7 +41,7 @@ fn all_hold(
     while rest != 0 {
         let k = bits::lowest32(rest);
         total += must_hold(need[k], minutes[k], l, target, m);
-        rest = bits::clear32(rest, k);
+        rest = bits::without_lowest32(rest);
     }
     total
 }
@@ -156,7 +156,7 @@ pub fn overlapping<'a>(
         ) {
             return true;
         }
-        rest = bits::clear32(rest, k);
+        rest = bits::without_lowest32(rest);
     }
     false
 }

@@ -176,7 +176,7 @@ fn set_worth(worth: &[u32; 100], set: u32, jobs: usize) -> Totals
     while rest != 0 {
         let k = bits::lowest32(rest);
         weight = with_worth(weight, worth, k);
-        rest = bits::clear32(rest, k);
+        rest = bits::without_lowest32(rest);
     }
     weight
 }

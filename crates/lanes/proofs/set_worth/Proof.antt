@@ -1,6 +1,6 @@
 -- `lanes::set_worth` meets its contract.
 use native.Mathlib.Omega.{arith}
-use native.Mathlib.Nat.{le-refl}
+use native.Mathlib.Nat.{pos-of-ne-zero, le-refl}
 use lib.Count.{ones}
 use Rattle.bits.proofs.Walks.{Walk, walk-first, walk-next, walk-less}
 use Rattle.weights.proofs.Members.{Weighed, weighed-none, weighed-more, weighed-small, weighed-all}
@@ -49,26 +49,26 @@ add-total c =
       );
     }
 
-clear32-requires : tie.Need-clear32-requires Inv-loop μ-loop
-clear32-requires c κs =
-    let lowest32 = c .before .lowest32 in
-    lowest32 .ensures .0
+without-lowest32-requires : tie.Need-without-lowest32-requires Inv-loop μ-loop
+without-lowest32-requires c κs = pos-of-ne-zero (c .before .before .loop-test .taken)
 
 loop-less : tie.Need-loop-less Inv-loop μ-loop
 loop-less c =
+    let low32 = c .before .before .lowest32 .ensures in
     let loop = c .before .before .before .before .loop in
     let lowest32 = c .before .before .lowest32 in
-    rw (c .clear32 .ensures) (walk-less (loop .rest) (lowest32 .result) (lowest32 .ensures .1))
+    rw (c .without-lowest32 .ensures _ (low32 .1) (low32 .2)) (walk-less (loop .rest) (lowest32 .result) (lowest32 .ensures .1))
 
 loop-again : tie.Need-loop-again Inv-loop μ-loop
 loop-again c =
+    let low32 = c .before .before .lowest32 .ensures in
     let lowest32 = c .before .before .lowest32 in
     let loop = c .before .before .before .before .loop in
     let worth-of = c .before .worth-of in
     let k = lowest32 .result in
     let member = lowest32 .ensures .1 in
     let low = loop .inv .0 .below k member in
-    rw (c .clear32 .ensures, worth-of .ensures) (walk-next k (loop .inv .0), weighed-more (loop .inv .1) k low member)
+    rw (c .without-lowest32 .ensures _ (low32 .1) (low32 .2), worth-of .ensures) (walk-next k (loop .inv .0), weighed-more (loop .inv .1) k low member)
 
 returns : tie.Need-returns Inv-loop μ-loop
 returns c =
@@ -86,7 +86,7 @@ set-worth-spec =
     lowest32-requires
     worth-of-requires
     add-total
-    clear32-requires
+    without-lowest32-requires
     loop-less
     loop-again
     returns)

@@ -39,14 +39,18 @@ no-room-for-requires c κs = c .before .before .before .before .before .pre
 returns : tie.Need-returns Inv-loop μ-loop
 returns c = λ e. c .before .no-room-for .ensures (c .if1 .taken)
 
-clear32-requires : tie.Need-clear32-requires Inv-loop μ-loop
-clear32-requires c κs = c .before .before .before .lowest32 .ensures .0
+without-lowest32-requires : tie.Need-without-lowest32-requires Inv-loop μ-loop
+without-lowest32-requires c κs = pos-of-ne-zero (c .before .before .before .before .loop-test .taken)
 
 loop-less : tie.Need-loop-less Inv-loop μ-loop
-loop-less c = rw (c .clear32 .ensures) (walk-less _ _ (c .before .before .before .before .lowest32 .ensures .1))
+loop-less c =
+    let low32 = c .before .before .before .before .lowest32 .ensures in
+    rw (c .without-lowest32 .ensures _ (low32 .1) (low32 .2)) (walk-less _ _ (c .before .before .before .before .lowest32 .ensures .1))
 
 loop-again : tie.Need-loop-again Inv-loop μ-loop
-loop-again c = rw (c .clear32 .ensures) (walk-next _ (c .before .before .before .before .before .before .loop .inv))
+loop-again c =
+    let low32 = c .before .before .before .before .lowest32 .ensures in
+    rw (c .without-lowest32 .ensures _ (low32 .1) (low32 .2)) (walk-next _ (c .before .before .before .before .before .before .loop .inv))
 
 returns-2 : tie.Need-returns-2 Inv-loop μ-loop
 returns-2 c = λ e. clash false e refl
@@ -64,7 +68,7 @@ overlapping-spec =
     element-copy-out-no-room-for
     no-room-for-requires
     returns
-    clear32-requires
+    without-lowest32-requires
     loop-less
     loop-again
     returns-2)

@@ -1,5 +1,6 @@
 -- `weights::set_worth` meets its contract.
 use native.Mathlib.Omega.{arith}
+use native.Mathlib.Nat.{pos-of-ne-zero}
 use Prim.Native.Nat.{ℕ, _+_, _*_, _<_}
 use lib.Count.{ones}
 use lib.ListN.{getD}
@@ -38,26 +39,26 @@ with-worth-requires c κs =
     let low = loop .inv .0 .below k member in
     (omega (arith, pre .1), λ q l. omega (arith, pre .1, weighed-small (loop .inv .1 q l) k low member 51840 (λ i m. pre .0 (i * 5 + q))))
 
-clear32-requires : tie.Need-clear32-requires Inv-loop μ-loop
-clear32-requires c κs =
-    let lowest32 = c .before .lowest32 in
-    lowest32 .ensures .0
+without-lowest32-requires : tie.Need-without-lowest32-requires Inv-loop μ-loop
+without-lowest32-requires c κs = pos-of-ne-zero (c .before .before .loop-test .taken)
 
 loop-less : tie.Need-loop-less Inv-loop μ-loop
 loop-less c =
+    let low32 = c .before .before .lowest32 .ensures in
     let loop = c .before .before .before .before .loop in
     let lowest32 = c .before .before .lowest32 in
-    rw (c .clear32 .ensures) (walk-less (loop .rest) (lowest32 .result) (lowest32 .ensures .1))
+    rw (c .without-lowest32 .ensures _ (low32 .1) (low32 .2)) (walk-less (loop .rest) (lowest32 .result) (lowest32 .ensures .1))
 
 loop-again : tie.Need-loop-again Inv-loop μ-loop
 loop-again c =
+    let low32 = c .before .before .lowest32 .ensures in
     let lowest32 = c .before .before .lowest32 in
     let loop = c .before .before .before .before .loop in
     let with-worth = c .before .with-worth in
     let k = lowest32 .result in
     let member = lowest32 .ensures .1 in
     let low = loop .inv .0 .below k member in
-    rw (c .clear32 .ensures) (
+    rw (c .without-lowest32 .ensures _ (low32 .1) (low32 .2)) (
       walk-next k (loop .inv .0),
       λ q l. rw (with-worth .ensures q l) (weighed-more (loop .inv .1 q l) k low member),
     )
@@ -77,7 +78,7 @@ set-worth-spec =
     loop-holds
     lowest32-requires
     with-worth-requires
-    clear32-requires
+    without-lowest32-requires
     loop-less
     loop-again
     returns)
