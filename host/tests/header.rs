@@ -234,7 +234,7 @@ fn archive_has_the_declared_names() {
     }
     defined.sort();
     assert_eq!(defined, c_calls().keys().collect::<Vec<_>>());
-    assert_eq!(needed, ["memcpy", "memset"]);
+    assert_eq!(needed, ["memcpy", "memmove", "memset"]);
 }
 
 /// `tests/edges.rs` calls every one of them.
