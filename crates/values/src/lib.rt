@@ -451,6 +451,18 @@ fn round_after(round: usize, rounds: usize, stop: bool) -> usize
     round + 1
 }
 
+// How many rounds: the more the longer a search of so many jobs can be.
+fn rounds_for(jobs: usize) -> usize
+    requires { ⌜ jobs ≤ 20 ⌝ }
+    ensures { λ r. ⌜ r ≤ 100 ⌝ }
+{
+    let rounds = (1usize << jobs) / 512;
+    if rounds > 100 {
+        return 100;
+    }
+    rounds
+}
+
 // Values of the jobs for which the lanes of `most` weight serve little in t steps.
 fn values_for(
     weight: &[u16; 20],
@@ -470,7 +482,7 @@ fn values_for(
         worth: 0,
         served: 1,
     };
-    let rounds = 5 * jobs;
+    let rounds = rounds_for(jobs);
     let mut round: usize = 0;
     while round < rounds {
         let value = values_of(&shares.of, minutes, jobs, step);

@@ -22,28 +22,29 @@ lengths-requires c κs =
 scaled-requires : tie.Need-scaled-requires Inv-loop μ-loop
 scaled-requires c κs = search needs
 
-mul-rounds : tie.Need-mul-rounds Inv-loop μ-loop
-mul-rounds c = search needs
+rounds-for-requires : tie.Need-rounds-for-requires Inv-loop μ-loop
+rounds-for-requires c κs =
+    let pre = c .before .before .before .before .pre in
+    pre .0 .0
 
 loop-holds : tie.Need-loop-holds Inv-loop μ-loop
 loop-holds c =
-    let pre = c .before .before .before .before .pre in
-    ((search needs, omega (arith, pre .0 .0)), (search needs, valued-none _ _))
+    ((search needs, c .rounds-for .ensures), (search needs, valued-none _ _))
 
 values-of-requires : tie.Need-values-of-requires Inv-loop μ-loop
 values-of-requires c κs =
-    let pre = c .before .before .before .before .before .before .before .before .pre in
+    let pre = c .before .before .before .before .before .before .before .before .before .pre in
     pre .0 .0
 
 serve-requires : tie.Need-serve-requires Inv-loop μ-loop
 serve-requires c κs =
-    let pre = c .before .before .before .before .before .before .before .before .before .before .before .pre in
+    let pre = c .before .before .before .before .before .before .before .before .before .before .before .before .pre in
     let values-of = c .before .before .values-of in
     (pre .0, (values-of .ensures, pre .1))
 
 total-requires : tie.Need-total-requires Inv-loop μ-loop
 total-requires c κs =
-    let back = c .before .before .before .before .before .before .before .before .before .before .before .before .before .before in
+    let back = c .before .before .before .before .before .before .before .before .before .before .before .before .before .before .before in
     let pre = back .pre in
     pre .0 .0
 
@@ -98,7 +99,7 @@ values-for-spec =
     μ-loop
     lengths-requires
     scaled-requires
-    mul-rounds
+    rounds-for-requires
     loop-holds
     values-of-requires
     serve-requires
