@@ -17,7 +17,7 @@
  * Threads.    Calls may run at the same time as long as none writes what another is lent.
  * Stack.      Measured, not proved: depot_plan stays within DEPOT_PLAN_STACK bytes, every other call within DEPOT_CALL_STACK.
  *             The tests of the host package hold these figures.
- * Names       that begin with depot_ or DEPOT_ belong to the library. It calls memcpy and memset, and nothing else.
+ * Names       that begin with depot_ or DEPOT_ belong to the library. It calls memcpy, memmove and memset, and nothing else.
  *
  * Numbers of several bytes in a sheet or on a card are little-endian; bit 0 is the lowest.
  */
