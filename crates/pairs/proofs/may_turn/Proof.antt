@@ -1,10 +1,10 @@
--- `relations::may_turn` meets its contract.
+-- `pairs::may_turn` meets its contract.
 use mathlib.Core.Path.{refl}
 use mathlib.Core.Bool.{false}
 use borrow.Author.Tests.{eqb-true}
 use Rattle.counting.proofs.Tests.{clash}
-use Rattle.relations.proofs.may_turn.Statement.{statement}
-use Rattle.relations.proofs.may_turn.Tie as tie
+use Rattle.pairs.proofs.may_turn.Statement.{statement}
+use Rattle.pairs.proofs.may_turn.Tie as tie
 
 returns : tie.Need-returns
 returns c = λ e. clash false e refl

@@ -1,10 +1,10 @@
--- `relations::alike` meets its contract.
+-- `pairs::alike` meets its contract.
 use mathlib.Core.Path.{refl}
 use mathlib.Core.Bool.{false}
 use borrow.Author.Tests.{eqb-true}
 use Rattle.counting.proofs.Tests.{clash}
-use Rattle.relations.proofs.alike.Statement.{statement}
-use Rattle.relations.proofs.alike.Tie as tie
+use Rattle.pairs.proofs.alike.Statement.{statement}
+use Rattle.pairs.proofs.alike.Tie as tie
 
 returns : tie.Need-returns
 returns c = λ e. clash false e refl

@@ -1,8 +1,8 @@
--- `relations::joined` meets its contract.
+-- `pairs::joined` meets its contract.
 use mathlib.Core.Path.{refl, _∙_}
 use borrow.Author.Needs.{needs}
-use Rattle.relations.proofs.joined.Statement.{statement}
-use Rattle.relations.proofs.joined.Tie as tie
+use Rattle.pairs.proofs.joined.Statement.{statement}
+use Rattle.pairs.proofs.joined.Tie as tie
 
 set32-requires : tie.Need-set32-requires
 set32-requires c κs = search needs
