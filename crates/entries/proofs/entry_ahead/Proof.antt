@@ -1,4 +1,4 @@
--- `memory::entry_ahead` meets its contract.
+-- `entries::entry_ahead` meets its contract.
 use Prim.Native.Nat.{ℕ, _+_, _-_, _*_, _≤_, _<_, max, zero-le}
 use mathlib.Core.Path.{_≡_, sym, subst, _∙_}
 use mathlib.Core.Logic.{⊎-elim}
@@ -7,10 +7,10 @@ use borrow.Author.Tests.{eqb-true}
 use lib.ListN.{getD}
 use Rattle.counting.proofs.Tests.{less-or-not}
 use Rattle.words.specs.Words.{u16At}
-use Rattle.memory.proofs.Slots.{no, ahead-in}
+use Rattle.entries.proofs.Laws.{no, ahead-in}
 use borrow.Author.Needs.{needs}
-use Rattle.memory.proofs.entry_ahead.Statement.{statement}
-use Rattle.memory.proofs.entry_ahead.Tie as tie
+use Rattle.entries.proofs.entry_ahead.Statement.{statement}
+use Rattle.entries.proofs.entry_ahead.Tie as tie
 
 -- where none is late so far, the last start is not, nor is any end so far
 abbrev Inv-loop : tie.InvT-loop
