@@ -1,9 +1,9 @@
--- `planner::with_job` meets its contract.
+-- `job_tables::with_job` meets its contract.
 use mathlib.Core.Path.{refl}
-use Rattle.planner.specs.Tables.{withJob}
+use Rattle.job_tables.specs.Tables.{withJob}
 use borrow.Author.Needs.{needs}
-use Rattle.planner.proofs.with_job.Statement.{statement}
-use Rattle.planner.proofs.with_job.Tie as tie
+use Rattle.job_tables.proofs.with_job.Statement.{statement}
+use Rattle.job_tables.proofs.with_job.Tie as tie
 
 mul-next : tie.Need-mul-next
 mul-next c = search needs

@@ -10,8 +10,8 @@ use lib.Seq.{getD-set-same, getD-set-other, ext-getD}
 use Rattle.counting.proofs.Tests.{last-or-below}
 use Rattle.sheet_format.specs.declared.Job.{Job}
 use Rattle.sheet_format.specs.Format.{noJob, jobsIn}
-use Rattle.planner.specs.declared.JobTables.{JobTables}
-use Rattle.planner.specs.Tables.{withJob, tablesOf}
+use Rattle.job_tables.specs.declared.JobTables.{JobTables}
+use Rattle.job_tables.specs.Tables.{withJob, tablesOf}
 
 -- the first k places of a table are a figure of the jobs
 pub record Column (jobs : List Job) (figure : Job → ℕ) (k : ℕ) (xs : List ℕ) : Type 0 where

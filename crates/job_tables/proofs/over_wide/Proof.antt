@@ -1,4 +1,4 @@
--- `planner::over_wide` meets its contract: no job that was passed is too wide.
+-- `job_tables::over_wide` meets its contract: no job that was passed is too wide.
 use mathlib.Core.Path.{_≡_, refl, sym}
 use mathlib.Core.Bool.{Bool, false}
 use Prim.Native.Nat.{ℕ, _≤_, _-_}
@@ -9,8 +9,8 @@ use borrow.Author.Needs.{needs}
 use borrow.Author.Tests.{lt-ltb, le-ltb}
 use Rattle.counting.specs.Counting.{any}
 use Rattle.desk.proofs.Loops.{any-more, any-at}
-use Rattle.planner.proofs.over_wide.Statement.{statement}
-use Rattle.planner.proofs.over_wide.Tie as tie
+use Rattle.job_tables.proofs.over_wide.Statement.{statement}
+use Rattle.job_tables.proofs.over_wide.Tie as tie
 
 abbrev Inv-loop : tie.InvT-loop
 Inv-loop need jobs modules j₀ j = (j ≤ jobs) × (any j (λ j. ltb modules (getD need j 0)) ≡ false)

@@ -3,7 +3,7 @@ use mathlib.Core.List.{List, map}
 use Prim.Native.Nat.{ℕ}
 use lib.ListN.{set}
 use Rattle.sheet_format.specs.declared.Job.{Job}
-use Rattle.planner.specs.declared.JobTables.{JobTables}
+use Rattle.job_tables.specs.declared.JobTables.{JobTables}
 
 -- the tables with the figures of job j
 unfoldable pub withJob : JobTables → ℕ → ℕ → ℕ → ℕ → JobTables

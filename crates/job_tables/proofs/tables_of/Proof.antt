@@ -1,11 +1,11 @@
--- `planner::tables_of` meets its contract.
+-- `job_tables::tables_of` meets its contract.
 use mathlib.Core.Path.{_≡_, refl}
 use Prim.Native.Nat.{_≤_, _-_}
 use native.Mathlib.Omega.{arith}
 use borrow.Author.Needs.{needs}
-use Rattle.planner.proofs.Copies.{Copied, none-copied, copied-more, all-copied}
-use Rattle.planner.proofs.tables_of.Statement.{statement}
-use Rattle.planner.proofs.tables_of.Tie as tie
+use Rattle.job_tables.proofs.Copies.{Copied, none-copied, copied-more, all-copied}
+use Rattle.job_tables.proofs.tables_of.Statement.{statement}
+use Rattle.job_tables.proofs.tables_of.Tie as tie
 
 abbrev Inv-loop : tie.InvT-loop
 Inv-loop found tables₀ j₀ tables j = (j ≤ 20) × (Copied (found .jobs) tables j)
