@@ -1,4 +1,4 @@
--- `replay::lowest_free` meets its contract.
+-- `free_modules::lowest_free` meets its contract.
 use mathlib.Core.Path.{_≡_, refl, ap, _∙_}
 use mathlib.Core.Bool.{cond, _&&_}
 use Prim.Native.Nat.{ℕ, _≤_, _-_}
@@ -8,11 +8,11 @@ use lib.Count.{ones}
 use Rattle.counting.specs.Counting.{sum}
 use Rattle.bits.specs.Bits.{withBit, setOf}
 use Rattle.schedule.specs.ListPlan.{lowest}
-use Rattle.replay.specs.Slots.{outside}
-use Rattle.replay.proofs.Modules.{lowest-more}
+use Rattle.free_modules.specs.Lowest.{outside}
+use Rattle.free_modules.proofs.Laws.{lowest-more}
 use borrow.Author.Needs.{needs}
-use Rattle.replay.proofs.lowest_free.Statement.{statement}
-use Rattle.replay.proofs.lowest_free.Tie as tie
+use Rattle.free_modules.proofs.lowest_free.Statement.{statement}
+use Rattle.free_modules.proofs.lowest_free.Tie as tie
 
 abbrev Inv-loop : tie.InvT-loop
 Inv-loop busy modules want set₀ m₀ set m = (m ≤ modules) × (set ≡ setOf m (lowest modules (outside busy) want))

@@ -1,11 +1,11 @@
--- `replay::with_busy` meets its contract.
+-- `free_modules::with_busy` meets its contract.
 use mathlib.Core.Path.{_≡_, sym}
 use mathlib.Core.Bool.{true, false}
 use lib.Dec.{ltb}
 use lib.Bits.{or-zero-r}
 use borrow.Author.Tests.{lt-ltb, le-ltb}
-use Rattle.replay.proofs.with_busy.Statement.{statement}
-use Rattle.replay.proofs.with_busy.Tie as tie
+use Rattle.free_modules.proofs.with_busy.Statement.{statement}
+use Rattle.free_modules.proofs.with_busy.Tie as tie
 
 returns : tie.Need-returns
 returns c =

@@ -1,4 +1,4 @@
--- `replay::take_module` meets its contract.
+-- `free_modules::take_module` meets its contract.
 use mathlib.Core.Path.{_≡_, sym, _∙_}
 use mathlib.Core.Bool.{true, false}
 use lib.Dec.{ltb}
@@ -7,8 +7,8 @@ use borrow.Author.Tests.{lt-ltb, le-ltb}
 use native.Mathlib.Omega.{arith}
 use Rattle.bits.specs.Bits.{bit}
 use borrow.Author.Needs.{needs}
-use Rattle.replay.proofs.take_module.Statement.{statement}
-use Rattle.replay.proofs.take_module.Tie as tie
+use Rattle.free_modules.proofs.take_module.Statement.{statement}
+use Rattle.free_modules.proofs.take_module.Tie as tie
 
 test64-requires : tie.Need-test64-requires
 test64-requires c κs = search needs
