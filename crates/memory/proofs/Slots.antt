@@ -12,11 +12,8 @@ use lib.Seq.{getD-take, getD-drop, take-at, drop-at, drop-drop, drop-append-le, 
 use borrow.Rule.Slice.PartMut.{putMid}
 use Rattle.counting.proofs.Tests.{less-or-not}
 use Rattle.words.specs.Words.{u16At, u32At}
+use Rattle.entries.proofs.Laws.{part-number}
 use Rattle.memory.specs.Entries.{Entry, entryIn, groupAt, entries, entryAt, EntryAhead, FiguresOf, EntryOf, Stored, Hit, Adds}
-
--- false is not true
-pub no : {A : Type 0} → false ≡ true → A
-no e = let z : _≡_ {A = ℕ} 0 1 = cc in absurd (omega arith)
 
 -- ---- a set of entries
 
@@ -88,31 +85,11 @@ module _ (m e : List ℕ) (a n : ℕ) (h : a + n ≤ length m) (k : length e ≡
 abbrev parts : List ℕ → List ℕ → Entry
 parts s f = record { set = u32At s 0; figures = f }
 
-part-number : (l : List ℕ) (n a i : ℕ) → i + 1 < n → u16At (take n (drop a l)) i ≡ u16At l (a + i)
-unfolding u16At
-part-number l n a i h =
-    let q : a + (i + 1) ≡ a + i + 1 = omega arith in
-    omega (arith, one i (omega arith), rw q at (one (i + 1) h))
-  where
-    one : (k : ℕ) → k < n → getD {A = ℕ} (take n (drop a l)) k 0 ≡ getD l (a + k) 0
-    one k h = getD-take n (drop a l) k 0 h ∙ getD-drop a l k 0
-
 entry-parts : (g : List ℕ) (way : ℕ) → entryIn g way ≡ parts (take 4 (drop (way * 4) g)) (take 42 (drop (64 + way * 42) g))
 unfolding entryIn u32At
 entry-parts g way =
     let z : way * 4 + 0 ≡ way * 4 = omega arith in
     rw (part-number g 4 (way * 4) 0 (omega arith), part-number g 4 (way * 4) 2 (omega arith), z) refl
-
-pub ahead-in : (g : List ℕ) (way jobs : ℕ) (ends : List ℕ) (u l : ℕ) → jobs ≤ 20 → u32At g (way * 4) ≡ u → u16At g (64 + way * 42) ≤ l
-    → ((i : ℕ) → i < jobs → u16At g (64 + way * 42 + 2 + 2 * i) ≤ max (getD ends i 0) l) → EntryAhead (entryIn g way) jobs ends u l
-unfolding entryIn
-ahead-in g way jobs ends u l few set last end = record {
-  set = set;
-  last = let z : 64 + way * 42 + 0 ≡ 64 + way * 42 = omega arith in rw (part-number g 42 (64 + way * 42) 0 (omega arith), z) last;
-  end = λ i h.
-      let z : 64 + way * 42 + (2 + 2 * i) ≡ 64 + way * 42 + 2 + 2 * i = omega arith in
-      rw (part-number g 42 (64 + way * 42) (2 + 2 * i) (omega arith), z) (end i h);
-}
 
 -- an entry of which no byte is changed
 entry-same : (g g′ : List ℕ) (way : ℕ) → take 4 (drop (way * 4) g′) ≡ take 4 (drop (way * 4) g)

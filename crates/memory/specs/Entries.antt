@@ -1,20 +1,12 @@
--- Entries of working memory. A group of 736 bytes has 16: it begins with their sets of unplaced jobs, 4 bytes each, and behind these
--- stand their figures, 42 bytes each, the last start (2) and the ends by job (2 each).
+-- Entries of working memory: groups of 736 bytes, with 16 entries each.
 -- No contract says which entry is looked at or written, only what holds of some entry or of each.
 use mathlib.Core.Path.{_≡_}
 use mathlib.Core.Logic.{_⊎_}
 use mathlib.Core.List.{List}
 use Prim.Native.Nat.{ℕ, _+_, _*_, _/_, _%_, _≤_, _<_, max}
 use lib.ListN.{length, getD, take, drop}
-use Rattle.words.specs.Words.{u16At, u32At}
-
-pub record Entry : Type 0 where
-  pub set : ℕ
-  pub figures : List ℕ
-
--- the entry of a group
-unfoldable pub entryIn : List ℕ → ℕ → Entry
-entryIn group way = record { set = u32At group (way * 4); figures = take 42 (drop (64 + way * 42) group) }
+pub use Rattle.entries.specs.Entry.{Entry, lastAt, endAt, EntryAhead}
+unfoldable pub use Rattle.entries.specs.Entry.{entryIn}
 
 unfoldable pub groupAt : List ℕ → ℕ → List ℕ
 groupAt m g = take 736 (drop (g * 736) m)
@@ -25,19 +17,6 @@ entries m = length m / 736 * 16
 
 unfoldable pub entryAt : List ℕ → ℕ → Entry
 entryAt m k = entryIn (groupAt m (k / 16)) (k % 16)
-
--- the figures of an entry
-abbrev pub lastAt : List ℕ → ℕ
-lastAt f = u16At f 0
-
-abbrev pub endAt : List ℕ → ℕ → ℕ
-endAt f i = u16At f (2 + 2 * i)
-
--- the entry has this set, a last start no later than minute l, and ends no later than these or l
-pub record EntryAhead (e : Entry) (jobs : ℕ) (ends : List ℕ) (unplaced l : ℕ) : Type 0 where
-  pub set : e .set ≡ unplaced
-  pub last : lastAt (e .figures) ≤ l
-  pub end : (i : ℕ) → i < jobs → endAt (e .figures) i ≤ max (getD ends i 0) l
 
 -- these are the figures
 pub record FiguresOf (f : List ℕ) (jobs : ℕ) (ends : List ℕ) (start : ℕ) : Type 0 where

@@ -3,48 +3,10 @@
 // forgotten, changes no answer.
 ghost use mathlib.Core.Path.{_≡_};
 ghost use mathlib.Core.Bool.{true};
-ghost use Prim.Native.Nat.{_+_, _*_, _<_, _≤_, max};
+ghost use Prim.Native.Nat.{_+_, _*_, _<_, _≤_};
 ghost use lib.ListN.{length, replicate};
 ghost use Rattle.words.specs.Words.{u32At};
-ghost use Rattle.memory.specs.Entries.{groupOf, entryIn, EntryAhead, FiguresOf, Stored, Hit, Adds};
-
-// 1 where a minute is later than an end and than minute l, else 0.
-fn later(x: u16, end: u16, l: u16) -> u16
-    ensures { λ r. ⌜ (r ≤ 1) × (r ≡ 0 → x ≤ max end l) ⌝ }
-{
-    if x <= end {
-        return 0;
-    }
-    if x <= l {
-        return 0;
-    }
-    1
-}
-
-// Whether the part-plan of this entry of a group has this set and is ahead, from minute l on, of the one with these ends.
-fn entry_ahead(
-    group: &[u8],
-    way: usize,
-    ends: &[u16; 20],
-    jobs: usize,
-    unplaced: u32,
-    l: u16,
-) -> bool
-    requires { ⌜ (length (now group) ≡ 736) × (way < 16) × (jobs ≤ 20) ⌝ }
-    ensures { λ r. ⌜ (r ≡ true → EntryAhead (entryIn (now (group .entry)) way) jobs (now (ends .entry)) unplaced l) ⌝ }
-{
-    if words::read32(group, way * 4) != unplaced {
-        return false;
-    }
-    let at = 64 + way * 42;
-    let mut late = later(words::read16(group, at), l, l);
-    let mut i: usize = 0;
-    while i < jobs {
-        late += later(words::read16(group, at + 2 + 2 * i), ends[i], l);
-        i += 1;
-    }
-    late == 0
-}
+ghost use Rattle.memory.specs.Entries.{groupOf, FiguresOf, Stored, Hit, Adds};
 
 // 1 for the same set, else 0.
 fn same(set: u32, unplaced: u32) -> u32
@@ -53,7 +15,7 @@ fn same(set: u32, unplaced: u32) -> u32
     if set == unplaced { 1 } else { 0 }
 }
 
-// The entries of a group with this set, a bit for each: where `entry_ahead` looks closer.
+// The entries of a group with this set, a bit for each: where `entries::entry_ahead` looks closer.
 fn ways_with(group: &[u8], unplaced: u32) -> u32
     requires { ⌜ length (now group) ≡ 736 ⌝ }
     ensures { λ r. ⌜ r < 65536 ⌝ }
@@ -146,7 +108,7 @@ pub fn recall(memory: &[u8], ends: &[u16; 20], jobs: usize, unplaced: u32, l: u1
     let mut ways = ways_with(&memory[from..to], unplaced);
     while ways > 0 {
         let way = u32::trailing_zeros(ways) as usize;
-        if entry_ahead(&memory[from..to], way, ends, jobs, unplaced, l) {
+        if entries::entry_ahead(&memory[from..to], way, ends, jobs, unplaced, l) {
             return true;
         }
         ways = ways & (ways - 1);

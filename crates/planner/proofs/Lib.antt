@@ -1,6 +1,5 @@
 -- Laws of planning.
 pub mod Tables
-pub mod Copies
 pub mod Planning
 pub mod Calls
 pub mod Granted

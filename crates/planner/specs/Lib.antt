@@ -1,4 +1,3 @@
 -- What planning answers.
-pub mod Tables
 pub mod Planning
 pub mod Planned

@@ -2,68 +2,11 @@
 ghost use mathlib.Core.Path.{_≡_};
 ghost use mathlib.Core.Bool.{false};
 ghost use mathlib.Core.List.{_++_};
-ghost use Prim.Native.Nat.{_+_, _*_, _≤_, _<_};
-ghost use lib.Dec.{ltb};
-ghost use lib.ListN.{length, getD, drop, replicate};
-ghost use Rattle.counting.specs.Counting.{any};
+ghost use Prim.Native.Nat.{_+_, _*_, _≤_};
+ghost use lib.ListN.{length, drop, replicate};
 ghost use Rattle.schedule.specs.Plan.{overWide, Circular};
 ghost use Rattle.tables.specs.Tables.{sheetOf, Fit};
-ghost use Rattle.planner.specs.Tables.{withJob, tablesOf};
 ghost use Rattle.planner.specs.Planning.{limitRefusal, planRefusal, bestCard, cardAfter, memoryAfter};
-use sheet::Reading;
-
-// The jobs' figures as the tables that the search and the card read.
-pub struct JobTables {
-    pub need: [u16; 20],
-    pub minutes: [u16; 20],
-    pub earlier: [u32; 20],
-}
-
-// The tables with the figures of job j.
-fn with_job(tables: JobTables, j: usize, need: u8, minutes: u16, earlier: u32) -> JobTables
-    requires { ⌜ j < 20 ⌝ }
-    ensures { λ r. ⌜ r ≡ withJob tables j need minutes earlier ⌝ }
-{
-    let mut next = tables;
-    next.need[j] = need as u16;
-    next.minutes[j] = minutes;
-    next.earlier[j] = earlier;
-    next
-}
-
-// The tables of the jobs of a reading.
-fn tables_of(found: Reading) -> JobTables
-    requires { ⌜ length (found .jobs) ≡ 20 ⌝ }
-    ensures { λ r. ⌜ r ≡ tablesOf (found .jobs) ⌝ }
-{
-    let mut tables = JobTables {
-        need: [0u16; 20],
-        minutes: [0u16; 20],
-        earlier: [0u32; 20],
-    };
-    let mut j: usize = 0;
-    while j < 20 {
-        let job = found.jobs[j];
-        tables = with_job(tables, j, job.modules, job.minutes, job.earlier);
-        j += 1;
-    }
-    tables
-}
-
-// Whether some job needs more modules than there are.
-fn over_wide(need: &[u16; 20], jobs: usize, modules: u16) -> bool
-    requires { ⌜ jobs ≤ 20 ⌝ }
-    ensures { λ r. ⌜ r ≡ any jobs (λ j. ltb modules (getD (now (need .entry)) j 0)) ⌝ }
-{
-    let mut j: usize = 0;
-    while j < jobs {
-        if modules < need[j] {
-            return true;
-        }
-        j += 1;
-    }
-    false
-}
 
 // The number of a sheet that reads: the first of 8, 9 and 10, or 0. Some order is found exactly where no job would have to end before
 // itself.
@@ -79,7 +22,7 @@ fn limit_refusal(
         × (overWide (sheetOf (now need) (now minutes) (now earlier) jobs modules) ≡ false → Fit (now need) (now minutes) jobs modules) ⌝ }
     ensures { λ r. ⌜ r ≡ limitRefusal (sheetOf (now (need .entry)) (now (minutes .entry)) (now (earlier .entry)) jobs modules) room ⌝ }
 {
-    if over_wide(need, jobs, modules) {
+    if job_tables::over_wide(need, jobs, modules) {
         return 8;
     }
     let listed = listing::list_order(need, minutes, earlier, minutes, jobs, modules);
@@ -135,7 +78,7 @@ pub fn plan(sheet: &[u8], card: &mut [u8], work: &mut [u8]) -> u32
     if refusal != 0 {
         return refusal;
     }
-    let tables = tables_of(found);
+    let tables = job_tables::tables_of(found);
     let need = tables.need;
     let minutes = tables.minutes;
     let earlier = tables.earlier;

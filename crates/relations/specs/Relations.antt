@@ -4,11 +4,11 @@ use mathlib.Core.Logic.{_⊎_, _≢_}
 use mathlib.Core.Bool.{true, false}
 use mathlib.Core.List.{List}
 use Prim.Native.Nat.{ℕ, _+_, _*_, _<_}
-use lib.Bits.{bitAnd}
 use lib.ListN.{length, getD, set}
 use Rattle.bits.specs.Bits.{bit, withBit, setOf}
 use Rattle.schedule.proofs.Chains.{chain}
 use Rattle.tables.specs.Tables.{sheetOf}
+use Rattle.pairs.specs.Pairs.{AreAlike, MayTurn}
 use Rattle.relations.specs.declared.Row.{Row}
 
 -- ---- chains and later jobs
@@ -58,14 +58,6 @@ abbrev pub Related : List ℕ → List ℕ → List ℕ → ℕ → ℕ → List
 Related need minutes earlier jobs modules related = (j : ℕ) → j < jobs → RowOf need minutes earlier jobs modules j jobs (rowAt related j)
 
 -- ---- steps of the code
-
--- the same of numbers: job 1 may come in job 2's place
-abbrev pub AreAlike : ℕ → ℕ → ℕ → ℕ → ℕ → ℕ → Type 0
-AreAlike need1 need2 minutes1 minutes2 later1 later2 = (need1 ≡ need2) × ((minutes1 ≡ minutes2) × (bitAnd later2 later1 ≡ later2))
-
--- job 2 may come in job 1's place
-abbrev pub MayTurn : ℕ → ℕ → ℕ → ℕ → Type 0
-MayTurn need1 need2 later1 later2 = (need1 ≡ need2) × (bitAnd later1 later2 ≡ later1)
 
 -- r is the row with job i, the first, in those of its sets to which it belongs; j is the second
 pub record PairPut (row : Row) (need1 need2 minutes1 minutes2 later1 later2 modules i j : ℕ) (r : Row) : Type 0 where

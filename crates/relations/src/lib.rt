@@ -1,15 +1,13 @@
 // What follows from a sheet's jobs alone, made once for a search: the longest chains, and for each job the jobs that are alike, those that may
 // turn round with it and those that can run beside it.
 ghost use mathlib.Core.Path.{_≡_};
-ghost use mathlib.Core.Logic.{_≢_};
-ghost use mathlib.Core.Bool.{true, false, cond};
+ghost use mathlib.Core.Bool.{cond};
 ghost use Prim.Native.Nat.{_+_, _*_, _<_, _≤_};
-ghost use lib.Bits.{bitAnd};
 ghost use lib.ListN.{length, getD, set};
 ghost use Rattle.counting.specs.Counting.{only, largest};
 ghost use Rattle.bits.specs.Bits.{bit, withBit};
 ghost use Rattle.tables.specs.Tables.{Fit};
-ghost use Rattle.relations.specs.Relations.{ChainsOf, Laters, LaterOf, AreAlike, MayTurn, PairPut, RowOf, withRow, Related};
+ghost use Rattle.relations.specs.Relations.{ChainsOf, Laters, LaterOf, PairPut, RowOf, withRow, Related};
 
 // ---- chains
 
@@ -133,50 +131,6 @@ fn later_jobs(earlier: &[u32; 20], jobs: usize) -> LaterJobs
 
 // ---- pairs of jobs
 
-// Whether the jobs are alike, and whatever waits for job 2 waits for job 1.
-fn alike(need1: u16, need2: u16, minutes1: u16, minutes2: u16, later1: u32, later2: u32) -> bool
-    ensures { λ r. ⌜ (r ≡ true → AreAlike need1 need2 minutes1 minutes2 later1 later2) ⌝ }
-{
-    if need1 != need2 {
-        return false;
-    }
-    if minutes1 != minutes2 {
-        return false;
-    }
-    later2 & later1 == later2
-}
-
-// Whether the jobs have one width, and whatever waits for job 1 waits for job 2.
-fn may_turn(need1: u16, need2: u16, later1: u32, later2: u32) -> bool
-    ensures { λ r. ⌜ (r ≡ true → MayTurn need1 need2 later1 later2) ⌝ }
-{
-    if need1 != need2 {
-        return false;
-    }
-    later1 & later2 == later1
-}
-
-// Whether these are two jobs that the cabinet can run side by side.
-fn fits_beside(need1: u16, need2: u16, modules: u16, i: usize, j: usize) -> bool
-    ensures { λ r. ⌜ (r ≡ false → i ≢ j → modules < need1 + need2) ⌝ }
-{
-    if i == j {
-        return false;
-    }
-    (need1 as u32) + (need2 as u32) <= (modules as u32)
-}
-
-// The set with i, where a test has passed.
-fn joined(set: u32, passed: bool, i: usize) -> u32
-    requires { ⌜ i < 20 ⌝ }
-    ensures { λ r. ⌜ r ≡ cond passed (withBit set i) set ⌝ }
-{
-    if passed {
-        return bits::set32(set, i);
-    }
-    set
-}
-
 // Of one job: the jobs that are alike, those that may turn round with it, and those that can run beside it.
 pub struct Row {
     pub alike: u32,
@@ -200,13 +154,13 @@ fn with_pair(
     requires { ⌜ i < 20 ⌝ }
     ensures { λ r. ⌜ PairPut row need1 need2 minutes1 minutes2 later1 later2 modules i j r ⌝ }
 {
-    let a = alike(need1, need2, minutes1, minutes2, later1, later2);
-    let t = may_turn(need1, need2, later1, later2);
-    let b = fits_beside(need1, need2, modules, i, j);
+    let a = pairs::alike(need1, need2, minutes1, minutes2, later1, later2);
+    let t = pairs::may_turn(need1, need2, later1, later2);
+    let b = pairs::fits_beside(need1, need2, modules, i, j);
     Row {
-        alike: joined(row.alike, a, i),
-        turning: joined(row.turning, t, i),
-        beside: joined(row.beside, b, i),
+        alike: pairs::joined(row.alike, a, i),
+        turning: pairs::joined(row.turning, t, i),
+        beside: pairs::joined(row.beside, b, i),
     }
 }
 

@@ -1,26 +1,13 @@
--- The modules in sets: the union of sets, and the lowest modules outside a set.
-use mathlib.Core.Path.{_≡_, sym, ap, ap₂, _∙_}
-use mathlib.Core.Bool.{Bool, true, false, cond, _&&_, _||_}
-use Prim.Native.Nat.{ℕ, zero, suc, _+_, _^_, _<_, min}
-use native.Mathlib.Omega.{arith}
-use native.Mathlib.Nat.{le-refl}
+-- The modules of sets together.
+use mathlib.Core.Path.{_≡_, sym, ap, _∙_}
+use mathlib.Core.Bool.{_||_}
+use Prim.Native.Nat.{ℕ, zero, suc, _+_}
 use native.Mathlib.Numerals.{add-one}
-use lib.Dec.{ltb}
 use lib.Bits.{bitOr}
-use lib.Count.{ones}
-use borrow.Author.Tests.{lt-ltb, ltb-true}
-use Rattle.counting.specs.Counting.{only, sum, any, count}
-use Rattle.counting.proofs.Tests.{same-test}
-use Rattle.counting.proofs.Counts.{count-same, count-lowest}
-use Rattle.bits.specs.Bits.{bit, withBit, setOf}
+use Rattle.counting.specs.Counting.{any}
+use Rattle.bits.specs.Bits.{bit}
 use Rattle.bits.proofs.Digits.{bit-none, bit-or}
-use Rattle.bits.proofs.Members.{with-clear}
-use Rattle.bits.proofs.Sets.{bit-setOf-above, setOf-same}
-use Rattle.bits.proofs.Ones.{ones-setOf}
-use Rattle.schedule.specs.ListPlan.{lowest}
 use Rattle.replay.specs.Slots.{union}
-
--- ---- the union of sets
 
 pub bit-union : (n : ℕ) (f : ℕ → ℕ) (m : ℕ) → bit (union n f) m ≡ any n (λ i. bit (f i) m)
 unfolding union any
@@ -30,40 +17,3 @@ bit-union (suc n) f m = bit-or (union n f) (f n) m ∙ ap (λ b. b || bit (f n) 
 pub union-more : (n : ℕ) (f : ℕ → ℕ) → bitOr (union n f) (f n) ≡ union (n + 1) f
 unfolding union
 union-more n f = ap (λ (k : ℕ). union k f) (sym (add-one n))
-
--- ---- the lowest modules
-
--- where the same modules are free, the same ones are the lowest
-pub lowest-same : (n : ℕ) (f g : ℕ → Bool) (k : ℕ) → ((m : ℕ) → m < n → f m ≡ g m)
-    → setOf n (lowest n f k) ≡ setOf n (lowest n g k)
-lowest-same n f g k h = setOf-same n (lowest n f k) (lowest n g k) (λ m l.
-    ap₂ (λ a (c : ℕ). ltb m n && a && ltb c k) (h m l) (count-same m f g (λ i x. h i (omega arith))))
-
--- the lowest ones of the modules below m, and module m
-module _ (n : ℕ) (f : ℕ → Bool) (k m : ℕ) (l : m < n) where
-  taken : ones (setOf m (lowest n f k)) ≡ min k (count m f)
-  taken =
-      ones-setOf m (lowest n f k)
-      ∙ count-same m (lowest n f k) (λ i. f i && ltb (count i f) k)
-      (λ i x. ap (λ b. b && f i && ltb (count i f) k) (lt-ltb i n (omega arith)))
-      ∙ count-lowest m f k
-
-  wanted : ltb (ones (setOf m (lowest n f k))) k ≡ ltb (count m f) k
-  wanted =
-      ap (λ (x : ℕ). ltb x k) taken
-      ∙ same-test _ _ (λ e. lt-ltb (count m f) k (omega (arith, ltb-true (min k (count m f)) k e)))
-      (λ e. lt-ltb (min k (count m f)) k (omega (arith, ltb-true (count m f) k e)))
-
-  pub lowest-more : cond (f m && ltb (ones (setOf m (lowest n f k))) k) (withBit (setOf m (lowest n f k)) m) (setOf m (lowest n f k))
-      ≡ setOf (m + 1) (lowest n f k)
-  unfolding setOf sum
-  lowest-more =
-      let x = setOf m (lowest n f k) in
-      let here : (f m && ltb (ones x) k) ≡ lowest n f k m =
-      ap (λ b. f m && b) wanted ∙ ap (λ b. b && f m && ltb (count m f) k) (sym (lt-ltb m n l)) in
-      ap (λ b. cond b (withBit x m) x) here ∙ one (lowest n f k m)
-      ∙ ap (λ (i : ℕ). setOf i (lowest n f k)) (sym (add-one m))
-    where
-      one : (b : Bool) → cond b (withBit (setOf m (lowest n f k)) m) (setOf m (lowest n f k)) ≡ setOf m (lowest n f k) + only b (2 ^ m)
-      one true = with-clear (setOf m (lowest n f k)) m (bit-setOf-above m (lowest n f k) m (le-refl m))
-      one false = omega arith

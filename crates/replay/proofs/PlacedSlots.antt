@@ -18,8 +18,10 @@ use Rattle.schedule.specs.Plan.{Sheet, finish}
 use Rattle.schedule.specs.ListPlan.{PartPlan, occupies, free, lowest, place, placeAll, partOf}
 use Rattle.tables.specs.Tables.{sheetOf}
 use Rattle.replay.specs.declared.Slots.{Slots}
-use Rattle.replay.specs.Slots.{withSlot, busyAt, outside, lowestOutside}
-use Rattle.replay.proofs.Modules.{bit-union, lowest-same}
+use Rattle.free_modules.specs.Lowest.{outside, lowestOutside}
+use Rattle.free_modules.proofs.Laws.{lowest-same}
+use Rattle.replay.specs.Slots.{withSlot, busyAt}
+use Rattle.replay.proofs.Modules.{bit-union}
 
 -- no job has a slot
 unfoldable pub noSlots : Slots

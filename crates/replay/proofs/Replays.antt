@@ -21,7 +21,8 @@ use Rattle.placement.specs.declared.Part.{Part}
 use Rattle.placement.specs.Part.{StartFor, IsPart, Placeable, Placed}
 use Rattle.placement.proofs.Parts.{start-is, start-short, placeable, placed-part}
 use Rattle.replay.specs.declared.Slots.{Slots}
-use Rattle.replay.specs.Slots.{withSlot, busyAt, lowestOutside, Replayed}
+use Rattle.free_modules.specs.Lowest.{lowestOutside}
+use Rattle.replay.specs.Slots.{withSlot, busyAt, Replayed}
 use Rattle.replay.proofs.PlacedSlots.{SlotsOf, slot-more}
 
 -- ---- one turn: the order's next job is placed

@@ -1,15 +1,14 @@
 -- A plan's slots in code: each job's start, end and module set at the job's place.
 use mathlib.Core.Path.{_≡_}
-use mathlib.Core.Bool.{Bool, not}
 use mathlib.Core.List.{List}
 use Prim.Native.Nat.{ℕ, zero, suc, _≤_, _<_}
 use lib.Dec.{ltb}
 use lib.Bits.{bitOr}
 use lib.ListN.{getD, set}
 use Rattle.counting.specs.Counting.{only}
-use Rattle.bits.specs.Bits.{bit, setOf}
+use Rattle.bits.specs.Bits.{setOf}
 use Rattle.schedule.specs.Plan.{Sheet, finish}
-use Rattle.schedule.specs.ListPlan.{lowest, listPlan}
+use Rattle.schedule.specs.ListPlan.{listPlan}
 use Rattle.replay.specs.declared.Slots.{Slots}
 
 -- the slots with one for job j
@@ -28,14 +27,6 @@ union (suc n) f = bitOr (union n f) (f n)
 -- the modules of the jobs that end after minute t
 abbrev pub busyAt : Slots → ℕ → ℕ → ℕ
 busyAt s jobs t = union jobs (λ i. only (ltb t (getD (s .end) i 0)) (getD (s .modules) i 0))
-
--- the modules that are not in the set
-abbrev pub outside : ℕ → ℕ → Bool
-outside busy m = not (bit busy m)
-
--- the `want` lowest modules that are not in the set, of `modules`
-abbrev pub lowestOutside : ℕ → ℕ → ℕ → ℕ
-lowestOutside busy modules want = setOf modules (lowest modules (outside busy) want)
 
 -- the slots of the list plan of the order o
 pub record Replayed (S : Sheet) (o : List ℕ) (s : Slots) : Type 0 where

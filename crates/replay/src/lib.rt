@@ -1,18 +1,12 @@
 // The plan of an order, job by job: each job's start, end and modules.
 ghost use mathlib.Core.Path.{_≡_};
-ghost use mathlib.Core.Bool.{cond, not, _&&_};
 ghost use Prim.Native.Nat.{_<_, _≤_};
-ghost use lib.Dec.{ltb};
-ghost use lib.Bits.{bitOr};
-ghost use lib.Count.{ones};
 ghost use lib.ListN.{take};
-ghost use Rattle.counting.specs.Counting.{only};
-ghost use Rattle.bits.specs.Bits.{bit, withBit};
 ghost use Rattle.schedule.specs.ListPlan.{Order};
 ghost use Rattle.tables.specs.Tables.{sheetOf, Fit};
 ghost use Rattle.placement.specs.Part.{StartFor};
 ghost use Rattle.placement.specs.Profile.{Profile};
-ghost use Rattle.replay.specs.Slots.{withSlot, busyAt, lowestOutside, Replayed};
+ghost use Rattle.replay.specs.Slots.{withSlot, busyAt, Replayed};
 
 // Each job's start, end and module set, at the job's place.
 pub struct Slots {
@@ -33,16 +27,6 @@ fn with_slot(slots: Slots, j: usize, start: u16, end: u16, modules: u64) -> Slot
     next
 }
 
-// The set, with the modules of a job that ends after minute t.
-fn with_busy(set: u64, modules: u64, end: u16, t: u16) -> u64
-    ensures { λ r. ⌜ r ≡ bitOr set (only (ltb t end) modules) ⌝ }
-{
-    if t < end {
-        return set | modules;
-    }
-    set
-}
-
 // The modules of the jobs that end after minute t.
 fn busy_at(slots: Slots, jobs: usize, t: u16) -> u64
     requires { ⌜ jobs ≤ 20 ⌝ }
@@ -51,36 +35,8 @@ fn busy_at(slots: Slots, jobs: usize, t: u16) -> u64
     let mut set: u64 = 0;
     let mut i: usize = 0;
     while i < jobs {
-        set = with_busy(set, slots.modules[i], slots.end[i], t);
+        set = free_modules::with_busy(set, slots.modules[i], slots.end[i], t);
         i += 1;
-    }
-    set
-}
-
-// The set with module m, where m is not busy and modules are still wanted.
-fn take_module(set: u64, busy: u64, m: usize, want: u16) -> u64
-    requires { ⌜ m < 64 ⌝ }
-    ensures { λ r. ⌜ r ≡ cond (not (bit busy m) && ltb (ones set) want) (withBit set m) set ⌝ }
-{
-    if bits::test64(busy, m) {
-        return set;
-    }
-    if bits::ones64(set) < (want as u32) {
-        return bits::set64(set, m);
-    }
-    set
-}
-
-// The lowest-numbered modules that are not busy, as many as are wanted.
-fn lowest_free(busy: u64, modules: u16, want: u16) -> u64
-    requires { ⌜ modules ≤ 64 ⌝ }
-    ensures { λ r. ⌜ r ≡ lowestOutside busy modules want ⌝ }
-{
-    let mut set: u64 = 0;
-    let mut m: usize = 0;
-    while m < (modules as usize) {
-        set = take_module(set, busy, m, want);
-        m += 1;
     }
     set
 }
@@ -140,7 +96,7 @@ pub fn replay(
         let lasts = minutes[j];
         let start = next_start(part, jobs, modules, earlier[j], want);
         let busy = busy_at(slots, jobs, start);
-        let set = lowest_free(busy, modules, want);
+        let set = free_modules::lowest_free(busy, modules, want);
         slots = with_slot(slots, j, start, start + lasts, set);
         part = placement::place(part, j, start, want, lasts, modules);
         k += 1;

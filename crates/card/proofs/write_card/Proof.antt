@@ -11,52 +11,52 @@ use Rattle.card.proofs.write_card.Statement.{statement}
 use Rattle.card.proofs.write_card.Tie as tie
 
 mul-rows : tie.Need-mul-rows
-mul-rows c = search needs
+mul-rows c = omega arith
 
 mul-orders : tie.Need-mul-orders
-mul-orders c = search needs
+mul-orders c = omega arith
 
 add-all : tie.Need-add-all
-add-all c = search needs
+add-all c = omega arith
 
 sub-write-rows : tie.Need-sub-write-rows
-sub-write-rows c = search needs
+sub-write-rows c = omega arith
 
 part-write-rows-start : tie.Need-part-write-rows-start
-part-write-rows-start c = search needs
+part-write-rows-start c = omega arith
 
 part-write-rows-end : tie.Need-part-write-rows-end
-part-write-rows-end c = search needs
+part-write-rows-end c = omega arith
 
 write-rows-requires : tie.Need-write-rows-requires
-write-rows-requires c κs = search needs
+write-rows-requires c κs = omega arith
 
 sub-write-order : tie.Need-sub-write-order
-sub-write-order c = search needs
+sub-write-order c = omega arith
 
 part-write-order-start : tie.Need-part-write-order-start
-part-write-order-start c = search needs
+part-write-order-start c = omega arith
 
 part-write-order-end : tie.Need-part-write-order-end
-part-write-order-end c = search needs
+part-write-order-end c = omega arith
 
 write-order-requires : tie.Need-write-order-requires
-write-order-requires c κs = search needs
+write-order-requires c κs = omega arith
 
 sub-write-trailer : tie.Need-sub-write-trailer
-sub-write-trailer c = search needs
+sub-write-trailer c = omega arith
 
 part-write-trailer-start : tie.Need-part-write-trailer-start
-part-write-trailer-start c = search needs
+part-write-trailer-start c = omega arith
 
 part-write-trailer-end : tie.Need-part-write-trailer-end
-part-write-trailer-end c = search needs
+part-write-trailer-end c = omega arith
 
 write-trailer-requires : tie.Need-write-trailer-requires
-write-trailer-requires c κs = search needs
+write-trailer-requires c κs = omega arith
 
 same-length : tie.Need-same-length
-same-length c = search needs
+same-length c = omega arith
 
 returns : tie.Need-returns
 unfolding cardBytes

@@ -5,7 +5,8 @@ use lib.Bits.{and-le-l, and-le-r}
 use lib.Count.{trailingZeros, trailing-le}
 use lib.ListN.{length}
 use Rattle.memory.specs.Entries.{groupOf}
-use Rattle.memory.proofs.Slots.{no, lowest-inside, hit-at}
+use Rattle.entries.proofs.Laws.{no}
+use Rattle.memory.proofs.Slots.{lowest-inside, hit-at}
 use borrow.Author.Needs.{needs}
 use Rattle.memory.proofs.recall.Statement.{statement}
 use Rattle.memory.proofs.recall.Tie as tie

@@ -1,0 +1,140 @@
+-- `entries::entry_ahead` meets its contract.
+use Prim.Native.Nat.{ℕ, _+_, _-_, _*_, _≤_, _<_, max, zero-le}
+use mathlib.Core.Path.{_≡_, sym, subst, _∙_}
+use mathlib.Core.Logic.{⊎-elim}
+use native.Mathlib.Omega.{arith}
+use borrow.Author.Tests.{eqb-true}
+use lib.ListN.{getD}
+use Rattle.counting.proofs.Tests.{less-or-not}
+use Rattle.words.specs.Words.{u16At}
+use Rattle.entries.proofs.Laws.{no, ahead-in}
+use borrow.Author.Needs.{needs}
+use Rattle.entries.proofs.entry_ahead.Statement.{statement}
+use Rattle.entries.proofs.entry_ahead.Tie as tie
+
+-- where none is late so far, the last start is not, nor is any end so far
+abbrev Inv-loop : tie.InvT-loop
+Inv-loop group way ends jobs unplaced l at late₀ i₀ late i = (i ≤ jobs) × (late ≤ i + 1)
+    × (late ≡ 0 → (u16At group at ≤ l) × ((k : ℕ) → k < i → u16At group (at + 2 + 2 * k) ≤ max (getD ends k 0) l))
+
+abbrev μ-loop : tie.MeasureT-loop
+μ-loop group way ends jobs unplaced l at late₀ i₀ late i = jobs - i
+
+mul-read32 : tie.Need-mul-read32 Inv-loop μ-loop
+mul-read32 c = search needs
+
+read32-requires : tie.Need-read32-requires Inv-loop μ-loop
+read32-requires c κs = search needs
+
+returns : tie.Need-returns Inv-loop μ-loop
+returns c = no
+
+mul-at : tie.Need-mul-at Inv-loop μ-loop
+mul-at c = search needs
+
+add-at : tie.Need-add-at Inv-loop μ-loop
+add-at c = search needs
+
+read16-requires : tie.Need-read16-requires Inv-loop μ-loop
+read16-requires c κs = search needs
+
+later-requires : tie.Need-later-requires Inv-loop μ-loop
+later-requires c κs = search needs
+
+loop-holds : tie.Need-loop-holds Inv-loop μ-loop
+loop-holds c =
+    let last = c .later .ensures in
+    (zero-le, last .0, λ e. (omega (arith, last .1 e, c .before .read16 .ensures), λ k h. absurd (omega arith)))
+
+add-read16 : tie.Need-add-read16 Inv-loop μ-loop
+add-read16 c = search needs
+
+mul-read16 : tie.Need-mul-read16 Inv-loop μ-loop
+mul-read16 c = search needs
+
+add-read16-2 : tie.Need-add-read16-2 Inv-loop μ-loop
+add-read16-2 c = search needs
+
+read16-requires-2 : tie.Need-read16-requires-2 Inv-loop μ-loop
+read16-requires-2 c κs = search needs
+
+mul-later : tie.Need-mul-later Inv-loop μ-loop
+mul-later c = search needs
+
+element-copy-out-later : tie.Need-element-copy-out-later Inv-loop μ-loop
+element-copy-out-later c = search needs
+
+later-requires-2 : tie.Need-later-requires-2 Inv-loop μ-loop
+later-requires-2 c κs = search needs
+
+add-late : tie.Need-add-late Inv-loop μ-loop
+add-late c = search needs
+
+add-i : tie.Need-add-i Inv-loop μ-loop
+add-i c = search needs
+
+loop-less : tie.Need-loop-less Inv-loop μ-loop
+loop-less c = search needs
+
+loop-again : tie.Need-loop-again Inv-loop μ-loop
+loop-again c =
+    let one = c .later2 .ensures in
+    let read162 = c .before .before .read162 in
+    let loop = c .before .before .before .before .loop in
+    let v = loop .inv in
+    let i = loop .i in
+    let a = c .before .before .before .before .before .before .before .before .before .before .args in
+    let at = 64 + a .way * 42 in (
+      omega arith,
+      omega (arith, v .1, one .0),
+      λ e.
+          let none : loop .late ≡ 0 = omega arith in
+          let so = v .2 none in
+          let zero : c .later2 .result ≡ 0 = omega arith in
+          let here : u16At (a .group .now) (at + 2 + 2 * i) ≤ max (getD (a .ends .now) i 0) (a .l) = rw (read162 .ensures) at (one .1 zero) in (
+            so .0,
+            λ k h. ⊎-elim (λ (x : k < i). so .1 k x) (λ (x : i ≤ k).
+                let q : k ≡ i = omega arith in
+                subst (λ (z : ℕ). u16At (a .group .now) (at + 2 + 2 * z) ≤ max (getD (a .ends .now) z 0) (a .l)) (sym q) here)
+                (less-or-not k i),
+          ),
+    )
+
+returns-2 : tie.Need-returns-2 Inv-loop μ-loop
+returns-2 c =
+    let loop = c .before .loop in
+    let if1 = c .before .before .before .before .if1 in
+    let read32 = c .before .before .before .before .before .read32 in
+    let start = c .before .before .before .before .before .before .before in
+    let a = start .args in
+    λ e.
+    let so = loop .inv .2 (eqb-true _ _ e) in
+    ahead-in (a .group .now) (a .way) (a .jobs) (a .ends .now) (a .unplaced) (a .l) (start .pre .2) (sym (read32 .ensures) ∙ if1 .left)
+    (so .0) (λ i h. so .1 i (omega arith))
+
+pub entry-ahead-spec : {M : Type 1} → statement M
+entry-ahead-spec =
+    tie.close
+    (tie.spec
+    Inv-loop
+    μ-loop
+    mul-read32
+    read32-requires
+    returns
+    mul-at
+    add-at
+    read16-requires
+    later-requires
+    loop-holds
+    add-read16
+    mul-read16
+    add-read16-2
+    read16-requires-2
+    mul-later
+    element-copy-out-later
+    later-requires-2
+    add-late
+    add-i
+    loop-less
+    loop-again
+    returns-2)

@@ -1,0 +1,2 @@
+-- What an entry of working memory is.
+pub mod Entry

@@ -1,0 +1,2 @@
+-- Laws of free modules.
+pub mod Laws

@@ -1,0 +1,2 @@
+-- The lowest modules outside a set.
+pub mod Lowest

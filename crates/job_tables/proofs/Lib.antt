@@ -1,0 +1,2 @@
+-- Laws of the tables.
+pub mod Copies

@@ -1,0 +1,2 @@
+-- The tables of a reading's jobs.
+pub mod Tables

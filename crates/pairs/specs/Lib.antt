@@ -1,0 +1,2 @@
+-- What is asked of two jobs.
+pub mod Pairs
