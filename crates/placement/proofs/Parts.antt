@@ -325,8 +325,8 @@ module _ (need minutes earlier : List ℕ) (jobs modules : ℕ) (fit : Fit need 
           profile = rw (h .last) (h .profile);
           by-end = next-by-end;
           ends-length = ap length (h .ends) ∙ length-set (p .ends) j (startOf S P j + getD minutes j 0) ∙ F .ends-length;
-          until-length = h .lists .until-length;
-          held-length = h .lists .held-length;
+          until-length = h .lists .ends .size;
+          held-length = h .lists .holds .size;
           order-length = ap length (h .order) ∙ length-set (p .order) (p .placed) j ∙ F .order-length;
         }
 

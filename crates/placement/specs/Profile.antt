@@ -41,17 +41,22 @@ pub record EndedBy (until held : List ℕ) (count modules t : ℕ) (r : Ended) :
   pub profile : Profile until held count (r .gone) (r .free) modules t
   pub live : (k : ℕ) → r .gone ≤ k → k < count → t < getD until k 0
 
--- a job that ends at `end` and holds `width` modules is put in its place among the others
-pub record Inserted (until held until′ held′ : List ℕ) (count end width : ℕ) : Type 0 where
-  pub at : ℕ
+-- the place of a job that ends at `end` among the others
+pub record PlaceOf (until : List ℕ) (count end at : ℕ) : Type 0 where
   pub inside : at ≤ count
   pub lower : (k : ℕ) → k < at → getD until k 0 ≤ end
   pub upper : (k : ℕ) → at ≤ k → k < count → end < getD until k 0
-  pub until-below : (k : ℕ) → k < at → getD until′ k 0 ≡ getD until k 0
-  pub held-below : (k : ℕ) → k < at → getD held′ k 0 ≡ getD held k 0
-  pub until-here : getD until′ at 0 ≡ end
-  pub held-here : getD held′ at 0 ≡ width
-  pub until-above : (k : ℕ) → at ≤ k → k < count → getD until′ (k + 1) 0 ≡ getD until k 0
-  pub held-above : (k : ℕ) → at ≤ k → k < count → getD held′ (k + 1) 0 ≡ getD held k 0
-  pub until-length : length until′ ≡ 20
-  pub held-length : length held′ ≡ 20
+
+-- x is put in at a place of so many numbers, and those from there on stand one place up
+pub record PutIn (list list′ : List ℕ) (at count x : ℕ) : Type 0 where
+  pub below : (k : ℕ) → k < at → getD list′ k 0 ≡ getD list k 0
+  pub here : getD list′ at 0 ≡ x
+  pub above : (k : ℕ) → at ≤ k → k < count → getD list′ (k + 1) 0 ≡ getD list k 0
+  pub size : length list′ ≡ 20
+
+-- a job that ends at `end` and holds `width` modules is put in its place among the others
+pub record Inserted (until held until′ held′ : List ℕ) (count end width : ℕ) : Type 0 where
+  pub at : ℕ
+  pub place : PlaceOf until count end at
+  pub ends : PutIn until until′ at count end
+  pub holds : PutIn held held′ at count width
