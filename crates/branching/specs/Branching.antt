@@ -6,22 +6,16 @@ use mathlib.Core.List.{List}
 use Prim.Native.Nat.{ℕ, _+_, _≤_, _<_}
 use lib.Dec.{eqb}
 use lib.Bits.{bitAnd, bitOr}
-use lib.ListN.{getD, set, replicate}
+use lib.ListN.{getD}
 use Rattle.bits.specs.Bits.{bit}
 use Rattle.relations.specs.Relations.{rowAt}
-use Rattle.branching.specs.declared.Settled.{Settled}
 
 -- ---- jobs that were settled
 
-abbrev pub noneSettled : Settled
-noneSettled = record { by = replicate 20 0; same = 0 }
-
--- the same with job i, before which these were tried; those settled at the last start stay where it starts at that minute too
-abbrev pub withSettled : Settled → ℕ → ℕ → ℕ → ℕ → Settled
-withSettled s i tried start last = record {
-  by = set (s .by) i tried;
-  same = cond (eqb start last) (bitOr (s .same) tried) tried;
-}
+-- those settled when a job was chosen that starts at the last start: they stay where the next choice, before which these were tried,
+-- starts at that minute too
+abbrev pub settledNow : ℕ → ℕ → ℕ → ℕ → ℕ
+settledNow same tried start last = cond (eqb start last) (bitOr same tried) tried
 
 -- ---- jobs that need not be tried
 

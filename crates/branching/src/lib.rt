@@ -2,51 +2,22 @@
 ghost use mathlib.Core.Path.{_≡_};
 ghost use mathlib.Core.Bool.{true, false, cond};
 ghost use Prim.Native.Nat.{_+_, _<_, _≤_, min};
-ghost use lib.Dec.{eqb, ltb};
-ghost use lib.Bits.{bitOr};
+ghost use lib.Dec.{ltb};
 ghost use lib.ListN.{getD};
 ghost use Rattle.bits.specs.Bits.{bit, withBit};
-ghost use Rattle.branching.specs.Branching.{noneSettled, withSettled, AlikeTried, Swapped, PassedOver};
+ghost use Rattle.branching.specs.Branching.{settledNow, AlikeTried, Swapped, PassedOver};
 ghost use Rattle.branching.specs.Branching.{Alone, ToTry, Trying, EndOfOne, AllEarly};
 
 // ---- jobs that were settled
 
-// For each placed job, the jobs that were settled when it was chosen: in its place none of them leads to an order that ends by the target.
-// `same` has those that were settled when a job was chosen which starts at the last start.
-pub struct Settled {
-    pub by: [u32; 20],
-    pub same: u32,
-}
-
-// Nothing is settled.
-pub fn none_settled() -> Settled
-    ensures { λ r. ⌜ r ≡ noneSettled ⌝ }
-{
-    Settled {
-        by: [0u32; 20],
-        same: 0,
-    }
-}
-
 // The jobs settled at the last start, after a choice at `start` before which these were tried.
-fn settled_now(same: u32, tried: u32, start: u16, last: u16) -> u32
-    ensures { λ r. ⌜ r ≡ cond (eqb start last) (bitOr same tried) tried ⌝ }
+pub fn settled_now(same: u32, tried: u32, start: u16, last: u16) -> u32
+    ensures { λ r. ⌜ r ≡ settledNow same tried start last ⌝ }
 {
     if start == last {
         return same | tried;
     }
     tried
-}
-
-// The settled jobs with those that were tried when job i is chosen, at `start`.
-pub fn with_settled(settled: Settled, i: usize, tried: u32, start: u16, last: u16) -> Settled
-    requires { ⌜ i < 20 ⌝ }
-    ensures { λ r. ⌜ r ≡ withSettled settled i tried start last ⌝ }
-{
-    let mut next = settled;
-    next.by[i] = tried;
-    next.same = settled_now(settled.same, tried, start, last);
-    next
 }
 
 // ---- jobs that need not be tried

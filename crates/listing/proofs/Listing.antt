@@ -64,7 +64,7 @@ module _ {need minutes earlier : List ℕ} {jobs modules : ℕ} {part : Part} (k
         let r : getD (part .ends) i 0 ≡ finish S (P .plan) i = rw (placed i l) at q in
         omega (arith, end-short need minutes earlier jobs modules (known .fit) part w (known .is) i l (placed i l)))
 
-    pub finished-order : (target : ℕ) → OrderOf S (finishedAs jobs part target)
+    pub finished-order : (target : ℕ) → OrderOf S (finishedAs jobs (part .ends) (part .order) target)
     unfolding finishedAs
     finished-order target = record {
       size = known .is .figures .order-length;

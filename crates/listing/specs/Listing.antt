@@ -15,10 +15,10 @@ use Rattle.candidates.specs.Candidates.{JobStart}
 use Rattle.listing.specs.declared.Found.{Found}
 
 -- the order of a part-plan that has placed every job, where it ends by the target
-unfoldable pub finishedAs : ℕ → Part → ℕ → Found
-finishedAs jobs p target =
-    let end = largest jobs (λ i. getD (p .ends) i 0) in
-    record { hit = not (ltb target end); end = end; order = p .order }
+unfoldable pub finishedAs : ℕ → List ℕ → List ℕ → ℕ → Found
+finishedAs jobs ends order target =
+    let end = largest jobs (λ i. getD ends i 0) in
+    record { hit = not (ltb target end); end = end; order = order }
 
 -- no list plan: the end 65535
 abbrev pub noneListed : Found

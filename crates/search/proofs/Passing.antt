@@ -28,14 +28,12 @@ use Rattle.placement.specs.Part.{wordOf}
 use Rattle.relations.specs.Relations.{Alike, Turning}
 use Rattle.candidates.specs.Candidates.{EachStart}
 use Rattle.candidates.proofs.Starting.{started}
-use Rattle.branching.specs.Branching.{PassedOver}
-use Rattle.search.specs.Search.{Fails, SettledAt, SameStart, SettledSo, Searching, TriedSo}
+use Rattle.branching.specs.Branching.{settledNow, PassedOver}
+use Rattle.search.specs.Search.{Fails, SettledAt, SameStart, SettledSo, Searching, TriedSo, Choosing}
 
 module _ (need minutes earlier related tails worth most lanes : List ℕ) (jobs modules : ℕ) (part : Part) (by : List ℕ) (same target : ℕ) (memory at : List ℕ)
     (tried job : ℕ) (s : Searching need minutes earlier related tails worth most lanes jobs modules part by same target memory)
-    (starts : EachStart need minutes earlier jobs modules part at)
-    (before : TriedSo need minutes earlier jobs modules part target at tried (getD at job 0)) (l : job < jobs)
-    (low : getD at job 0 < 65535) where
+    (choosing : Choosing need minutes earlier jobs modules part target at tried job) where
   abbrev S : Sheet
   S = sheetOf need minutes earlier jobs modules
 
@@ -53,6 +51,18 @@ module _ (need minutes earlier related tails worth most lanes : List ℕ) (jobs 
 
   follows : Follows S noJobs w
   follows = s .known .is .follows
+
+  l : job < jobs
+  l = choosing .inside
+
+  low : getD at job 0 < 65535
+  low = choosing .may-come
+
+  starts : EachStart need minutes earlier jobs modules part at
+  starts = choosing .starts
+
+  before : TriedSo need minutes earlier jobs modules part target at tried (getD at job 0)
+  before = choosing .before
 
   may-come : (x : ℕ) → x < jobs → getD at x 0 < 65535 → ready S (P .placed) x ≡ true
   may-come x m k = started (starts x m) k
@@ -150,7 +160,7 @@ module _ (need minutes earlier related tails worth most lanes : List ℕ) (jobs 
   last-here : partOf S (w ++ (job ∷ [])) .last ≡ startOf S P job
   last-here = ap (λ (Q : PartPlan). Q .last) (part-more S w job)
 
-  same-more : (x : ℕ) → x < jobs → bit (cond (eqb (getD at job 0) (part .last)) (bitOr same tried) tried) x ≡ true
+  same-more : (x : ℕ) → x < jobs → bit (settledNow same tried (getD at job 0) (part .last)) x ≡ true
       → SameStart S target (w ++ (job ∷ [])) x
   same-more x m = go (eqb (getD at job 0) (part .last)) refl
     where
@@ -177,7 +187,7 @@ module _ (need minutes earlier related tails worth most lanes : List ℕ) (jobs 
       go false e b = by-tried b
 
   pub settled-more : SettledSo S target (w ++ (job ∷ [])) (set by job tried)
-      (cond (eqb (getD at job 0) (part .last)) (bitOr same tried) tried)
+      (settledNow same tried (getD at job 0) (part .last))
   settled-more = record {
     size = length-set by job tried ∙ s .settled .size;
     each = λ u i q x e m b. go u i q x m b (split-last w job u i q e);
@@ -193,3 +203,12 @@ module _ (need minutes earlier related tails worth most lanes : List ℕ) (jobs 
       go u i q x m b (inr (p, e)) =
           s .settled .each u i p x e m
           (ap (λ (y : ℕ). bit y x) (sym (getD-set-other by job i tried 0 (not-job u i p e))) ∙ b)
+
+-- what is settled of the longer word is settled of the shorter one
+pub settled-less : {S : Sheet} {target : ℕ} (w : List ℕ) (j : ℕ) {by by′ : List ℕ} {same same′ : ℕ} → SettledSo S target w by same
+    → SettledSo S target (w ++ (j ∷ [])) by′ same′ → SettledSo S target w by′ same
+settled-less w j s t = record {
+  size = t .size;
+  each = λ u i q x e. t .each u i (q ++ (j ∷ [])) x (ap (λ (v : List ℕ). v ++ (j ∷ [])) e ∙ append-assoc u (i ∷ q) (j ∷ []));
+  same-start = s .same-start;
+}

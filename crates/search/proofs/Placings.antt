@@ -6,7 +6,7 @@ use mathlib.Core.List.{List, [], _∷_, _++_, append-nil, append-assoc}
 use Prim.Native.Nat.{ℕ, suc, _+_, _≤_, _<_, zero-le}
 use native.Mathlib.Omega.{arith}
 use native.Mathlib.Nat.{not-suc-le-zero}
-use lib.ListN.{length, getD, take, length-append}
+use lib.ListN.{length, getD, take, length-append, replicate}
 use lib.Seq.{getD-at, getD-take}
 use Rattle.counting.proofs.Tests.{last-or-below, less-or-not}
 use Rattle.schedule.specs.Plan.{Sheet}
@@ -22,7 +22,6 @@ use Rattle.placement.specs.Part.{wordOf, Placed, firstPart}
 use Rattle.placement.proofs.Parts.{left-count, start-short}
 use Rattle.candidates.specs.Candidates.{Known, theoryPart, JobStart}
 use Rattle.candidates.proofs.Children.{child-known}
-use Rattle.branching.specs.Branching.{noneSettled}
 use Rattle.listing.specs.declared.Found.{Found}
 use Rattle.search.specs.Search.{Remembered, Fails, Outcome, Searching, Lowest, Going, Placing}
 use Rattle.search.proofs.Whole.{none-settled}
@@ -48,7 +47,7 @@ module _ {need minutes earlier related tails worth most lanes : List ℕ} {jobs 
       absurd (omega (arith, start .here r))
 
   pub place-enter : (low : s < 65535) (child : Part) → Placed part j s (getD need j 0) (getD minutes j 0) modules child
-      → Searching need minutes earlier related tails worth most lanes jobs modules child (noneSettled .by) (noneSettled .same) target memory
+      → Searching need minutes earlier related tails worth most lanes jobs modules child (replicate 20 0) 0 target memory
   place-enter low child placed = record {
     low = g .low;
     known = child-known need minutes earlier jobs modules part (g .known) j l s start low child placed;

@@ -42,7 +42,7 @@ module _ (need minutes earlier : List ℕ) (jobs modules : ℕ) where
     -- ---- every job is placed
 
     module _ (z : ones (part .unplaced) ≡ 0) where
-      pub visit-leaf : (target : ℕ) → Outcome S target w (finishedAs jobs part target)
+      pub visit-leaf : (target : ℕ) → Outcome S target w (finishedAs jobs (part .ends) (part .order) target)
       unfolding finishedAs CannotBeat
       visit-leaf target = record {
         size = known .is .figures .order-length;

@@ -18,7 +18,6 @@ use Rattle.schedule.proofs.EndSums.{end-sum}
 use Rattle.tables.specs.Tables.{sheetOf, Fit}
 use Rattle.placement.specs.Part.{wordOf, firstPart}
 use Rattle.candidates.proofs.Children.{first-known}
-use Rattle.branching.specs.Branching.{noneSettled}
 use Rattle.sums.specs.Sums.{Rounded}
 use Rattle.listing.specs.declared.Found.{Found}
 use Rattle.listing.specs.Listing.{Listed, OrderOf}
@@ -33,7 +32,7 @@ zeros zero i = refl
 zeros (suc n) zero = refl
 zeros (suc n) (suc i) = zeros n i
 
-pub none-settled : (S : Sheet) (target : ℕ) (v : List ℕ) → SettledSo S target v (noneSettled .by) (noneSettled .same)
+pub none-settled : (S : Sheet) (target : ℕ) (v : List ℕ) → SettledSo S target v (replicate 20 0) 0
 none-settled S target v = record {
   size = length-replicate {A = ℕ} 20 0;
   each = λ u i q x e l b. clash (bit 0 x) (ap (λ (y : ℕ). bit y x) (sym (zeros 20 i)) ∙ b) (bit-none x);
@@ -61,7 +60,7 @@ module _ (need minutes earlier related tails worth most lanes : List ℕ) (jobs 
   -- an order that is to end by the target
   pub enter : {best : Found} {memory : List ℕ} (target : ℕ) → Lowering need minutes earlier related tails worth most lanes jobs modules best memory
       → target < best .end
-      → Searching need minutes earlier related tails worth most lanes jobs modules (firstPart need minutes jobs modules) (noneSettled .by) (noneSettled .same) target memory
+      → Searching need minutes earlier related tails worth most lanes jobs modules (firstPart need minutes jobs modules) (replicate 20 0) 0 target memory
   enter {best} {memory} target s l = record {
     low = omega (arith, s .best-is .low);
     known = first-known need minutes earlier jobs modules (s .fit);

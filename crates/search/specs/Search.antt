@@ -15,7 +15,7 @@ use Rattle.tables.specs.Tables.{sheetOf, Fit}
 use Rattle.placement.specs.declared.Part.{Part}
 use Rattle.placement.specs.Part.{wordOf}
 use Rattle.relations.specs.Relations.{Related}
-use Rattle.candidates.specs.Candidates.{Known}
+use Rattle.candidates.specs.Candidates.{Known, EachStart}
 use Rattle.listing.specs.declared.Found.{Found}
 use Rattle.listing.specs.Listing.{OrderOf}
 use Rattle.weights.specs.Weights.{Weighted}
@@ -95,6 +95,14 @@ pub record Searching (need minutes earlier related tails worth most lanes : List
 abbrev pub TriedSo : List ℕ → List ℕ → List ℕ → ℕ → ℕ → Part → ℕ → List ℕ → ℕ → ℕ → Type 0
 TriedSo need minutes earlier jobs modules part target at tried start = (x : ℕ) → x < jobs → bit tried x ≡ true
     → (getD at x 0 ≤ start) × ((getD at x 0 < 65535) × Fails (sheetOf need minutes earlier jobs modules) target (wordOf part ++ (x ∷ [])))
+
+-- job `job` is the next to be tried: these are the starts, and these jobs were tried before
+pub record Choosing (need minutes earlier : List ℕ) (jobs modules : ℕ) (part : Part) (target : ℕ) (at : List ℕ) (tried job : ℕ)
+    : Type 0 where
+  pub starts : EachStart need minutes earlier jobs modules part at
+  pub before : TriedSo need minutes earlier jobs modules part target at tried (getD at job 0)
+  pub inside : job < jobs
+  pub may-come : getD at job 0 < 65535
 
 -- ---- the whole search
 

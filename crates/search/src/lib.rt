@@ -9,11 +9,10 @@ ghost use Rattle.schedule.specs.ListPlan.{ready};
 ghost use Rattle.schedule.specs.TieRule as tie;
 ghost use Rattle.schedule.specs.TieRule.{endOf};
 ghost use Rattle.tables.specs.Tables.{sheetOf, Fit};
-ghost use Rattle.placement.specs.Part.{wordOf, firstPart};
-ghost use Rattle.candidates.specs.Candidates.{Known, theoryPart, EachStart};
-ghost use Rattle.search.specs.Search.{Outcome, noneFound, Searching, TriedSo, Remembered};
+ghost use Rattle.placement.specs.Part.{wordOf, partWith, firstPart};
+ghost use Rattle.candidates.specs.Candidates.{Known, theoryPart};
+ghost use Rattle.search.specs.Search.{Outcome, noneFound, SettledSo, Searching, Choosing, Remembered};
 ghost use Rattle.search.specs.Search.{keptAs, Lowering, Lowered, Lowest, Going, Placing, Answer};
-use branching::Settled;
 use listing::Found;
 use placement::Part;
 
@@ -28,9 +27,10 @@ fn none_found() -> Found
     }
 }
 
-// Document 01: "The search goes from a part-plan to each next job". Finds an order that goes on from this part-plan and ends by the
-// target, or that there is none.
-fn visit(
+// Document 01: "The search goes from a part-plan to each next job". Finds an order that goes on from this part-plan, given by its figures,
+// and ends by the target, or that there is none. `settled` has for each placed job the jobs that were tried before it was chosen: in its
+// place none of them leads to such an order. `same` has those of the jobs that start at the last start.
+fn visit<'a>(
     need: &[u16; 20],
     minutes: &[u16; 20],
     earlier: &[u32; 20],
@@ -41,34 +41,45 @@ fn visit(
     lanes: &[u32; 1110],
     jobs: usize,
     modules: u16,
-    part: Part,
-    settled: Settled,
+    ends: &'a [u16; 20],
+    until: &'a [u16; 20],
+    held: &'a [u16; 20],
+    order: &'a [u8; 20],
+    unplaced: u32,
+    left: u32,
+    last: u16,
+    free: u16,
+    placed: usize,
+    gone: usize,
+    settled: &mut [u32; 20],
+    same: u32,
     target: u16,
     memory: &mut [u8],
 ) -> Found
-    requires { ⌜ Searching (now need) (now minutes) (now earlier) (now related) (now tails) (now worth) (now most) (now lanes) jobs modules part (settled .by) (settled .same) target
-        (now memory) ⌝ }
+    requires { ⌜ Searching (now need) (now minutes) (now earlier) (now related) (now tails) (now worth) (now most) (now lanes) jobs modules
+        (partWith (now ends) (now until) (now held) (now order) unplaced left last free placed gone) (now settled) same target (now memory) ⌝ }
     ensures outcome { λ r. ⌜ Outcome (sheetOf (now (need .entry)) (now (minutes .entry)) (now (earlier .entry)) jobs modules) target
-        (wordOf part) r ⌝ }
+        (take placed (now (order .entry))) r ⌝ }
+    ensures settled { λ _. ⌜ SettledSo (sheetOf (now (need .entry)) (now (minutes .entry)) (now (earlier .entry)) jobs modules) target
+        (take placed (now (order .entry))) (now (settled .exit)) same ⌝ }
     ensures remembered { λ _. ⌜ Remembered (sheetOf (now (need .entry)) (now (minutes .entry)) (now (earlier .entry)) jobs modules)
         (now (memory .exit)) (suc target) ⌝ }
 {
-    let unplaced = part.unplaced;
     if u32::count_ones(unplaced) == 0 {
-        return listing::finished(part, jobs, target);
+        return listing::finished(ends, order, jobs, target);
     }
     let starts = candidates::ready_starts(
         need,
         earlier,
-        &part.ends,
-        &part.until,
-        &part.held,
+        ends,
+        until,
+        held,
         unplaced,
-        part.placed,
-        part.gone,
-        part.free,
+        placed,
+        gone,
+        free,
         modules,
-        part.last,
+        last,
         jobs,
     );
     let at = starts.at;
@@ -80,14 +91,14 @@ fn visit(
         worth,
         most,
         lanes,
-        &part.until,
-        &part.held,
-        part.placed,
-        part.gone,
-        part.free,
+        until,
+        held,
+        placed,
+        gone,
+        free,
         modules,
         unplaced,
-        part.left,
+        left,
         jobs,
         &at,
         least,
@@ -95,13 +106,13 @@ fn visit(
     ) {
         return none_found();
     }
-    if memory::recall(memory, &part.ends, jobs, unplaced, least) {
+    if memory::recall(memory, ends, jobs, unplaced, least) {
         return none_found();
     }
     let first = branching::to_try(minutes, related, &at, least, unplaced, jobs);
-    let mut left = first;
+    let mut untried = first;
     let mut tried: u32 = 0;
-    let mut c = candidates::next_choice(&at, tails, left, jobs);
+    let mut c = candidates::next_choice(&at, tails, untried, jobs);
     while c.start != 65535 {
         let job = c.job;
         let found = try_children(
@@ -115,8 +126,18 @@ fn visit(
             lanes,
             jobs,
             modules,
-            part,
+            ends,
+            until,
+            held,
+            order,
+            unplaced,
+            left,
+            last,
+            free,
+            placed,
+            gone,
             settled,
+            same,
             target,
             &at,
             tried,
@@ -126,16 +147,16 @@ fn visit(
         if found.hit {
             return found;
         }
-        left = bits::clear32(left, job);
+        untried = bits::clear32(untried, job);
         tried = bits::set32(tried, job);
-        c = candidates::next_choice(&at, tails, left, jobs);
+        c = candidates::next_choice(&at, tails, untried, jobs);
     }
-    memory::remember(memory, &part.ends, jobs, unplaced, part.last);
+    memory::remember(memory, ends, jobs, unplaced, last);
     none_found()
 }
 
 // "and from that job to the longer part-plan": the same for the orders that go on with this job, unless another stands for it.
-fn try_children(
+fn try_children<'a>(
     need: &[u16; 20],
     minutes: &[u16; 20],
     earlier: &[u32; 20],
@@ -146,51 +167,62 @@ fn try_children(
     lanes: &[u32; 1110],
     jobs: usize,
     modules: u16,
-    part: Part,
-    settled: Settled,
+    ends: &'a [u16; 20],
+    until: &'a [u16; 20],
+    held: &'a [u16; 20],
+    order: &'a [u8; 20],
+    unplaced: u32,
+    left: u32,
+    last: u16,
+    free: u16,
+    placed: usize,
+    gone: usize,
+    settled: &mut [u32; 20],
+    same: u32,
     target: u16,
     at: &[u16; 20],
     tried: u32,
     job: usize,
     memory: &mut [u8],
 ) -> Found
-    requires { ⌜ Searching (now need) (now minutes) (now earlier) (now related) (now tails) (now worth) (now most) (now lanes) jobs modules part (settled .by) (settled .same) target
-        (now memory) ⌝ }
-    requires { ⌜ EachStart (now need) (now minutes) (now earlier) jobs modules part (now at) ⌝ }
-    requires { ⌜ (TriedSo (now need) (now minutes) (now earlier) jobs modules part target (now at) tried (getD (now at) job 0))
-        × ((job < jobs) × (getD (now at) job 0 < 65535)) ⌝ }
+    requires { ⌜ Searching (now need) (now minutes) (now earlier) (now related) (now tails) (now worth) (now most) (now lanes) jobs modules
+        (partWith (now ends) (now until) (now held) (now order) unplaced left last free placed gone) (now settled) same target (now memory) ⌝ }
+    requires { ⌜ Choosing (now need) (now minutes) (now earlier) jobs modules
+        (partWith (now ends) (now until) (now held) (now order) unplaced left last free placed gone) target (now at) tried job ⌝ }
     ensures outcome { λ r. ⌜ Outcome (sheetOf (now (need .entry)) (now (minutes .entry)) (now (earlier .entry)) jobs modules) target
-        (wordOf part ++ (job ∷ [])) r ⌝ }
+        (take placed (now (order .entry)) ++ (job ∷ [])) r ⌝ }
+    ensures settled { λ _. ⌜ SettledSo (sheetOf (now (need .entry)) (now (minutes .entry)) (now (earlier .entry)) jobs modules) target
+        (take placed (now (order .entry))) (now (settled .exit)) same ⌝ }
     ensures remembered { λ _. ⌜ Remembered (sheetOf (now (need .entry)) (now (minutes .entry)) (now (earlier .entry)) jobs modules)
         (now (memory .exit)) (suc target) ⌝ }
 {
     let start = at[job];
     if branching::passed_over(
         related,
-        &part.ends,
-        &settled.by,
-        settled.same,
-        part.unplaced,
+        ends,
+        settled,
+        same,
+        unplaced,
         tried,
-        part.last,
+        last,
         start,
         jobs,
         job,
     ) {
         return none_found();
     }
-    let next = branching::with_settled(settled, job, tried, start, part.last);
+    settled[job] = tried;
     let child = placement::with_job(
-        &part.ends,
-        &part.until,
-        &part.held,
-        &part.order,
-        part.unplaced,
-        part.left,
-        part.last,
-        part.free,
-        part.placed,
-        part.gone,
+        ends,
+        until,
+        held,
+        order,
+        unplaced,
+        left,
+        last,
+        free,
+        placed,
+        gone,
         job,
         start,
         need[job],
@@ -208,8 +240,18 @@ fn try_children(
         lanes,
         jobs,
         modules,
-        child,
-        next,
+        &child.ends,
+        &child.until,
+        &child.held,
+        &child.order,
+        child.unplaced,
+        child.left,
+        child.last,
+        child.free,
+        child.placed,
+        child.gone,
+        settled,
+        branching::settled_now(same, tried, start, last),
         target,
         memory,
     )
@@ -254,7 +296,7 @@ fn lower(
     }
     let target = sums::rounded(minutes, jobs, best.end - 1);
     let part = placement::first_part(need, minutes, jobs, modules);
-    let settled = branching::none_settled();
+    let mut settled = [0u32; 20];
     let found = visit(
         need,
         minutes,
@@ -266,8 +308,18 @@ fn lower(
         lanes,
         jobs,
         modules,
-        part,
-        settled,
+        &part.ends,
+        &part.until,
+        &part.held,
+        &part.order,
+        part.unplaced,
+        part.left,
+        part.last,
+        part.free,
+        part.placed,
+        part.gone,
+        &mut settled,
+        0,
         target,
         memory,
     );
@@ -359,7 +411,7 @@ fn try_place(
         return none_found();
     }
     let child = placement::place(part, j, start, need[j], minutes[j], modules);
-    let settled = branching::none_settled();
+    let mut settled = [0u32; 20];
     visit(
         need,
         minutes,
@@ -371,8 +423,18 @@ fn try_place(
         lanes,
         jobs,
         modules,
-        child,
-        settled,
+        &child.ends,
+        &child.until,
+        &child.held,
+        &child.order,
+        child.unplaced,
+        child.left,
+        child.last,
+        child.free,
+        child.placed,
+        child.gone,
+        &mut settled,
+        0,
         target,
         memory,
     )

@@ -4,16 +4,16 @@ use Prim.Native.Nat.{ℕ, suc, _+_, _*_, _<_}
 use native.Mathlib.Omega.{arith}
 use native.Mathlib.Nat.{pos-of-ne-zero}
 use lib.Count.{ones}
-use lib.ListN.{length, getD}
+use lib.ListN.{length, getD, take}
 use Rattle.tables.specs.Tables.{sheetOf}
-use Rattle.placement.specs.Part.{wordOf}
+use Rattle.placement.specs.Part.{partWith}
 use Rattle.candidates.proofs.Starting.{job-starts, starts-asked}
 use Rattle.candidates.proofs.Children.{child-placeable, child-fewer, child-known, child-word}
 use Rattle.bounds.proofs.Cuts.{bounding, hopeless-cut}
-use Rattle.search.specs.Search.{Remembered}
+use Rattle.search.specs.Search.{SettledSo, Remembered}
 use Rattle.search.proofs.Turns.{visit-leaf, recall-cut, visit-all, visit-remember}
 use Rattle.relations.proofs.Steps.{one-less}
-use Rattle.search.proofs.Passing.{passed-cut, settled-more}
+use Rattle.search.proofs.Passing.{passed-cut, settled-more, settled-less}
 use Rattle.search.proofs.Sweeps.{none-outcome, found-below, Sweep, sweep-first, chosen-in, sweep-next, sweep-all, all-tried, trying}
 use borrow.Fn.Kinds.{In}
 use borrow.Fn.PlainCycle.{Measures, is, falls, and}
@@ -26,7 +26,7 @@ use Rattle.candidates.proofs.next_choice.Reads as next-choice-reads
 use Rattle.branching.proofs.passed_over.Reads as passed-over-reads
 use Rattle.candidates.proofs.ready_starts.Reads as ready-starts-reads
 use Rattle.branching.proofs.to_try.Reads as to-try-reads
-use Rattle.branching.proofs.with_settled.Reads as with-settled-reads
+use Rattle.branching.proofs.settled_now.Reads as settled-now-reads
 use Rattle.memory.proofs.recall.Reads as recall-reads
 use Rattle.memory.proofs.remember.Reads as remember-reads
 use Rattle.placement.proofs.with_job.Reads as with-job-reads
@@ -39,29 +39,29 @@ use Rattle.search.proofs.+try_children+visit.Lts-visit as visit-lts
 use Rattle.search.proofs.+try_children+visit.{statement}
 use Rattle.search.proofs.+try_children+visit.Tie.{close}
 
-abbrev μ-try-children : Measures 10 try-children-kinds.ps ℕ
-μ-try-children κs a = ones (a .1 .1 .1 .1 .1 .1 .1 .1 .1 .1 .0 .unplaced) * 2
+abbrev μ-try-children : Measures 12 try-children-kinds.ps ℕ
+μ-try-children κs a = ones (a .1 .1 .1 .1 .1 .1 .1 .1 .1 .1 .1 .1 .1 .1 .0) * 2
 
-abbrev μ-visit : Measures 9 visit-kinds.ps ℕ
-μ-visit κs a = ones (a .1 .1 .1 .1 .1 .1 .1 .1 .1 .1 .0 .unplaced) * 2 + 1
+abbrev μ-visit : Measures 11 visit-kinds.ps ℕ
+μ-visit κs a = ones (a .1 .1 .1 .1 .1 .1 .1 .1 .1 .1 .1 .1 .1 .1 .0) * 2 + 1
 
-abbrev try-children-at : ℕ → In 10 try-children-kinds.ps
+abbrev try-children-at : ℕ → In 12 try-children-kinds.ps
 try-children-at t =
-    and 10 try-children-kinds.ps (is 10 try-children-kinds.ps μ-try-children t) try-children.Pre
+    and 12 try-children-kinds.ps (is 12 try-children-kinds.ps μ-try-children t) try-children.Pre
 
-abbrev try-children-below : ℕ → In 10 try-children-kinds.ps
+abbrev try-children-below : ℕ → In 12 try-children-kinds.ps
 try-children-below t =
     and
-    10
+    12
     try-children-kinds.ps
-    (falls 10 try-children-kinds.ps _<_ μ-try-children t)
+    (falls 12 try-children-kinds.ps _<_ μ-try-children t)
     try-children.Pre
 
-abbrev visit-at : ℕ → In 9 visit-kinds.ps
-visit-at t = and 9 visit-kinds.ps (is 9 visit-kinds.ps μ-visit t) visit.Pre
+abbrev visit-at : ℕ → In 11 visit-kinds.ps
+visit-at t = and 11 visit-kinds.ps (is 11 visit-kinds.ps μ-visit t) visit.Pre
 
-abbrev visit-below : ℕ → In 9 visit-kinds.ps
-visit-below t = and 9 visit-kinds.ps (falls 9 visit-kinds.ps _<_ μ-visit t) visit.Pre
+abbrev visit-below : ℕ → In 11 visit-kinds.ps
+visit-below t = and 11 visit-kinds.ps (falls 11 visit-kinds.ps _<_ μ-visit t) visit.Pre
 
 -- what each member knows of the functions that it calls, at the measure t
 abbrev try-children-claims : ℕ → try-children-lts.Claims
@@ -70,10 +70,10 @@ try-children-claims t = (
   passed-over-reads.Learnt,
   none-found-reads.Asked,
   none-found-reads.Learnt,
-  with-settled-reads.Asked,
-  with-settled-reads.Learnt,
   with-job-reads.Asked,
   with-job-reads.Learnt,
+  settled-now-reads.Asked,
+  settled-now-reads.Learnt,
   visit-below t,
   visit.Post,
 )
@@ -107,19 +107,19 @@ visit-claims t = (
 try-children-mul-start : (t : ℕ) → try-children-lts.Need-mul-start (try-children-claims t) (try-children-at t) try-children.Post
 try-children-mul-start t c =
     let p = c .before .pre .1 in
-    record { fits = omega (arith, p .1 .1 .1 .0, p .0 .known .fit .few) }
+    record { fits = omega (arith, p .1 .inside, p .0 .known .fit .few) }
 
 try-children-element-copy-out-start : (t : ℕ)
     → try-children-lts.Need-element-copy-out-start (try-children-claims t) (try-children-at t) try-children.Post
 try-children-element-copy-out-start t c =
     let p = c .before .pre .1 in
-    omega (arith, p .1 .1 .1 .0, p .0 .known .fit .few)
+    omega (arith, p .1 .inside, p .0 .known .fit .few)
 
 try-children-passed-over-requires : (t : ℕ)
     → try-children-lts.Need-passed-over-requires (try-children-claims t) (try-children-at t) try-children.Post
 try-children-passed-over-requires t c κs =
-    let p = c .before .before .before .before .before .before .pre .1 in
-    (p .0 .known .fit .few, omega (arith, p .1 .1 .1 .0, p .0 .known .fit .few))
+    let p = c .before .before .before .pre .1 in
+    (p .0 .known .fit .few, omega (arith, p .1 .inside, p .0 .known .fit .few))
 
 try-children-none-found-requires : (t : ℕ)
     → try-children-lts.Need-none-found-requires (try-children-claims t) (try-children-at t) try-children.Post
@@ -127,79 +127,82 @@ try-children-none-found-requires t c κs = tt
 
 try-children-returns : (t : ℕ) → try-children-lts.Need-returns (try-children-claims t) (try-children-at t) try-children.Post
 try-children-returns t c =
-    let start = c .before .before .before .before .before .before .before .before .before in
+    let start = c .before .before .before .before .before .before in
     let a = start .args in
     let p = start .pre .1 in
-    let cut = passed-cut (a .need .now) (a .minutes .now) (a .earlier .now) (a .related .now) (a .tails .now) (a .worth .now) (a .most .now) (a .lanes .now)
-    (a .jobs) (a .modules) (a .t11) (a .t12 .by) (a .t12 .same) (a .target) (a .memory .now) (a .at .now) (a .tried) (a .job)
-    (p .0) (p .1 .0) (p .1 .1 .0) (p .1 .1 .1 .0) (p .1 .1 .1 .1)
-    (c .before .before .passed-over .ensures (c .before .if1 .taken)) in
-    (rw (c .none-found .ensures) (none-outcome _ (a .target) _ cut), p .0 .remembered)
+    let cut = passed-cut _ _ _ _ _ _ _ _ _ _ _ _ _ _ _ _ _ _ (p .0) (p .1) (c .before .before .passed-over .ensures (c .before .if1 .taken)) in
+    (rw (c .none-found .ensures) (none-outcome _ (a .target) _ cut), (p .0 .settled, p .0 .remembered))
 
-try-children-with-settled-requires : (t : ℕ)
-    → try-children-lts.Need-with-settled-requires (try-children-claims t) (try-children-at t) try-children.Post
-try-children-with-settled-requires t c κs =
-    let p = c .before .before .before .before .before .before .before .before .pre .1 in
-    omega (arith, p .1 .1 .1 .0, p .0 .known .fit .few)
+try-children-mul-settled : (t : ℕ) → try-children-lts.Need-mul-settled (try-children-claims t) (try-children-at t) try-children.Post
+try-children-mul-settled t c =
+    let p = c .before .before .before .before .before .pre .1 in
+    record { fits = omega (arith, p .1 .inside, p .0 .known .fit .few) }
+
+try-children-element-write-settled : (t : ℕ)
+    → try-children-lts.Need-element-write-settled (try-children-claims t) (try-children-at t) try-children.Post
+try-children-element-write-settled t c =
+    let p = c .before .before .before .before .before .pre .1 in
+    omega (arith, p .1 .inside, p .0 .known .fit .few)
 
 try-children-mul-with-job : (t : ℕ) → try-children-lts.Need-mul-with-job (try-children-claims t) (try-children-at t) try-children.Post
 try-children-mul-with-job t c =
-    let p = c .before .before .before .before .before .before .before .before .before .before .before .before .before .before .pre .1 in
-    record { fits = omega (arith, p .1 .1 .1 .0, p .0 .known .fit .few) }
+    let p = c .before .before .before .before .before .pre .1 in
+    record { fits = omega (arith, p .1 .inside, p .0 .known .fit .few) }
 
 try-children-element-copy-out-with-job : (t : ℕ)
     → try-children-lts.Need-element-copy-out-with-job (try-children-claims t) (try-children-at t) try-children.Post
 try-children-element-copy-out-with-job t c =
-    let p = c .before .before .before .before .before .before .before .before .before .before .before .before .before .before .pre .1 in
-    omega (arith, p .1 .1 .1 .0, p .0 .known .fit .few)
+    let p = c .before .before .before .before .before .pre .1 in
+    omega (arith, p .1 .inside, p .0 .known .fit .few)
 
 try-children-mul-with-job-2 : (t : ℕ) → try-children-lts.Need-mul-with-job-2 (try-children-claims t) (try-children-at t) try-children.Post
 try-children-mul-with-job-2 t c =
-    let p = c .before .before .before .before .before .before .before .before .before .before .before .before .before .before .before .pre .1 in
-    record { fits = omega (arith, p .1 .1 .1 .0, p .0 .known .fit .few) }
+    let p = c .before .before .before .before .before .before .pre .1 in
+    record { fits = omega (arith, p .1 .inside, p .0 .known .fit .few) }
 
 try-children-element-copy-out-with-job-2 : (t : ℕ)
     → try-children-lts.Need-element-copy-out-with-job-2 (try-children-claims t) (try-children-at t) try-children.Post
 try-children-element-copy-out-with-job-2 t c =
-    let p = c .before .before .before .before .before .before .before .before .before .before .before .before .before .before .before .pre .1 in
-    omega (arith, p .1 .1 .1 .0, p .0 .known .fit .few)
+    let p = c .before .before .before .before .before .before .pre .1 in
+    omega (arith, p .1 .inside, p .0 .known .fit .few)
 
 try-children-with-job-requires : (t : ℕ) → try-children-lts.Need-with-job-requires (try-children-claims t) (try-children-at t) try-children.Post
 try-children-with-job-requires t c κs =
-    let start = c .before .before .before .before .before .before .before .before .before .before .before .before .before .before .before .before in
+    let start = c .before .before .before .before .before .before .before in
     let a = start .args in
     let p = start .pre .1 in
-    child-placeable (a .need .now) (a .minutes .now) (a .earlier .now) (a .jobs) (a .modules) (a .t11) (p .0 .known) (a .job)
-    (p .1 .1 .1 .0) (getD (a .at .now) (a .job) 0)
-    (p .1 .0 (a .job) (p .1 .1 .1 .0)) (p .1 .1 .1 .1)
+    child-placeable _ _ _ _ _ _ (p .0 .known) (a .job)
+    (p .1 .inside) (getD (a .at .now) (a .job) 0)
+    (p .1 .starts (a .job) (p .1 .inside)) (p .1 .may-come)
+
+try-children-settled-now-requires : (t : ℕ)
+    → try-children-lts.Need-settled-now-requires (try-children-claims t) (try-children-at t) try-children.Post
+try-children-settled-now-requires t c κs = tt
 
 try-children-visit-requires : (t : ℕ) → try-children-lts.Need-visit-requires (try-children-claims t) (try-children-at t) try-children.Post
 try-children-visit-requires t c κs =
-    let start = c .before .before .before .before .before .before .before .before .before .before .before .before .before .before .before .before .before .before in
+    let start = c .before .before .before .before .before .before .before .before .before .before .before .before .before .before .before .before in
     let a = start .args in
     let p = start .pre .1 in
     let known = p .0 .known in
-    let place = c .before .with-job in
-    let less = child-fewer (a .need .now) (a .minutes .now) (a .earlier .now) (a .jobs) (a .modules) (a .t11) known
-    (a .job) (p .1 .1 .1 .0) (getD (a .at .now) (a .job) 0)
-    (p .1 .0 (a .job) (p .1 .1 .1 .0)) (p .1 .1 .1 .1) (place .result) (place .ensures) in
-    let word = child-word (a .need .now) (a .minutes .now) (a .earlier .now) (a .jobs) (a .modules) (a .t11) known
-    (a .job) (p .1 .1 .1 .0) (getD (a .at .now) (a .job) 0)
-    (p .1 .0 (a .job) (p .1 .1 .1 .0)) (p .1 .1 .1 .1) (place .result) (place .ensures) in (
+    let place = c .before .before .before .before .before .before .before .before .with-job in
+    let less = child-fewer _ _ _ _ _ _ known
+    (a .job) (p .1 .inside) (getD (a .at .now) (a .job) 0)
+    (p .1 .starts (a .job) (p .1 .inside)) (p .1 .may-come) (place .result) (place .ensures) in
+    let word = child-word _ _ _ _ _ _ known
+    (a .job) (p .1 .inside) (getD (a .at .now) (a .job) 0)
+    (p .1 .starts (a .job) (p .1 .inside)) (p .1 .may-come) (place .result) (place .ensures) in (
       omega (arith, start .pre .0, less),
       record {
         low = p .0 .low;
-        known = child-known (a .need .now) (a .minutes .now) (a .earlier .now) (a .jobs) (a .modules) (a .t11) known
-            (a .job) (p .1 .1 .1 .0) (getD (a .at .now) (a .job) 0)
-            (p .1 .0 (a .job) (p .1 .1 .1 .0)) (p .1 .1 .1 .1) (place .result) (place .ensures);
+        known = child-known _ _ _ _ _ _ known
+            (a .job) (p .1 .inside) (getD (a .at .now) (a .job) 0)
+            (p .1 .starts (a .job) (p .1 .inside)) (p .1 .may-come) (place .result) (place .ensures);
         chains = p .0 .chains;
         related-is = p .0 .related-is;
         weighted = p .0 .weighted;
         laned = p .0 .laned;
-        settled = rw (c .before .before .before .before .before .before .before .before .before .with-settled .ensures, word) (settled-more (a .need .now) (a .minutes .now) (a .earlier .now)
-            (a .related .now) (a .tails .now) (a .worth .now) (a .most .now) (a .lanes .now) (a .jobs) (a .modules) (a .t11) (a .t12 .by) (a .t12 .same) (a .target)
-            (a .memory .now) (a .at .now) (a .tried) (a .job)
-            (p .0) (p .1 .0) (p .1 .1 .0) (p .1 .1 .1 .0) (p .1 .1 .1 .1));
+        settled = rw (c .before .settled-now .ensures, word) (settled-more _ _ _ _ _ _ _ _ _ _ _ _ _ _ _ _ _ _ (p .0) (p .1));
         remembered = p .0 .remembered;
       },
     )
@@ -207,29 +210,38 @@ try-children-visit-requires t c κs =
 try-children-same-length : (t : ℕ) → try-children-lts.Need-same-length (try-children-claims t) (try-children-at t) try-children.Post
 try-children-same-length t c =
     let visit = c .before .before .visit in
-    visit .kept .1 .1 .1 .1 .1 .1 .1 .1 .1 .1 .1 .1 .1 .0
+    visit .kept .1 .1 .1 .1 .1 .1 .1 .1 .1 .1 .1 .1 .1 .1 .1 .1 .1 .1 .1 .1 .1 .1 .1 .0
 
 try-children-returns-2 : (t : ℕ) → try-children-lts.Need-returns-2 (try-children-claims t) (try-children-at t) try-children.Post
 try-children-returns-2 t c =
-    let start = c .before .before .before .before .before .before .before .before .before .before .before .before .before .before .before .before .before .before .before .before .before in
+    let start = c .before .before .before .before .before .before .before .before .before .before .before .before .before .before .before .before .before .before .before in
     let a = start .args in
     let p = start .pre .1 in
     let known = p .0 .known in
-    let place = c .before .before .before .before .with-job in
-    let word = child-word (a .need .now) (a .minutes .now) (a .earlier .now) (a .jobs) (a .modules) (a .t11) known
-    (a .job) (p .1 .1 .1 .0) (getD (a .at .now) (a .job) 0)
-    (p .1 .0 (a .job) (p .1 .1 .1 .0)) (p .1 .1 .1 .1) (place .result) (place .ensures) in
-    let visit = c .before .before .visit in
-    (rw word at (visit .ensures .0), visit .ensures .1)
+    let place = c .before .before .before .before .before .before .before .before .before .before .before .with-job in
+    let word = child-word _ _ _ _ _ _ known
+    (a .job) (p .1 .inside) (getD (a .at .now) (a .job) 0)
+    (p .1 .starts (a .job) (p .1 .inside)) (p .1 .may-come) (place .result) (place .ensures) in
+    let visit = c .before .before .visit in (
+      rw word at (visit .ensures .0),
+      (
+        settled-less (take (a .placed) (a .order .now)) (a .job) (p .0 .settled) (rw word at (visit .ensures .1 .0)),
+        visit .ensures .1 .1,
+      ),
+    )
 
 abbrev visit-Inv-loop : visit-lts.InvT-loop
-visit-Inv-loop need minutes earlier related tails worth most lanes jobs modules settled target memory₀ part unplaced at least first left₀ tried₀ c₀ memory left tried c =
-    Sweep need minutes earlier jobs modules part target at first left tried c
-    × (Remembered (sheetOf need minutes earlier jobs modules) memory (suc target) × (length memory ≡ length memory₀))
+visit-Inv-loop need minutes earlier related tails worth most lanes jobs modules ends until held order unplaced left last free placed gone settled₀ same target
+    memory₀ at least first untried₀ tried₀ c₀ settled memory untried tried c =
+    Sweep need minutes earlier jobs modules (partWith ends until held order unplaced left last free placed gone) target at first untried
+    tried c
+    × (SettledSo (sheetOf need minutes earlier jobs modules) target (take placed order) settled same
+    × (Remembered (sheetOf need minutes earlier jobs modules) memory (suc target) × (length memory ≡ length memory₀)))
 
 abbrev visit-μ-loop : visit-lts.MeasureT-loop
-visit-μ-loop need minutes earlier related tails worth most lanes jobs modules settled target memory₀ part unplaced at least first left₀ tried₀ c₀ memory left tried c =
-    ones left
+visit-μ-loop need minutes earlier related tails worth most lanes jobs modules ends until held order unplaced left last free placed gone settled₀ same target
+    memory₀ at least first untried₀ tried₀ c₀ settled memory untried tried c =
+    ones untried
 
 visit-finished-requires : (t : ℕ) → visit-lts.Need-finished-requires (visit-claims t) (visit-at t) visit.Post visit-Inv-loop visit-μ-loop
 visit-finished-requires t c κs =
@@ -241,28 +253,27 @@ visit-returns t c =
     let start = c .before .before .before in
     let a = start .args in
     let p = start .pre .1 in (
-      rw (c .finished .ensures) (visit-leaf (a .need .now) (a .minutes .now) (a .earlier .now) (a .jobs) (a .modules)
-          (a .t11) (p .known) (c .before .if1 .taken) (a .target)),
-      p .remembered,
+      rw (c .finished .ensures) (visit-leaf _ _ _ _ _ _ (p .known) (c .before .if1 .taken) (a .target)),
+      (p .settled, p .remembered),
     )
 
 visit-ready-starts-requires : (t : ℕ)
     → visit-lts.Need-ready-starts-requires (visit-claims t) (visit-at t) visit.Post visit-Inv-loop visit-μ-loop
 visit-ready-starts-requires t c κs =
-    let start = c .before .before .before .before .before .before in
+    let start = c .before .before in
     let a = start .args in
-    starts-asked (a .need .now) (a .minutes .now) (a .earlier .now) (a .jobs) (a .modules) (a .t11) (start .pre .1 .known)
+    starts-asked _ _ _ _ _ _ (start .pre .1 .known)
 
 visit-hopeless-requires : (t : ℕ) → visit-lts.Need-hopeless-requires (visit-claims t) (visit-at t) visit.Post visit-Inv-loop visit-μ-loop
 visit-hopeless-requires t c κs =
-    let start = c .before .before .before .before .before .before .before .before .before .before .before .before in
+    let start = c .before .before .before .before .before in
     let a = start .args in
     let p = start .pre .1 in
-    let r = c .before .before .before .before .before .ready-starts in
-    let starts = job-starts (a .need .now) (a .minutes .now) (a .earlier .now) (a .jobs) (a .modules) (a .t11) (p .known) (r .result .at)
+    let r = c .before .before .ready-starts in
+    let starts = job-starts _ _ _ _ _ _ (p .known) (r .result .at)
     (r .result .least) (r .ensures) in (
       (p .known .fit, (p .weighted, p .laned)),
-      bounding (a .need .now) (a .minutes .now) (a .earlier .now) (a .tails .now) (a .jobs) (a .modules) (a .t11) (p .known)
+      bounding _ _ _ (a .tails .now) _ _ _ (p .known)
           (r .result .at) (r .result .least) starts (p .low),
     )
 
@@ -272,21 +283,21 @@ visit-none-found-requires t c κs = tt
 
 visit-returns-2 : (t : ℕ) → visit-lts.Need-returns-2 (visit-claims t) (visit-at t) visit.Post visit-Inv-loop visit-μ-loop
 visit-returns-2 t c =
-    let start = c .before .before .before .before .before .before .before .before .before .before .before .before .before .before .before in
+    let start = c .before .before .before .before .before .before .before .before in
     let a = start .args in
     let p = start .pre .1 in
-    let r = c .before .before .before .before .before .before .before .before .ready-starts in
-    let starts = job-starts (a .need .now) (a .minutes .now) (a .earlier .now) (a .jobs) (a .modules) (a .t11) (p .known) (r .result .at)
+    let r = c .before .before .before .before .before .ready-starts in
+    let starts = job-starts _ _ _ _ _ _ (p .known) (r .result .at)
     (r .result .least) (r .ensures) in
-    let cut = hopeless-cut (a .need .now) (a .minutes .now) (a .earlier .now) (a .tails .now) (a .jobs) (a .modules) (a .t11) (p .known)
+    let cut = hopeless-cut _ _ _ (a .tails .now) _ _ _ (p .known)
     (r .result .at) (r .result .least) starts (a .target) (p .chains)
-    (pos-of-ne-zero (c .before .before .before .before .before .before .before .before .before .before .before .before .before .if1 .left)) (c .before .before .hopeless .ensures
+    (pos-of-ne-zero (c .before .before .before .before .before .before .if1 .left)) (c .before .before .hopeless .ensures
     (c .before .if2 .taken)) in
-    (rw (c .none-found .ensures) (none-outcome _ (a .target) _ cut), p .remembered)
+    (rw (c .none-found .ensures) (none-outcome _ (a .target) _ cut), (p .settled, p .remembered))
 
 visit-recall-requires : (t : ℕ) → visit-lts.Need-recall-requires (visit-claims t) (visit-at t) visit.Post visit-Inv-loop visit-μ-loop
 visit-recall-requires t c κs =
-    let p = c .before .before .before .before .before .before .before .before .before .before .before .before .before .before .before .before .before .pre .1 in
+    let p = c .before .before .before .before .before .before .before .before .pre .1 in
     p .known .fit .few
 
 visit-none-found-requires-2 : (t : ℕ)
@@ -298,60 +309,60 @@ visit-same-length t c = refl
 
 visit-returns-3 : (t : ℕ) → visit-lts.Need-returns-3 (visit-claims t) (visit-at t) visit.Post visit-Inv-loop visit-μ-loop
 visit-returns-3 t c =
-    let start = c .before .before .before .before .before .before .before .before .before .before .before .before .before .before .before .before .before .before .before .before in
+    let start = c .before .before .before .before .before .before .before .before .before .before .before in
     let a = start .args in
     let p = start .pre .1 in
-    let r = c .before .before .before .before .before .before .before .before .before .before .before .before .before .ready-starts in
-    let starts = job-starts (a .need .now) (a .minutes .now) (a .earlier .now) (a .jobs) (a .modules) (a .t11) (p .known) (r .result .at)
+    let r = c .before .before .before .before .before .before .before .before .ready-starts in
+    let starts = job-starts _ _ _ _ _ _ (p .known) (r .result .at)
     (r .result .least) (r .ensures) in
-    let cut = recall-cut (a .need .now) (a .minutes .now) (a .earlier .now) (a .jobs) (a .modules) (a .t11) (p .known)
+    let cut = recall-cut _ _ _ _ _ _ (p .known)
     (r .result .at) (r .result .least) starts (suc (a .target)) (a .memory .now)
-    (pos-of-ne-zero (c .before .before .before .before .before .before .before .before .before .before .before .before .before .before .before .before .before .before .if1 .left))
+    (pos-of-ne-zero (c .before .before .before .before .before .before .before .before .before .if1 .left))
     (p .remembered) (c .before .before .recall .ensures (c .before .if3 .taken)) in
-    (rw (c .none-found2 .ensures) (none-outcome _ (a .target) _ cut), p .remembered)
+    (rw (c .none-found2 .ensures) (none-outcome _ (a .target) _ cut), (p .settled, p .remembered))
 
 visit-to-try-requires : (t : ℕ) → visit-lts.Need-to-try-requires (visit-claims t) (visit-at t) visit.Post visit-Inv-loop visit-μ-loop
 visit-to-try-requires t c κs =
-    let start = c .before .before .before .before .before .before .before .before .before .before .before .before .before .before .before .before .before .before .before .before in
+    let start = c .before .before .before .before .before .before .before .before .before .before .before in
     let a = start .args in
     let p = start .pre .1 in
-    let r = c .before .before .before .before .before .before .before .before .before .before .before .before .before .ready-starts in
-    let starts = job-starts (a .need .now) (a .minutes .now) (a .earlier .now) (a .jobs) (a .modules) (a .t11) (p .known) (r .result .at)
+    let r = c .before .before .before .before .before .before .before .before .ready-starts in
+    let starts = job-starts _ _ _ _ _ _ (p .known) (r .result .at)
     (r .result .least) (r .ensures) in
-    trying (a .need .now) (a .minutes .now) (a .earlier .now) (a .jobs) (a .modules) (a .t11) (p .known) (a .target) (r .result .at)
+    trying _ _ _ _ _ _ (p .known) (a .target) (r .result .at)
     (starts .each) 0 (r .result .least) (starts .first)
 
 visit-next-choice-requires : (t : ℕ)
     → visit-lts.Need-next-choice-requires (visit-claims t) (visit-at t) visit.Post visit-Inv-loop visit-μ-loop
 visit-next-choice-requires t c κs =
-    let p = c .before .before .before .before .before .before .before .before .before .before .before .before .before .before .before .before .before .before .before .before .before .before .pre .1 in
+    let p = c .before .before .before .before .before .before .before .before .before .before .before .before .before .pre .1 in
     p .known .fit .few
 
 visit-loop-holds : (t : ℕ) → visit-lts.Need-loop-holds (visit-claims t) (visit-at t) visit.Post visit-Inv-loop visit-μ-loop
 visit-loop-holds t c =
-    let start = c .before .before .before .before .before .before .before .before .before .before .before .before .before .before .before .before .before .before .before .before .before .before .before in
+    let start = c .before .before .before .before .before .before .before .before .before .before .before .before .before .before in
     let a = start .args in
     let p = start .pre .1 in
-    let r = c .before .before .before .before .before .before .before .before .before .before .before .before .before .before .before .before .ready-starts in
-    let starts = job-starts (a .need .now) (a .minutes .now) (a .earlier .now) (a .jobs) (a .modules) (a .t11) (p .known) (r .result .at)
+    let r = c .before .before .before .before .before .before .before .before .before .before .before .ready-starts in
+    let starts = job-starts _ _ _ _ _ _ (p .known) (r .result .at)
     (r .result .least) (r .ensures) in (
-      sweep-first (a .need .now) (a .minutes .now) (a .earlier .now) (a .jobs) (a .modules) (a .t11) (p .known) (a .target) (r .result .at)
+      sweep-first _ _ _ _ _ _ (p .known) (a .target) (r .result .at)
           (starts .each) (c .before .before .to-try .result) (c .next-choice .result) (c .next-choice .ensures),
-      (p .remembered, refl),
+      (p .settled, (p .remembered, refl)),
     )
 
 visit-try-children-requires : (t : ℕ)
     → visit-lts.Need-try-children-requires (visit-claims t) (visit-at t) visit.Post visit-Inv-loop visit-μ-loop
 visit-try-children-requires t c κs =
-    let start = c .before .before .before .before .before .before .before .before .before .before .before .before .before .before .before .before .before .before .before .before .before .before .before .before .before .before .before .before in
+    let start = c .before .before .before .before .before .before .before .before .before .before .before .before .before .before .before .before .before .before .before .before in
     let a = start .args in
     let p = start .pre .1 in
-    let r = c .before .before .before .before .before .before .before .before .before .before .before .before .before .before .before .before .before .before .before .before .before .ready-starts in
-    let starts = job-starts (a .need .now) (a .minutes .now) (a .earlier .now) (a .jobs) (a .modules) (a .t11) (p .known) (r .result .at)
+    let r = c .before .before .before .before .before .before .before .before .before .before .before .before .before .before .before .before .before .ready-starts in
+    let starts = job-starts _ _ _ _ _ _ (p .known) (r .result .at)
     (r .result .least) (r .ensures) in
-    let loop = c .before .before .before .before .loop in
+    let loop = c .before .before .before .before .before .loop in
     let sweep = loop .inv .0 in
-    let l : loop .c .start < 65535 = omega (arith, c .before .before .if4 .taken, sweep .choice .low) in
+    let l : loop .c .start < 65535 = omega (arith, c .before .before .before .if4 .taken, sweep .choice .low) in
     let chosen = sweep .choice .some l in (
       omega (arith, start .pre .0),
       (
@@ -362,91 +373,95 @@ visit-try-children-requires t c κs =
           related-is = p .related-is;
           weighted = p .weighted;
           laned = p .laned;
-          settled = p .settled;
-          remembered = loop .inv .1 .0;
+          settled = loop .inv .1 .0;
+          remembered = loop .inv .1 .1 .0;
         },
-        (starts .each, (rw (chosen .1 .1) (sweep .before), (chosen .0, omega (arith, chosen .1 .1)))),
+        record {
+          starts = starts .each;
+          before = rw (chosen .1 .1) (sweep .before);
+          inside = chosen .0;
+          may-come = omega (arith, chosen .1 .1);
+        },
       ),
     )
 
 visit-same-length-2 : (t : ℕ) → visit-lts.Need-same-length-2 (visit-claims t) (visit-at t) visit.Post visit-Inv-loop visit-μ-loop
 visit-same-length-2 t c =
-    let loop = c .before .before .before .before .before .before .before .before .loop in
-    c .before .before .before .try-children .kept .1 .1 .1 .1 .1 .1 .1 .1 .1 .1 .1 .1 .1 .1 .1 .1 .0 ∙ loop .inv .1 .1
+    let loop = c .before .before .before .before .before .before .before .before .before .loop in
+    c .before .before .before .try-children .kept .1 .1 .1 .1 .1 .1 .1 .1 .1 .1 .1 .1 .1 .1 .1 .1 .1 .1 .1 .1 .1 .1 .1 .1 .1 .1 .0 ∙ loop .inv .1 .1 .1
 
 visit-returns-4 : (t : ℕ) → visit-lts.Need-returns-4 (visit-claims t) (visit-at t) visit.Post visit-Inv-loop visit-μ-loop
 visit-returns-4 t c =
-    let start = c .before .before .before .before .before .before .before .before .before .before .before .before .before .before .before .before .before .before .before .before .before .before .before .before .before .before .before .before .before .before .before .before in
+    let start = c .before .before .before .before .before .before .before .before .before .before .before .before .before .before .before .before .before .before .before .before .before .before .before .before in
     let a = start .args in
     let p = start .pre .1 in
-    let loop = c .before .before .before .before .before .before .before .before .loop in
+    let loop = c .before .before .before .before .before .before .before .before .before .loop in
     let try = c .before .before .before .try-children in
-    (found-below _ (a .target) (wordOf (a .t11)) (loop .c .job) _ (try .ensures .0) (c .if5 .taken), try .ensures .1)
+    (found-below _ (a .target) (take (a .placed) (a .order .now)) (loop .c .job) _ (try .ensures .0) (c .if5 .taken), try .ensures .1)
 
 visit-clear32-requires : (t : ℕ) → visit-lts.Need-clear32-requires (visit-claims t) (visit-at t) visit.Post visit-Inv-loop visit-μ-loop
 visit-clear32-requires t c κs =
-    let loop = c .before .before .before .before .before .before .before .before .loop in
+    let loop = c .before .before .before .before .before .before .before .before .before .loop in
     let sweep = loop .inv .0 in
-    let p = c .before .before .before .before .before .before .before .before .before .before .before .before .before .before .before .before .before .before .before .before .before .before .before .before .before .before .before .before .before .before .before .before .pre .1 in
-    let l : loop .c .start < 65535 = omega (arith, c .before .before .before .before .before .before .if4 .taken, sweep .choice .low) in
+    let p = c .before .before .before .before .before .before .before .before .before .before .before .before .before .before .before .before .before .before .before .before .before .before .before .before .pre .1 in
+    let l : loop .c .start < 65535 = omega (arith, c .before .before .before .before .before .before .before .if4 .taken, sweep .choice .low) in
     omega (arith, sweep .choice .some l .0, p .known .fit .few)
 
 visit-set32-requires : (t : ℕ) → visit-lts.Need-set32-requires (visit-claims t) (visit-at t) visit.Post visit-Inv-loop visit-μ-loop
 visit-set32-requires t c κs =
-    let loop = c .before .before .before .before .before .before .before .before .before .loop in
+    let loop = c .before .before .before .before .before .before .before .before .before .before .loop in
     let sweep = loop .inv .0 in
-    let p = c .before .before .before .before .before .before .before .before .before .before .before .before .before .before .before .before .before .before .before .before .before .before .before .before .before .before .before .before .before .before .before .before .before .pre .1 in
+    let p = c .before .before .before .before .before .before .before .before .before .before .before .before .before .before .before .before .before .before .before .before .before .before .before .before .before .pre .1 in
     let l : loop .c .start < 65535 = omega
-    (arith, c .before .before .before .before .before .before .before .if4 .taken, sweep .choice .low) in
+    (arith, c .before .before .before .before .before .before .before .before .if4 .taken, sweep .choice .low) in
     omega (arith, sweep .choice .some l .0, p .known .fit .few)
 
 visit-next-choice-requires-2 : (t : ℕ)
     → visit-lts.Need-next-choice-requires-2 (visit-claims t) (visit-at t) visit.Post visit-Inv-loop visit-μ-loop
 visit-next-choice-requires-2 t c κs =
-    let p = c .before .before .before .before .before .before .before .before .before .before .before .before .before .before .before .before .before .before .before .before .before .before .before .before .before .before .before .before .before .before .before .before .before .before .before .pre .1 in
+    let p = c .before .before .before .before .before .before .before .before .before .before .before .before .before .before .before .before .before .before .before .before .before .before .before .before .before .before .before .pre .1 in
     p .known .fit .few
 
 visit-loop-less : (t : ℕ) → visit-lts.Need-loop-less (visit-claims t) (visit-at t) visit.Post visit-Inv-loop visit-μ-loop
 visit-loop-less t c =
-    let start = c .before .before .before .before .before .before .before .before .before .before .before .before .before .before .before .before .before .before .before .before .before .before .before .before .before .before .before .before .before .before .before .before .before .before .before .before in
+    let start = c .before .before .before .before .before .before .before .before .before .before .before .before .before .before .before .before .before .before .before .before .before .before .before .before .before .before .before .before in
     let a = start .args in
     let p = start .pre .1 in
-    let r = c .before .before .before .before .before .before .before .before .before .before .before .before .before .before .before .before .before .before .before .before .before .before .before .before .before .before .before .before .before .ready-starts in
-    let starts = job-starts (a .need .now) (a .minutes .now) (a .earlier .now) (a .jobs) (a .modules) (a .t11) (p .known) (r .result .at)
+    let r = c .before .before .before .before .before .before .before .before .before .before .before .before .before .before .before .before .before .before .before .before .before .before .before .before .before .ready-starts in
+    let starts = job-starts _ _ _ _ _ _ (p .known) (r .result .at)
     (r .result .least) (r .ensures) in
-    let first = c .before .before .before .before .before .before .before .before .before .before .before .before .before .before .before .to-try in
-    let loop = c .before .before .before .before .before .before .before .before .before .before .before .before .loop in
+    let first = c .before .before .before .before .before .before .before .before .before .before .before .before .before .before .before .before .to-try in
+    let loop = c .before .before .before .before .before .before .before .before .before .before .before .before .before .loop in
     let sweep = loop .inv .0 in
     let l : loop .c .start < 65535 = omega
-    (arith, c .before .before .before .before .before .before .before .before .before .before .if4 .taken, sweep .choice .low) in
-    rw (c .before .before .before .clear32 .ensures) (one-less (chosen-in (a .need .now) (a .minutes .now) (a .earlier .now) (a .jobs)
-    (a .modules) (a .t11) (p .known) (a .target) (r .result .at) (starts .each) (first .result) (loop .left) (loop .c) (sweep .choice) l))
+    (arith, c .before .before .before .before .before .before .before .before .before .before .before .if4 .taken, sweep .choice .low) in
+    rw (c .before .before .before .clear32 .ensures) (one-less (chosen-in _ _ _ _ _ _ (p .known) (a .target) (r .result .at) (starts .each) (first .result) (loop .untried) (loop .c) (sweep .choice) l))
 
 visit-loop-again : (t : ℕ) → visit-lts.Need-loop-again (visit-claims t) (visit-at t) visit.Post visit-Inv-loop visit-μ-loop
 visit-loop-again t c =
-    let start = c .before .before .before .before .before .before .before .before .before .before .before .before .before .before .before .before .before .before .before .before .before .before .before .before .before .before .before .before .before .before .before .before .before .before .before .before in
+    let start = c .before .before .before .before .before .before .before .before .before .before .before .before .before .before .before .before .before .before .before .before .before .before .before .before .before .before .before .before in
     let a = start .args in
     let p = start .pre .1 in
-    let r = c .before .before .before .before .before .before .before .before .before .before .before .before .before .before .before .before .before .before .before .before .before .before .before .before .before .before .before .before .before .ready-starts in
-    let starts = job-starts (a .need .now) (a .minutes .now) (a .earlier .now) (a .jobs) (a .modules) (a .t11) (p .known) (r .result .at)
+    let r = c .before .before .before .before .before .before .before .before .before .before .before .before .before .before .before .before .before .before .before .before .before .before .before .before .before .ready-starts in
+    let starts = job-starts _ _ _ _ _ _ (p .known) (r .result .at)
     (r .result .least) (r .ensures) in
-    let first = c .before .before .before .before .before .before .before .before .before .before .before .before .before .before .before .to-try in
-    let loop = c .before .before .before .before .before .before .before .before .before .before .before .before .loop in
+    let first = c .before .before .before .before .before .before .before .before .before .before .before .before .before .before .before .before .to-try in
+    let loop = c .before .before .before .before .before .before .before .before .before .before .before .before .before .loop in
     let sweep = loop .inv .0 in
     let try = c .before .before .before .before .before .before .before .try-children in
     let l : loop .c .start < 65535 = omega
-    (arith, c .before .before .before .before .before .before .before .before .before .before .if4 .taken, sweep .choice .low) in (
+    (arith, c .before .before .before .before .before .before .before .before .before .before .before .if4 .taken, sweep .choice .low) in (
       rw (c .before .before .before .clear32 .ensures, c .before .before .set32 .ensures)
-          (sweep-next (a .need .now) (a .minutes .now) (a .earlier .now) (a .jobs) (a .modules) (a .t11) (p .known) (a .target)
-          (r .result .at) (starts .each) (first .result) (loop .left) (loop .tried) (loop .c) (c .next-choice2 .result) sweep l
+          (sweep-next _ _ _ _ _ _ (p .known) (a .target)
+          (r .result .at) (starts .each) (first .result) (loop .untried) (loop .tried) (loop .c) (c .next-choice2 .result) sweep l
           (try .ensures .0 .miss (c .before .before .before .before .if5 .left)) (rw (c .before .before .before .clear32 .ensures) at
           (c .next-choice2 .ensures))),
-      (try .ensures .1, try .kept .1 .1 .1 .1 .1 .1 .1 .1 .1 .1 .1 .1 .1 .1 .1 .1 .0 ∙ loop .inv .1 .1),
+      (try .ensures .1 .0, (try .ensures .1 .1, try .kept .1 .1 .1 .1 .1 .1 .1 .1 .1 .1 .1 .1 .1 .1 .1 .1 .1 .1 .1 .1 .1 .1 .1 .1 .1 .1 .0 ∙ loop .inv .1 .1 .1)),
     )
 
 visit-remember-requires : (t : ℕ) → visit-lts.Need-remember-requires (visit-claims t) (visit-at t) visit.Post visit-Inv-loop visit-μ-loop
 visit-remember-requires t c κs =
-    let p = c .before .before .before .before .before .before .before .before .before .before .before .before .before .before .before .before .before .before .before .before .before .before .before .before .before .before .before .before .before .pre .1 in
+    let p = c .before .before .before .before .before .before .before .before .before .before .before .before .before .before .before .before .before .before .pre .1 in
     p .known .fit .few
 
 visit-none-found-requires-3 : (t : ℕ)
@@ -455,31 +470,34 @@ visit-none-found-requires-3 t c κs = tt
 
 visit-same-length-3 : (t : ℕ) → visit-lts.Need-same-length-3 (visit-claims t) (visit-at t) visit.Post visit-Inv-loop visit-μ-loop
 visit-same-length-3 t c =
-    let loop = c .before .before .before .before .before .before .before .before .before .loop in
-    c .before .before .before .remember .kept .0 ∙ loop .inv .1 .1
+    let loop = c .before .before .before .before .before .before .before .loop in
+    c .before .before .before .remember .kept .0 ∙ loop .inv .1 .1 .1
 
 visit-returns-5 : (t : ℕ) → visit-lts.Need-returns-5 (visit-claims t) (visit-at t) visit.Post visit-Inv-loop visit-μ-loop
 visit-returns-5 t c =
-    let start = c .before .before .before .before .before .before .before .before .before .before .before .before .before .before .before .before .before .before .before .before .before .before .before .before .before .before .before .before .before .before .before .before .before in
+    let start = c .before .before .before .before .before .before .before .before .before .before .before .before .before .before .before .before .before .before .before .before .before .before in
     let a = start .args in
     let p = start .pre .1 in
-    let r = c .before .before .before .before .before .before .before .before .before .before .before .before .before .before .before .before .before .before .before .before .before .before .before .before .before .before .ready-starts in
-    let starts = job-starts (a .need .now) (a .minutes .now) (a .earlier .now) (a .jobs) (a .modules) (a .t11) (p .known) (r .result .at)
+    let r = c .before .before .before .before .before .before .before .before .before .before .before .before .before .before .before .before .before .before .before .ready-starts in
+    let starts = job-starts _ _ _ _ _ _ (p .known) (r .result .at)
     (r .result .least) (r .ensures) in
-    let first = c .before .before .before .before .before .before .before .before .before .before .before .before .to-try in
-    let loop = c .before .before .before .before .before .before .before .before .before .loop in
+    let first = c .before .before .before .before .before .before .before .before .before .before .to-try in
+    let loop = c .before .before .before .before .before .before .before .loop in
     let remember = c .before .before .before .remember in
-    let swept = sweep-all (a .need .now) (a .minutes .now) (a .earlier .now) (a .jobs) (a .modules) (a .t11) (p .known) (a .target)
-    (r .result .at) (starts .each) (first .result) (loop .left) (loop .tried) (loop .c) (loop .inv .0)
-    (c .before .before .before .before .before .before .before .if4 .left) in
-    let all = all-tried (a .need .now) (a .minutes .now) (a .earlier .now) (a .jobs) (a .modules) (a .t11) (p .known) (a .target)
+    let swept = sweep-all _ _ _ _ _ _ (p .known) (a .target)
+    (r .result .at) (starts .each) (first .result) (loop .untried) (loop .tried) (loop .c) (loop .inv .0)
+    (c .before .before .before .before .before .if4 .left) in
+    let all = all-tried _ _ _ _ _ _ (p .known) (a .target)
     (r .result .at) (starts .each) (first .result) (a .related .now) (p .related-is) (first .ensures) swept in
-    let cut = visit-all (a .need .now) (a .minutes .now) (a .earlier .now) (a .jobs) (a .modules) (a .t11) (p .known)
+    let cut = visit-all _ _ _ _ _ _ (p .known)
     (a .target) (pos-of-ne-zero
-    (c .before .before .before .before .before .before .before .before .before .before .before .before .before .before .before .before .before .before .before .before .before .before .before .before .before .before .before .before .before .before .before .if1 .left)) all in (
+    (c .before .before .before .before .before .before .before .before .before .before .before .before .before .before .before .before .before .before .before .before .if1 .left)) all in (
       rw (c .none-found3 .ensures) (none-outcome _ (a .target) _ cut),
-      visit-remember (a .need .now) (a .minutes .now) (a .earlier .now) (a .jobs) (a .modules) (a .t11) (p .known)
-          (a .target) (loop .memory) (remember .last .0) (loop .inv .1 .0) cut (remember .ensures),
+      (
+        loop .inv .1 .0,
+        visit-remember _ _ _ _ _ _ (p .known)
+            (a .target) (loop .memory) (remember .last .0) (loop .inv .1 .1 .0) cut (remember .ensures),
+      ),
     )
 
 pub +try-children+visit-spec : {M : Type 1} → statement M
@@ -488,10 +506,10 @@ pub +try-children+visit-spec : {M : Type 1} → statement M
   passed-over-reads.Learnt,
   none-found-reads.Asked,
   none-found-reads.Learnt,
-  with-settled-reads.Asked,
-  with-settled-reads.Learnt,
   with-job-reads.Asked,
   with-job-reads.Learnt,
+  settled-now-reads.Asked,
+  settled-now-reads.Learnt,
   visit-below t,
   visit.Post,
 )
@@ -502,12 +520,14 @@ pub +try-children+visit-spec : {M : Type 1} → statement M
     (try-children-passed-over-requires t)
     (try-children-none-found-requires t)
     (try-children-returns t)
-    (try-children-with-settled-requires t)
+    (try-children-mul-settled t)
+    (try-children-element-write-settled t)
     (try-children-mul-with-job t)
     (try-children-element-copy-out-with-job t)
     (try-children-mul-with-job-2 t)
     (try-children-element-copy-out-with-job-2 t)
     (try-children-with-job-requires t)
+    (try-children-settled-now-requires t)
     (try-children-visit-requires t)
     (try-children-same-length t)
     (try-children-returns-2 t))

@@ -34,30 +34,27 @@ rounded-requires c κs =
 first-part-requires : tie.Need-first-part-requires
 first-part-requires c κs = search needs
 
-none-settled-requires : tie.Need-none-settled-requires
-none-settled-requires c κs = search needs
-
 visit-requires : tie.Need-visit-requires
 visit-requires c κs =
-    let start = c .before .before .before .before .before .before .before .before in
+    let start = c .before .before .before .before .before .before .before .before .before .before .before .before .before in
     let a = start .args in
-    let target = c .before .before .before .rounded in
-    rw (c .before .before .first-part .ensures, c .before .none-settled .ensures) (enter (a .need .now) (a .minutes .now) (a .earlier .now) (a .related .now)
+    let target = c .before .before .before .before .before .before .before .before .rounded in
+    rw (c .before .before .before .before .before .before .before .first-part .ensures) (enter (a .need .now) (a .minutes .now) (a .earlier .now) (a .related .now)
     (a .tails .now) (a .worth .now) (a .most .now) (a .lanes .now) (a .jobs) (a .modules) (target .result) (start .pre)
-    (let low = c .before .before .before .before .before .if1 .left in omega (arith, target .ensures .below)))
+    (let low = c .before .before .before .before .before .before .before .before .before .before .if1 .left in omega (arith, target .ensures .below)))
 
 same-length : tie.Need-same-length
 same-length c = search needs
 
 returns-2 : tie.Need-returns-2
 returns-2 c =
-    let start = c .before .before .before .before .before .before .before .before .before .before .before .before in
+    let start = c .before .before .before .before .before .before .before .before .before .before .before .before .before .before .before .before .before in
     let a = start .args in
     let visit = c .before .before .before .visit in
-    let target = c .before .before .before .before .before .before .before .rounded in
+    let target = c .before .before .before .before .before .before .before .before .before .before .before .before .rounded in
     lower-hit (a .need .now) (a .minutes .now) (a .earlier .now) (a .related .now) (a .tails .now) (a .worth .now) (a .most .now) (a .lanes .now) (a .jobs) (a .modules) _
-    (target .result) (start .pre) (let low = c .before .before .before .before .before .before .before .before .before .if1 .left in omega (arith, target .ensures .below)) (visit .ensures .0) (c .if2 .taken)
-    (visit .ensures .1)
+    (target .result) (start .pre) (let low = c .before .before .before .before .before .before .before .before .before .before .before .before .before .before .if1 .left in omega (arith, target .ensures .below)) (visit .ensures .0) (c .if2 .taken)
+    (visit .ensures .1 .1)
 
 kept-requires-2 : tie.Need-kept-requires-2
 kept-requires-2 c κs = search needs
@@ -67,19 +64,19 @@ same-length-2 c = search needs
 
 returns-3 : tie.Need-returns-3
 returns-3 c =
-    let start = c .before .before .before .before .before .before .before .before .before .before .before .before .before in
+    let start = c .before .before .before .before .before .before .before .before .before .before .before .before .before .before .before .before .before .before in
     let a = start .args in
     let visit = c .before .before .before .before .visit in
-    let target = c .before .before .before .before .before .before .before .before .rounded in
-    let word = ap wordOf (c .before .before .before .before .before .before .before .first-part .ensures) ∙ first-word (a .need .now) (a .minutes .now) (a .jobs) (a .modules) in
+    let target = c .before .before .before .before .before .before .before .before .before .before .before .before .before .rounded in
+    let word = ap wordOf (c .before .before .before .before .before .before .before .before .before .before .before .before .first-part .ensures) ∙ first-word (a .need .now) (a .minutes .now) (a .jobs) (a .modules) in
     let between = none-between (a .need .now) (a .minutes .now) (a .earlier .now) (a .related .now) (a .tails .now) (a .worth .now) (a .most .now) (a .lanes .now) (a .jobs) (a .modules)
-    (a .best) (target .result) (start .pre .fit) (c .before .before .before .before .before .before .before .before .before .before .if1 .left) (target .ensures) in
+    (a .best) (target .result) (start .pre .fit) (c .before .before .before .before .before .before .before .before .before .before .before .before .before .before .before .if1 .left) (target .ensures) in
     let none = none-by (a .need .now) (a .minutes .now) (a .earlier .now) (a .related .now) (a .tails .now) (a .worth .now) (a .most .now) (a .lanes .now) (a .jobs) (a .modules)
     (target .result) word (visit .ensures .0) (c .before .if2 .left) in
     rw (c .kept2 .ensures) (
       lower-miss (a .need .now) (a .minutes .now) (a .earlier .now) (a .related .now) (a .tails .now) (a .worth .now) (a .most .now) (a .lanes .now) (a .jobs) (a .modules) (start .pre)
           (λ o d. between o d (none o d)),
-      remembered-until _ _ (suc (target .result)) (a .best .end) between (visit .ensures .1),
+      remembered-until _ _ (suc (target .result)) (a .best .end) between (visit .ensures .1 .1),
     )
 
 pub lower-spec : {M : Type 1} → statement M
@@ -91,7 +88,6 @@ lower-spec =
     sub-rounded
     rounded-requires
     first-part-requires
-    none-settled-requires
     visit-requires
     same-length
     returns-2

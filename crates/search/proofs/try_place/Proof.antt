@@ -45,37 +45,33 @@ place-requires c κs =
     child-placeable (a .need .now) (a .minutes .now) (a .earlier .now) (a .jobs) (a .modules) (a .part) (g .known)
     (a .j) l (s .result) (s .ensures) low
 
-none-settled-requires : tie.Need-none-settled-requires
-none-settled-requires c κs = search needs
-
 visit-requires : tie.Need-visit-requires
 visit-requires c κs =
-    let start = c .before .before .before .before .before .before .before .before in
+    let start = c .before .before .before .before .before .before .before .before .before .before .before .before .before in
     let a = start .args in
     let g = start .pre .0 in
     let l = start .pre .1 in
-    let s = c .before .before .before .before .before .before .start-or-none in
-    let low : s .result < 65535 = start-low (g .known) (s .ensures) (c .before .before .before .before .before .if1 .left) in
-    rw (c .before .none-settled .ensures) (place-enter g l (s .ensures) low (c .before .before .place .result)
-    (c .before .before .place .ensures))
+    let s = c .before .before .before .before .before .before .before .before .before .before .before .start-or-none in
+    let low : s .result < 65535 = start-low (g .known) (s .ensures) (c .before .before .before .before .before .before .before .before .before .before .if1 .left) in
+    place-enter g l (s .ensures) low (c .before .before .before .before .before .before .before .place .result) (c .before .before .before .before .before .before .before .place .ensures)
 
 same-length : tie.Need-same-length
 same-length c = search needs
 
 returns-2 : tie.Need-returns-2
 returns-2 c =
-    let start = c .before .before .before .before .before .before .before .before .before .before .before in
+    let start = c .before .before .before .before .before .before .before .before .before .before .before .before .before .before .before .before in
     let a = start .args in
     let g = start .pre .0 in
     let l = start .pre .1 in
-    let s = c .before .before .before .before .before .before .before .before .before .start-or-none in
+    let s = c .before .before .before .before .before .before .before .before .before .before .before .before .before .before .start-or-none in
     let low : s .result < 65535 = start-low (g .known) (s .ensures)
-    (c .before .before .before .before .before .before .before .before .if1 .left) in
-    let place = c .before .before .before .before .before .place in
+    (c .before .before .before .before .before .before .before .before .before .before .before .before .before .if1 .left) in
+    let place = c .before .before .before .before .before .before .before .before .before .before .place in
     let word = child-word (a .need .now) (a .minutes .now) (a .earlier .now) (a .jobs) (a .modules) (a .part) (g .known)
     (a .j) l (s .result) (s .ensures) low (place .result) (place .ensures) in
     let visit = c .before .before .visit in
-    (rw word at (visit .ensures .0), visit .ensures .1)
+    (rw word at (visit .ensures .0), visit .ensures .1 .1)
 
 pub try-place-spec : {M : Type 1} → statement M
 try-place-spec =
@@ -89,7 +85,6 @@ try-place-spec =
     mul-place-2
     element-copy-out-place-2
     place-requires
-    none-settled-requires
     visit-requires
     same-length
     returns-2)
