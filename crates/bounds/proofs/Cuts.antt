@@ -26,8 +26,8 @@ use Rattle.candidates.proofs.Starting.{started, none-before}
 use Rattle.bounds.specs.Bounds.{Tails, SomeTooLong, Hopeless, Bounding}
 use Rattle.bounds.proofs.Shortages.{short-cut}
 
-module _ (need minutes earlier tails : List ℕ) (jobs modules : ℕ) (part : Part) (known : Known need minutes earlier jobs modules part)
-    (at : List ℕ) (least : ℕ) (starts : JobStarts need minutes earlier jobs modules part at least) where
+module _ {need minutes earlier : List ℕ} {jobs modules : ℕ} {part : Part} (known : Known need minutes earlier jobs modules part)
+    {at : List ℕ} {least : ℕ} (starts : JobStarts need minutes earlier jobs modules part at least) where
   abbrev S : Sheet
   S = sheetOf need minutes earlier jobs modules
 
@@ -76,15 +76,15 @@ module _ (need minutes earlier tails : List ℕ) (jobs modules : ℕ) (part : Pa
   crowded-cut T pos h =
       let size = left-count need minutes earlier jobs modules (known .fit) part w (known .is) in
       area-cut S (known .fit .narrow) w (known .is .follows) least T (starts .low)
-      (none-before need minutes earlier jobs modules part known at least starts) (omega arith) (omega (arith, work-is))
+      (none-before known starts) (omega arith) (omega (arith, work-is))
 
-  long-cut : (e : ℕ) → Tails S tails → SomeTooLong at tails jobs e → CannotBeat S e w
-  long-cut e chains (j, l, k, h) =
+  long-cut : (tails : List ℕ) (e : ℕ) → Tails S tails → SomeTooLong at tails jobs e → CannotBeat S e w
+  long-cut tails e chains (j, l, k, h) =
       let r = started (starts .each j l) k in
       chain-cut S (known .fit .narrow) w (known .is .follows) jobs j e r (omega (arith, chains j l, starts .each j l .here r))
 
-  pub hopeless-cut : (T : ℕ) → Tails S tails → 0 < ones (part .unplaced) → Hopeless need minutes tails (part .until) (part .held) jobs modules
+  pub hopeless-cut : (tails : List ℕ) (T : ℕ) → Tails S tails → 0 < ones (part .unplaced) → Hopeless need minutes tails (part .until) (part .held) jobs modules
       (part .placed) (part .unplaced) (part .left) at least T → CannotBeat S (suc T) w
-  hopeless-cut T chains pos (inl h) = crowded-cut T pos h
-  hopeless-cut T chains pos (inr (inl h)) = long-cut (suc T) chains (rw add-one at h)
-  hopeless-cut T chains pos (inr (inr h)) = short-cut need minutes earlier jobs modules part known at least starts T h
+  hopeless-cut tails T chains pos (inl h) = crowded-cut T pos h
+  hopeless-cut tails T chains pos (inr (inl h)) = long-cut tails (suc T) chains (rw add-one at h)
+  hopeless-cut tails T chains pos (inr (inr h)) = short-cut known starts T h

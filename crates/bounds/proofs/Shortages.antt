@@ -34,8 +34,8 @@ times-only : (b : Bool) (x y : ℕ) → only b (x * y) ≡ x * only b y
 times-only true x y = refl
 times-only false x y = omega arith
 
-module _ (need minutes earlier : List ℕ) (jobs modules : ℕ) (part : Part) (known : Known need minutes earlier jobs modules part)
-    (at : List ℕ) (least : ℕ) (starts : JobStarts need minutes earlier jobs modules part at least) (T : ℕ) where
+module _ {need minutes earlier : List ℕ} {jobs modules : ℕ} {part : Part} (known : Known need minutes earlier jobs modules part)
+    {at : List ℕ} {least : ℕ} (starts : JobStarts need minutes earlier jobs modules part at least) (T : ℕ) where
   abbrev S : Sheet
   S = sheetOf need minutes earlier jobs modules
 
@@ -62,7 +62,7 @@ module _ (need minutes earlier : List ℕ) (jobs modules : ℕ) (part : Part) (k
       let same = sum-same jobs (λ k. only (not (P .placed k)) (mustHold need minutes least T m k))
       (λ k. only (not (P .placed k) && runsAt least T m (S .minutes k)) (S .need k)) (λ k l. both (not (P .placed k)) _ (S .need k)) in
       overlap-cut S (known .fit .lasting) (known .fit .narrow) w (known .is .follows) least (starts .low)
-      (none-before need minutes earlier jobs modules part known at least starts) T m (o .from)
+      (none-before known starts) T m (o .from)
       (omega (arith, o .over, of-set (mustHold need minutes least T m), same, held-is m))
     where
       both : (a b : Bool) (x : ℕ) → only a (only b x) ≡ only (a && b) x
@@ -76,7 +76,7 @@ module _ (need minutes earlier : List ℕ) (jobs modules : ℕ) (part : Part) (k
       (λ t. only (leb least t) (o .most (modules - occupied S P t)))
       (λ t l. ap (λ (x : ℕ). only (leb least t) (o .most (modules - x))) (held-is t)) in
       weights-cut S (known .fit .lasting) (known .fit .narrow) w (known .is .follows) least (starts .low)
-      (none-before need minutes earlier jobs modules part known at least starts) T (o .weight) (o .most) (o .weighs)
+      (none-before known starts) T (o .weight) (o .most) (o .weighs)
       (omega (arith, free, of-set (λ k. getD minutes k 0 * o .weight k), o .over))
 
   overfull-cut : Overfull need minutes (part .until) (part .held) jobs modules (part .placed) (part .unplaced) least T
@@ -88,7 +88,7 @@ module _ (need minutes earlier : List ℕ) (jobs modules : ℕ) (part : Part) (k
       (λ t. only (leb least t) (o .most (modules - occupied S P t) * gain t))
       (λ t l. ap (λ (x : ℕ). only (leb least t) (o .most (modules - x) * gain t)) (held-is t)) in
       reach-cut S (known .fit .lasting) (known .fit .narrow) w (known .is .follows) least (starts .low)
-      (none-before need minutes earlier jobs modules part known at least starts) T (o .weight) (o .value) (o .most) (o .reach)
+      (none-before known starts) T (o .weight) (o .value) (o .most) (o .reach)
       (o .weighs) (o .most-rises) (o .lasts) (o .reach-none) (o .reach-rises)
       (omega (arith, free, of-set (λ k. o .weight k * o .value k), o .over))
 
@@ -132,7 +132,7 @@ module _ (need minutes earlier : List ℕ) (jobs modules : ℕ) (part : Part) (k
     unserved-cut =
         let free = ap (λ (x : ℕ). (modules - x) * u .reach (T - least)) (held-is least) in
         modules-cut S (known .fit .lasting) (known .fit .narrow) w (known .is .follows) least (starts .low)
-        (none-before need minutes earlier jobs modules part known at least starts) T (S .minutes) (u .reach) reaches (u .rises)
+        (none-before known starts) T (S .minutes) (u .reach) reaches (u .rises)
         (omega (arith, behind, free, F .left, u .short))
 
   pub short-cut : TooFew need minutes (part .until) (part .held) jobs modules (part .placed) (part .unplaced) (part .left) least T

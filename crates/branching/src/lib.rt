@@ -14,10 +14,10 @@ ghost use Rattle.branching.specs.Branching.{Alone, ToTry, Trying, EndOfO
 pub fn settled_now(same: u32, tried: u32, start: u16, last: u16) -> u32
     ensures { λ r. ⌜ r ≡ settledNow same tried start last ⌝ }
 {
-    if start == last {
-        return same | tried;
+    if start != last {
+        return tried;
     }
-    tried
+    same | tried
 }
 
 // ---- jobs that need not be tried

@@ -42,8 +42,8 @@ start-low {need} {minutes} {earlier} {jobs} {modules} {part} {j} {s} k h n =
     go (inl r) = starts-short k r h
     go (inr r) = absurd (n (h .none r))
 
-module _ (need minutes earlier : List ℕ) (jobs modules : ℕ) (part : Part) (known : Known need minutes earlier jobs modules part)
-    (job : ℕ) (l : job < jobs) (s : ℕ) (start : JobStart need minutes earlier jobs modules part job s) (low : s < 65535) where
+module _ {need minutes earlier : List ℕ} {jobs modules : ℕ} {part : Part} (known : Known need minutes earlier jobs modules part)
+    {job s : ℕ} (l : job < jobs) (start : JobStart need minutes earlier jobs modules part job s) (low : s < 65535) where
   abbrev S : Sheet
   S = sheetOf need minutes earlier jobs modules
 
@@ -60,7 +60,7 @@ module _ (need minutes earlier : List ℕ) (jobs modules : ℕ) (part : Part) (k
   child-placeable = rw (start .here child-ready)
       (placeable need minutes earlier jobs modules (known .fit) part w (known .is) job child-ready)
 
-  module _ (child : Part) (placed : Placed part job s (getD need job 0) (getD minutes job 0) modules child) where
+  module _ {child : Part} (placed : Placed part job s (getD need job 0) (getD minutes job 0) modules child) where
     child-is : IsPart S (w ++ (job ∷ [])) child
     child-is = placed-part need minutes earlier jobs modules (known .fit) part w (known .is) job child-ready child
         (rw (start .here child-ready) at placed)

@@ -31,32 +31,32 @@ started {S} {P} {j} h l = go (true-or-false (ready S (P .placed) j))
     go (inl e) = e
     go (inr e) = absurd (omega (arith, h .none e))
 
-module _ (need minutes earlier : List ℕ) (jobs modules : ℕ) (part : Part) (known : Known need minutes earlier jobs modules part) where
+module _ {need minutes earlier : List ℕ} {jobs modules : ℕ} {part : Part} (known : Known need minutes earlier jobs modules part) where
   abbrev S : Sheet
   S = sheetOf need minutes earlier jobs modules
 
   abbrev P : PartPlan
   P = theoryPart need minutes earlier jobs modules part
 
-  module _ (j : ℕ) (l : j < jobs) where
+  module _ {j : ℕ} (l : j < jobs) where
     is-ready : isReady earlier (part .unplaced) j ≡ ready S (P .placed) j
     is-ready = ready-is need minutes earlier jobs modules (known .fit) part (wordOf part) (known .is) j l
 
-    pub job-start : (s : ℕ)
+    pub job-start : {s : ℕ}
         → NextStart need earlier (part .ends) (part .until) (part .held) (part .unplaced) (part .placed) modules (part .last) jobs j s
         → JobStart need minutes earlier jobs modules part j s
-    job-start s (inl (e, f)) = record {
+    job-start {s} (inl (e, f)) = record {
       here = λ r. start-is need minutes earlier jobs modules (known .fit) part (wordOf part) (known .is) j r s f;
       none = λ r. clash (ready S (P .placed) j) (sym is-ready ∙ e) r;
     }
-    job-start s (inr (e, f)) = record { here = λ r. clash (ready S (P .placed) j) r (sym is-ready ∙ e); none = λ r. f }
+    job-start (inr (e, f)) = record { here = λ r. clash (ready S (P .placed) j) r (sym is-ready ∙ e); none = λ r. f }
 
   -- the starts by the figures are those of the part-plan
-  pub job-starts : (at : List ℕ) (least : ℕ)
+  pub job-starts : {at : List ℕ} {least : ℕ}
       → NextStarts need earlier (part .ends) (part .until) (part .held) (part .unplaced) (part .placed) modules (part .last) jobs at least
       → JobStarts need minutes earlier jobs modules part at least
-  job-starts at least h = record {
-    each = λ j l. job-start j l (getD at j 0) (h .each j l);
+  job-starts h = record {
+    each = λ j l. job-start l (h .each j l);
     low = omega (arith, h .low, known .is .figures .last);
     first = h .first;
   }
@@ -70,9 +70,9 @@ module _ (need minutes earlier : List ℕ) (jobs modules : ℕ) (part : Part) (k
   }
 
   -- no job that can come next starts before the least
-  pub none-before : (at : List ℕ) (least : ℕ) → JobStarts need minutes earlier jobs modules part at least
+  pub none-before : {at : List ℕ} {least : ℕ} → JobStarts need minutes earlier jobs modules part at least
       → NoneBefore S (known .fit .narrow) (wordOf part) (known .is .follows) least
-  none-before at least starts j r =
+  none-before starts j r =
       let l = ready-says S (P .placed) j r .job in
       omega (arith, starts .first j l, starts .each j l .here r)
 

@@ -123,16 +123,16 @@ module _ {need minutes earlier : List ℕ} {jobs modules : ℕ} {part : Part} (k
     next-at-2 = record { fits = omega (arith, next-in-20) }
 
     pub next-placeable : Placeable part j s (getD need j 0) (getD minutes j 0) modules
-    next-placeable = child-placeable need minutes earlier jobs modules part known j (next .job) s (next .start) (next .low)
+    next-placeable = child-placeable known (next .job) (next .start) (next .low)
 
     module _ {child : Part} (placed : Placed part j s (getD need j 0) (getD minutes j 0) modules child) where
       pub next-fewer : ones (child .unplaced) < ones (part .unplaced)
       next-fewer =
-          let one = child-fewer need minutes earlier jobs modules part known j (next .job) s (next .start) (next .low) child placed in
+          let one = child-fewer known (next .job) (next .start) (next .low) placed in
           omega (arith, one)
 
       pub next-known : Known need minutes earlier jobs modules child
-      next-known = child-known need minutes earlier jobs modules part known j (next .job) s (next .start) (next .low) child placed
+      next-known = child-known known (next .job) (next .start) (next .low) placed
 
 -- ---- what a list plan says
 

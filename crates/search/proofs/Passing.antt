@@ -7,6 +7,7 @@ use Prim.Native.Nat.{ℕ, suc, _+_, _<_}
 use native.Mathlib.Omega.{arith}
 use lib.Dec.{eqb}
 use lib.Bits.{bitOr}
+use lib.Count.{ones}
 use lib.ListN.{getD, set, length-set}
 use lib.Seq.{getD-set-same, getD-set-other}
 use borrow.Author.Tests.{eqb-true, eq-eqb, ne-eqb, not-false}
@@ -24,15 +25,17 @@ use Rattle.schedule.proofs.Alike.{alike-cut}
 use Rattle.schedule.proofs.Swaps.{swap-cut}
 use Rattle.tables.specs.Tables.{sheetOf}
 use Rattle.placement.specs.declared.Part.{Part}
-use Rattle.placement.specs.Part.{wordOf}
+use Rattle.placement.specs.Part.{wordOf, Placeable, Placed}
 use Rattle.relations.specs.Relations.{Alike, Turning}
-use Rattle.candidates.specs.Candidates.{EachStart}
+use Rattle.candidates.specs.Candidates.{JobStart, EachStart}
 use Rattle.candidates.proofs.Starting.{started}
+use Rattle.candidates.proofs.Children.{child-placeable, child-fewer, child-known, child-word}
 use Rattle.branching.specs.Branching.{settledNow, PassedOver}
 use Rattle.search.specs.Search.{Fails, SettledAt, SameStart, SettledSo, Searching, TriedSo, Choosing}
 
-module _ (need minutes earlier related tails worth most lanes : List ℕ) (jobs modules : ℕ) (part : Part) (by : List ℕ) (same target : ℕ) (memory at : List ℕ)
-    (tried job : ℕ) (s : Searching need minutes earlier related tails worth most lanes jobs modules part by same target memory)
+module _ {need minutes earlier related tails worth most lanes : List ℕ} {jobs modules : ℕ} {part : Part} {by : List ℕ} {same target : ℕ}
+    {memory at : List ℕ} {tried job : ℕ}
+    (s : Searching need minutes earlier related tails worth most lanes jobs modules part by same target memory)
     (choosing : Choosing need minutes earlier jobs modules part target at tried job) where
   abbrev S : Sheet
   S = sheetOf need minutes earlier jobs modules
@@ -44,13 +47,13 @@ module _ (need minutes earlier related tails worth most lanes : List ℕ) (jobs 
   P = partOf S w
 
   narrow : Narrow S
-  narrow = s .known .fit .narrow
+  narrow = s .going .known .fit .narrow
 
   lasting : Lasting S
-  lasting = s .known .fit .lasting
+  lasting = s .going .known .fit .lasting
 
   follows : Follows S noJobs w
-  follows = s .known .is .follows
+  follows = s .going .known .is .follows
 
   l : job < jobs
   l = choosing .inside
@@ -69,6 +72,9 @@ module _ (need minutes earlier related tails worth most lanes : List ℕ) (jobs 
 
   starts-at : (x : ℕ) → (m : x < jobs) → getD at x 0 < 65535 → getD at x 0 ≡ startOf S P x
   starts-at x m k = starts x m .here (may-come x m k)
+
+  start : JobStart need minutes earlier jobs modules part job (getD at job 0)
+  start = starts job l
 
   may-follow : ready S (P .placed) job ≡ true
   may-follow = may-come job l low
@@ -97,7 +103,7 @@ module _ (need minutes earlier related tails worth most lanes : List ℕ) (jobs 
 
   same-minute : part .last ≡ getD at job 0 → SameStart S target w job → Fails S target (w ++ (job ∷ []))
   same-minute z (u, i, q, e, (f, a)) =
-      in-its-minute u i q w e follows a (omega (arith, f, z, starts-at job l low, s .known .is .figures .last))
+      in-its-minute u i q w e follows a (omega (arith, f, z, starts-at job l low, s .going .known .is .figures .last))
 
   -- one that ends as the job starts
   behind : (u : List ℕ) (i : ℕ) (q x : List ℕ) → x ≡ u ++ (i ∷ q) → Follows S noJobs x → SettledAt S target u i job
@@ -114,10 +120,10 @@ module _ (need minutes earlier related tails worth most lanes : List ℕ) (jobs 
   swapped i m t e p b = go (placed-splits S w i placed)
     where
       placed : P .placed i ≡ true
-      placed = not-false (P .placed i) (sym (s .known .is .figures .set i m) ∙ p)
+      placed = not-false (P .placed i) (sym (s .going .known .is .figures .set i m) ∙ p)
 
       end : getD (part .ends) i 0 ≡ finish S (P .plan) i
-      end = s .known .is .figures .ends i m ∙ ap (λ (x : Bool). only x (finish S (P .plan) i)) placed
+      end = s .going .known .is .figures .ends i m ∙ ap (λ (x : Bool). only x (finish S (P .plan) i)) placed
 
       go : (u : List ℕ) × (q : List ℕ) × (w ≡ u ++ (i ∷ q)) → Fails S target (w ++ (job ∷ []))
       go (u, q, z) = behind u i q w z follows (s .settled .each u i q job z l b) (ready-says S (P .placed) job may-follow .new) t
@@ -125,9 +131,9 @@ module _ (need minutes earlier related tails worth most lanes : List ℕ) (jobs 
 
   pub passed-cut : PassedOver related (part .ends) by same (part .unplaced) tried (part .last) (getD at job 0) jobs job
       → Fails S target (w ++ (job ∷ []))
-  passed-cut (inl (i, t, b)) = let pair = s .related-is job l .alike i b in come-first i (pair .0) t (pair .1)
+  passed-cut (inl (i, t, b)) = let pair = s .going .tabled .related-is job l .alike i b in come-first i (pair .0) t (pair .1)
   passed-cut (inr (inl (z, b))) = same-minute (sym z) (s .settled .same-start job l b)
-  passed-cut (inr (inr (i, m, b, (e, (p, x))))) = swapped i m (s .related-is job l .turning i b .1) e p x
+  passed-cut (inr (inr (i, m, b, (e, (p, x))))) = swapped i m (s .going .tabled .related-is job l .turning i b .1) e p x
 
   -- ---- one job more
 
@@ -173,7 +179,7 @@ module _ (need minutes earlier related tails worth most lanes : List ℕ) (jobs 
         i,
         q ++ (job ∷ []),
         ap (λ (v : List ℕ). v ++ (job ∷ [])) e ∙ append-assoc u (i ∷ q) (job ∷ []),
-        (omega (arith, start-stays i (not-job u i q e), last-here, f, z, starts-at job l low, s .known .is .figures .last), a),
+        (omega (arith, start-stays i (not-job u i q e), last-here, f, z, starts-at job l low, s .going .known .is .figures .last), a),
       )
 
       either : getD at job 0 ≡ part .last → (p : Bool) → bit same x ≡ p → (p || bit tried x) ≡ true
@@ -186,7 +192,7 @@ module _ (need minutes earlier related tails worth most lanes : List ℕ) (jobs 
       go true e b = either (eqb-true _ _ e) (bit same x) refl (sym (bit-or same tried x) ∙ b)
       go false e b = by-tried b
 
-  pub settled-more : SettledSo S target (w ++ (job ∷ [])) (set by job tried)
+  settled-more : SettledSo S target (w ++ (job ∷ [])) (set by job tried)
       (settledNow same tried (getD at job 0) (part .last))
   settled-more = record {
     size = length-set by job tried ∙ s .settled .size;
@@ -197,18 +203,44 @@ module _ (need minutes earlier related tails worth most lanes : List ℕ) (jobs 
       go : (u : List ℕ) (i : ℕ) (q : List ℕ) (x : ℕ) → x < jobs → bit (getD (set by job tried) i 0) x ≡ true
           → ((w ≡ u) × (job ≡ i)) ⊎ ((p : List ℕ) × (w ≡ u ++ (i ∷ p))) → SettledAt S target u i x
       go u i q x m b (inl (e, j)) =
-          let here = getD-set-same by job tried 0 (omega (arith, s .settled .size, s .known .fit .few)) in
+          let here = getD-set-same by job tried 0 (omega (arith, s .settled .size, s .going .known .fit .few)) in
           let t : bit tried x ≡ true = ap (λ (y : ℕ). bit y x) (sym here ∙ ap (λ (k : ℕ). getD (set by job tried) k 0) j) ∙ b in
           subst (λ (v : List ℕ). SettledAt S target v i x) e (subst (λ (k : ℕ). SettledAt S target w k x) j (settled-here x m t))
       go u i q x m b (inr (p, e)) =
           s .settled .each u i p x e m
           (ap (λ (y : ℕ). bit y x) (sym (getD-set-other by job i tried 0 (not-job u i p e))) ∙ b)
 
--- what is settled of the longer word is settled of the shorter one
-pub settled-less : {S : Sheet} {target : ℕ} (w : List ℕ) (j : ℕ) {by by′ : List ℕ} {same same′ : ℕ} → SettledSo S target w by same
-    → SettledSo S target (w ++ (j ∷ [])) by′ same′ → SettledSo S target w by′ same
-settled-less w j s t = record {
-  size = t .size;
-  each = λ u i q x e. t .each u i (q ++ (j ∷ [])) x (ap (λ (v : List ℕ). v ++ (j ∷ [])) e ∙ append-assoc u (i ∷ q) (j ∷ []));
-  same-start = s .same-start;
-}
+  pub choice-placeable : Placeable part job (getD at job 0) (getD need job 0) (getD minutes job 0) modules
+  choice-placeable = child-placeable (s .going .known) l start low
+
+  -- ---- the part-plan with the job
+
+  module _ {child : Part} (placed : Placed part job (getD at job 0) (getD need job 0) (getD minutes job 0) modules child) where
+    pub choice-fewer : suc (ones (child .unplaced)) ≡ ones (part .unplaced)
+    choice-fewer = child-fewer (s .going .known) l start low placed
+
+    pub choice-word : wordOf child ≡ w ++ (job ∷ [])
+    choice-word = child-word (s .going .known) l start low placed
+
+    pub choice-searching : Searching need minutes earlier related tails worth most lanes jobs modules child (set by job tried)
+        (settledNow same tried (getD at job 0) (part .last)) target memory
+    choice-searching = record {
+      going = record {
+        low = s .going .low;
+        known = child-known (s .going .known) l start low placed;
+        tabled = s .going .tabled;
+        remembered = s .going .remembered;
+      };
+      settled = rw choice-word settled-more;
+    }
+
+    -- what is settled of the longer word is settled of the shorter one
+    pub settled-less : {by′ : List ℕ} {same′ : ℕ} → SettledSo S target (wordOf child) by′ same′ → SettledSo S target w by′ same
+    settled-less {by′} {same′} h =
+        let longer : SettledSo S target (w ++ (job ∷ [])) by′ same′ = rw choice-word at h in
+        record {
+          size = longer .size;
+          each = λ u i q x e. longer .each u i (q ++ (job ∷ [])) x
+              (ap (λ (v : List ℕ). v ++ (job ∷ [])) e ∙ append-assoc u (i ∷ q) (job ∷ []));
+          same-start = s .settled .same-start;
+        }

@@ -46,17 +46,16 @@ module _ {need minutes earlier related tails worth most lanes : List ℕ} {jobs 
       let short = start-short need minutes earlier jobs modules (g .known .fit) part (wordOf part) (g .known .is) j r in
       absurd (omega (arith, start .here r))
 
-  pub place-enter : (low : s < 65535) (child : Part) → Placed part j s (getD need j 0) (getD minutes j 0) modules child
+  pub place-enter : (low : s < 65535) {child : Part} → Placed part j s (getD need j 0) (getD minutes j 0) modules child
       → Searching need minutes earlier related tails worth most lanes jobs modules child (replicate 20 0) 0 target memory
-  place-enter low child placed = record {
-    low = g .low;
-    known = child-known need minutes earlier jobs modules part (g .known) j l s start low child placed;
-    chains = g .chains;
-    related-is = g .related-is;
-    weighted = g .weighted;
-    laned = g .laned;
+  place-enter low {child} placed = record {
+    going = record {
+      low = g .low;
+      known = child-known (g .known) l start low placed;
+      tabled = g .tabled;
+      remembered = g .remembered;
+    };
     settled = none-settled (sheetOf need minutes earlier jobs modules) target (wordOf child);
-    remembered = g .remembered;
   }
 
 -- ---- all jobs below one
@@ -220,7 +219,7 @@ module _ {need minutes earlier related tails worth most lanes : List ℕ} {jobs 
       → Standing need minutes earlier related tails worth most lanes jobs modules next r memory′ (k + 1)
   stands-next {r} memory′ q m {j} e {next} known word placed = record {
     inside = omega arith;
-    going = record { low = q .lowest .is .low; known = known; chains = h .going .chains; related-is = h .going .related-is; weighted = h .going .weighted; laned = h .going .laned; remembered = m };
+    going = record { low = q .lowest .is .low; known = known; tabled = h .going .tabled; remembered = m };
     count = omega (arith, h .count);
     placing = subst (λ (v : List ℕ). Placing (sheetOf need minutes earlier jobs modules) v r) same q;
   }

@@ -14,7 +14,7 @@ use Rattle.schedule.specs.Plan.{Sheet, finish}
 use Rattle.schedule.specs.ListPlan.{Order, partOf}
 use Rattle.schedule.specs.TieRule.{endOf}
 use Rattle.schedule.proofs.Places.{CannotBeat}
-use Rattle.schedule.proofs.Cuts.{cannot-beat-less, ahead-cut, NoneBefore}
+use Rattle.schedule.proofs.Cuts.{ahead-cut, NoneBefore}
 use Rattle.tables.specs.Tables.{sheetOf}
 use Rattle.placement.specs.declared.Part.{Part}
 use Rattle.placement.specs.Part.{wordOf}
@@ -24,16 +24,15 @@ use Rattle.memory.proofs.Slots.{zero-sets}
 use Rattle.candidates.specs.Candidates.{Known}
 use Rattle.search.specs.Search.{StandsFor, Remembered}
 
--- the best so far only falls
-pub remembered-less : (S : Sheet) (m : List ℕ) (e f : ℕ) → f ≤ e → Remembered S m e → Remembered S m f
-unfolding Remembered
-remembered-less S m e f l h k i p = let v = h k i p in (v .0, v .1, cannot-beat-less S e f (v .0) l (v .2))
-
 -- another minute before which no order ends that does not end before the first
-pub remembered-until : (S : Sheet) (m : List ℕ) (e f : ℕ) → ((o : List ℕ) → Order S o → e ≤ endOf S o → f ≤ endOf S o)
+pub remembered-until : {S : Sheet} (m : List ℕ) {e f : ℕ} → ((o : List ℕ) → Order S o → e ≤ endOf S o → f ≤ endOf S o)
     → Remembered S m e → Remembered S m f
 unfolding Remembered CannotBeat
-remembered-until S m e f until h k i p = let v = h k i p in (v .0, v .1, λ o d b. until o d (v .2 o d b))
+remembered-until m until h k i p = let v = h k i p in (v .0, v .1, λ o d b. until o d (v .2 o d b))
+
+-- the best so far only falls
+pub remembered-less : (S : Sheet) (m : List ℕ) {e f : ℕ} → f ≤ e → Remembered S m e → Remembered S m f
+remembered-less S m l = remembered-until m (λ o d b. omega arith)
 
 -- a memory that is all zero remembers nothing
 pub remembered-none : (S : Sheet) (m : List ℕ) (n e : ℕ) → m ≡ replicate n 0 → Remembered S m e
@@ -50,7 +49,7 @@ some-ones : (x : ℕ) → 0 < ones x → 0 < x
 some-ones ℕ.zero h = absurd (omega (arith, ones-none))
 some-ones (suc x) h = omega arith
 
-module _ (need minutes earlier : List ℕ) (jobs modules : ℕ) (part : Part) (known : Known need minutes earlier jobs modules part) where
+module _ {need minutes earlier : List ℕ} {jobs modules : ℕ} {part : Part} (known : Known need minutes earlier jobs modules part) where
   abbrev S : Sheet
   S = sheetOf need minutes earlier jobs modules
 
@@ -58,10 +57,10 @@ module _ (need minutes earlier : List ℕ) (jobs modules : ℕ) (part : Part) (k
   w = wordOf part
 
   -- one more part-plan that cannot beat e
-  pub remembered-adds : (m m′ : List ℕ) (e : ℕ) → Remembered S m e → CannotBeat S e w
+  pub remembered-adds : {m m′ : List ℕ} (e : ℕ) → Remembered S m e → CannotBeat S e w
       → Adds m m′ jobs (part .ends) (part .unplaced) (part .last) → Remembered S m′ e
   unfolding Remembered
-  remembered-adds m m′ e h c a k i p = go (a .each k i′)
+  remembered-adds {m} {m′} e h c a k i p = go (a .each k i′)
     where
       i′ : k < entries m
       i′ = rw (a .size) at i
@@ -83,10 +82,10 @@ module _ (need minutes earlier : List ℕ) (jobs modules : ℕ) (part : Part) (k
       )
 
   -- a remembered part-plan is ahead from a minute on, before which no job that may come next starts
-  pub hit-cut : (m : List ℕ) (e l : ℕ) → 0 < ones (part .unplaced) → NoneBefore S (known .fit .narrow) w (known .is .follows) l
+  pub hit-cut : {m : List ℕ} {l : ℕ} (e : ℕ) → 0 < ones (part .unplaced) → NoneBefore S (known .fit .narrow) w (known .is .follows) l
       → Remembered S m e → Hit m jobs (part .ends) (part .unplaced) l → CannotBeat S e w
   unfolding Remembered
-  hit-cut m e l pos none h t =
+  hit-cut {m} {l} e pos none h t =
       let x = entryAt m (t .at) in
       let q : x .set ≡ part .unplaced = t .ahead .set in
       let r = h (t .at) (t .inside) (rw q (some-ones (part .unplaced) pos)) in

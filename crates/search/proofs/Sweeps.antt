@@ -26,20 +26,20 @@ use Rattle.placement.specs.Part.{wordOf}
 use Rattle.placement.proofs.Parts.{start-short}
 use Rattle.candidates.specs.declared.Choice.{Choice}
 use Rattle.relations.specs.Relations.{rowAt, Related}
-use Rattle.candidates.specs.Candidates.{Known, EachStart, ChoiceOf}
+use Rattle.candidates.specs.Candidates.{Known, JobStarts, ChoiceOf}
 use Rattle.branching.specs.Branching.{Alone, ComesBefore, ToTry, Trying}
 use Rattle.candidates.proofs.Starting.{started}
 use Rattle.listing.specs.declared.Found.{Found}
 use Rattle.search.specs.Search.{Fails, Outcome, noneFound, TriedSo}
 
 -- no order
-pub none-outcome : (S : Sheet) (target : ℕ) (v : List ℕ) → Fails S target v → Outcome S target v noneFound
-none-outcome S target v h = record { size = length-replicate {A = ℕ} 20 0; hit = λ e. clash false e refl; miss = λ e. h }
+pub none-outcome : {S : Sheet} {target : ℕ} {v : List ℕ} → Fails S target v → Outcome S target v noneFound
+none-outcome h = record { size = length-replicate {A = ℕ} 20 0; hit = λ e. clash false e refl; miss = λ e. h }
 
 -- an order that begins with v and a job more begins with v
-pub found-below : (S : Sheet) (target : ℕ) (v : List ℕ) (j : ℕ) (r : Found) → Outcome S target (v ++ (j ∷ [])) r → r .hit ≡ true
+pub found-below : {S : Sheet} {target : ℕ} (v : List ℕ) (j : ℕ) {r : Found} → Outcome S target (v ++ (j ∷ [])) r → r .hit ≡ true
     → Outcome S target v r
-found-below S target v j r h e =
+found-below v j {r} h e =
     let f = h .hit e in
     record {
       size = h .size;
@@ -63,8 +63,17 @@ pub record Sweep (need minutes earlier : List ℕ) (jobs modules : ℕ) (part : 
       (wordOf part) .placed) j ≡ true
       → Fails (sheetOf need minutes earlier jobs modules) target (wordOf part ++ (j ∷ []))
 
-module _ (need minutes earlier : List ℕ) (jobs modules : ℕ) (part : Part) (known : Known need minutes earlier jobs modules part)
-    (target : ℕ) (at : List ℕ) (starts : EachStart need minutes earlier jobs modules part at) (first : ℕ) where
+-- the chosen job is in its set
+pub chosen-in : {at : List ℕ} {left jobs : ℕ} {c : Choice} → ChoiceOf at left jobs c → c .start < 65535
+    → suc (ones (withoutBit left (c .job))) ≡ ones left
+chosen-in {left = left} {c = c} h l = ones-without left (c .job) (h .some l .1 .0)
+
+-- while jobs are left, the choice has a start
+pub chosen-low : {at : List ℕ} {left jobs : ℕ} {c : Choice} → ChoiceOf at left jobs c → ¬ (c .start ≡ 65535) → c .start < 65535
+chosen-low h n = omega (arith, h .low, n)
+
+module _ {need minutes earlier : List ℕ} {jobs modules : ℕ} {part : Part} (known : Known need minutes earlier jobs modules part)
+    {at : List ℕ} {least : ℕ} (starts : JobStarts need minutes earlier jobs modules part at least) where
   abbrev S : Sheet
   S = sheetOf need minutes earlier jobs modules
 
@@ -74,23 +83,20 @@ module _ (need minutes earlier : List ℕ) (jobs modules : ℕ) (part : Part) (k
   abbrev P : PartPlan
   P = partOf S w
 
-  abbrev Now : ℕ → ℕ → Choice → Type 0
-  Now = Sweep need minutes earlier jobs modules part target at first
+  abbrev Now : ℕ → ℕ → ℕ → ℕ → Choice → Type 0
+  Now target first = Sweep need minutes earlier jobs modules part target at first
 
-  pub sweep-first : (c : Choice) → ChoiceOf at first jobs c → Now first 0 c
-  sweep-first c h = record {
+  pub sweep-first : {target first : ℕ} {c : Choice} → ChoiceOf at first jobs c → Now target first first 0 c
+  sweep-first {target} {first} h = record {
     choice = h;
     before = λ x m b. clash (bit 0 x) b (bit-none x);
     gone = λ j l a b. clash (bit first j) a b;
   }
 
-  -- the chosen job is in its set
-  pub chosen-in : (left : ℕ) (c : Choice) → ChoiceOf at left jobs c → c .start < 65535 → suc (ones (withoutBit left (c .job))) ≡ ones left
-  chosen-in left c h l = ones-without left (c .job) (h .some l .1 .0)
-
-  pub sweep-next : (left tried : ℕ) (c d : Choice) → Now left tried c → c .start < 65535 → Fails S target (w ++ (c .job ∷ []))
-      → ChoiceOf at (withoutBit left (c .job)) jobs d → Now (withoutBit left (c .job)) (withBit tried (c .job)) d
-  sweep-next left tried c d s l f h = record {
+  pub sweep-next : {target first left tried : ℕ} {c d : Choice} → Now target first left tried c → c .start < 65535
+      → Fails S target (w ++ (c .job ∷ [])) → ChoiceOf at (withoutBit left (c .job)) jobs d
+      → Now target first (withoutBit left (c .job)) (withBit tried (c .job)) d
+  sweep-next {target} {first} {left} {tried} {c} {d} s l f h = record {
     choice = h;
     before = λ x m b. earlier-ones x m b (eqb x
         (c .job)) refl;
@@ -128,21 +134,22 @@ module _ (need minutes earlier : List ℕ) (jobs modules : ℕ) (part : Part) (k
           and-true true y = y
           and-true false y = refl
 
-  pub sweep-all : (left tried : ℕ) (c : Choice) → Now left tried c → c .start ≡ 65535
+  pub sweep-all : {target first left tried : ℕ} {c : Choice} → Now target first left tried c → c .start ≡ 65535
       → (j : ℕ) → j < jobs → bit first j ≡ true → ready S (P .placed) j ≡ true → Fails S target (w ++ (j ∷ []))
-  sweep-all left tried c s e j l a r = go (true-or-false (bit left j))
+  sweep-all {target} {left = left} s e j l a r = go (true-or-false (bit left j))
     where
       go : (bit left j ≡ true) ⊎ (bit left j ≡ false) → Fails S target (w ++ (j ∷ []))
       go (inr b) = s .gone j l a b r
       go (inl b) =
           let short = start-short need minutes earlier jobs modules (known .fit) part w (known .is) j r in
-          absurd (omega (arith, s .choice .first j l b, starts j l .here r))
+          absurd (omega (arith, s .choice .first j l b, starts .each j l .here r))
 
   -- Where the jobs to be tried lead nowhere, no job does.
-  pub all-tried : (related : List ℕ) → Related need minutes earlier jobs modules related → ToTry minutes related at (part .unplaced) jobs first
+  pub all-tried : (target first : ℕ) (related : List ℕ) → Related need minutes earlier jobs modules related
+      → ToTry minutes related at (part .unplaced) jobs first
       → ((j : ℕ) → j < jobs → bit first j ≡ true → ready S (P .placed) j ≡ true → Fails S target (w ++ (j ∷ [])))
       → (j : ℕ) → j < jobs → ready S (P .placed) j ≡ true → Fails S target (w ++ (j ∷ []))
-  all-tried related is-related try h j l r = go (try j l (known .is .figures .set j l ∙ ap not (ready-says S (P .placed) j r .new)))
+  all-tried target first related is-related try h j l r = go (try j l (known .is .figures .set j l ∙ ap not (ready-says S (P .placed) j r .new)))
     where
       go : (bit first j ≡ true)
           ⊎ ((i : ℕ) × (i < jobs)
@@ -152,7 +159,7 @@ module _ (need minutes earlier : List ℕ) (jobs modules : ℕ) (part : Part) (k
       go (inr (i, m, (b, (low, before)))) = which before
         where
           ri : ready S (P .placed) i ≡ true
-          ri = started (starts i m) low
+          ri = started (starts .each i m) low
 
           -- the job and another unplaced one need more modules than there are
           apart : Alone related (part .unplaced) i → (x : ℕ) → x < jobs → P .placed x ≡ false → ¬ (x ≡ i) → modules < getD need i 0 + getD need x 0
@@ -164,24 +171,24 @@ module _ (need minutes earlier : List ℕ) (jobs modules : ℕ) (part : Part) (k
           which : ComesBefore minutes related at (part .unplaced) i j → Fails S target (w ++ (j ∷ []))
           which (inl e) =
               idle-cut S (known .fit .lasting) (known .fit .narrow) w (known .is .follows) i j ri
-              (omega (arith, starts i m .here ri, starts j l .here r)) (suc target) (h i m b ri)
+              (omega (arith, starts .each i m .here ri, starts .each j l .here r)) (suc target) (h i m b ri)
           which (inr (e, alone)) =
               alone-cut S (known .fit .lasting) (known .fit .narrow) w (known .is .follows) i j ri
-              (omega (arith, starts i m .here ri, starts j l .here r))
+              (omega (arith, starts .each i m .here ri, starts .each j l .here r))
               (apart alone) (suc target) (h i m b ri)
 
   -- what is known of the starts
-  pub trying : (least : ℕ) → ((j : ℕ) → j < jobs → least ≤ getD at j 0) → Trying minutes at least (part .unplaced) jobs
-  trying least low = record {
+  pub trying : Trying minutes at least (part .unplaced) jobs
+  trying = record {
     few = known .fit .few;
-    low = low;
+    low = starts .first;
     top = λ j l. top j l (true-or-false (ready S (P .placed) j));
-    inside = λ j l k. known .is .figures .set j l ∙ ap not (ready-says S (P .placed) j (started (starts j l) k) .new);
+    inside = λ j l k. known .is .figures .set j l ∙ ap not (ready-says S (P .placed) j (started (starts .each j l) k) .new);
     lasting = known .fit .lasting;
   }
     where
       top : (j : ℕ) → (l : j < jobs) → (ready S (P .placed) j ≡ true) ⊎ (ready S (P .placed) j ≡ false) → getD at j 0 ≤ 65535
       top j l (inl r) =
           let short = start-short need minutes earlier jobs modules (known .fit) part w (known .is) j r in
-          omega (arith, starts j l .here r)
-      top j l (inr r) = omega (arith, starts j l .none r)
+          omega (arith, starts .each j l .here r)
+      top j l (inr r) = omega (arith, starts .each j l .none r)

@@ -25,59 +25,57 @@ use Rattle.listing.proofs.Listing.{whole, end-is, word-is, finished-order}
 use Rattle.search.proofs.Recalls.{remembered-adds, hit-cut}
 use Rattle.search.specs.Search.{Remembered, Fails, Outcome}
 
-module _ (need minutes earlier : List ℕ) (jobs modules : ℕ) where
+module _ {need minutes earlier : List ℕ} {jobs modules : ℕ} {part : Part} (known : Known need minutes earlier jobs modules part) where
   abbrev S : Sheet
   S = sheetOf need minutes earlier jobs modules
 
-  module _ (part : Part) (known : Known need minutes earlier jobs modules part) where
-    abbrev w : List ℕ
-    w = wordOf part
+  abbrev w : List ℕ
+  w = wordOf part
 
-    abbrev P : PartPlan
-    P = theoryPart need minutes earlier jobs modules part
+  abbrev P : PartPlan
+  P = theoryPart need minutes earlier jobs modules part
 
-    size : length w + ones (part .unplaced) ≡ jobs
-    size = left-count need minutes earlier jobs modules (known .fit) part w (known .is)
+  size : length w + ones (part .unplaced) ≡ jobs
+  size = left-count need minutes earlier jobs modules (known .fit) part w (known .is)
 
-    -- ---- every job is placed
+  -- ---- every job is placed
 
-    module _ (z : ones (part .unplaced) ≡ 0) where
-      pub visit-leaf : (target : ℕ) → Outcome S target w (finishedAs jobs (part .ends) (part .order) target)
-      unfolding finishedAs CannotBeat
-      visit-leaf target = record {
-        size = known .is .figures .order-length;
-        hit = λ h. record {
-          order = finished-order known z target .order;
-          begins = ([], word-is known z ∙ sym (append-nil w));
-          end = finished-order known z target .end;
-          within = ltb-false target (largest jobs (λ i. getD (part .ends) i 0)) (not-true _ h);
-        };
-        miss = λ h o d b. rw (alone o d b) (omega (
-          arith,
-          end-is known z,
-          ltb-true target (largest jobs (λ i. getD (part .ends) i 0))
-              (not-false _ h),
-        ));
-      }
-        where
-          alone : (o : List ℕ) → Order S o → Begins w o → o ≡ w
-          alone o d ([], e) = e ∙ append-nil w
-          alone o d (j ∷ p, e) = absurd (omega (arith, d .all, whole known z .all, ap length e, length-append w (j ∷ p)))
+  module _ (z : ones (part .unplaced) ≡ 0) where
+    pub visit-leaf : (target : ℕ) → Outcome S target w (finishedAs jobs (part .ends) (part .order) target)
+    unfolding finishedAs CannotBeat
+    visit-leaf target = record {
+      size = known .is .figures .order-length;
+      hit = λ h. record {
+        order = finished-order known z target .order;
+        begins = ([], word-is known z ∙ sym (append-nil w));
+        end = finished-order known z target .end;
+        within = ltb-false target (largest jobs (λ i. getD (part .ends) i 0)) (not-true _ h);
+      };
+      miss = λ h o d b. rw (alone o d b) (omega (
+        arith,
+        end-is known z,
+        ltb-true target (largest jobs (λ i. getD (part .ends) i 0))
+            (not-false _ h),
+      ));
+    }
+      where
+        alone : (o : List ℕ) → Order S o → Begins w o → o ≡ w
+        alone o d ([], e) = e ∙ append-nil w
+        alone o d (j ∷ p, e) = absurd (omega (arith, d .all, whole known z .all, ap length e, length-append w (j ∷ p)))
 
-    -- ---- a part-plan that was remembered
+  -- ---- a part-plan that was remembered
 
-    pub recall-cut : (at : List ℕ) (least : ℕ) → JobStarts need minutes earlier jobs modules part at least → (e : ℕ) (m : List ℕ)
-        → 0 < ones (part .unplaced) → Remembered S m e → Hit m jobs (part .ends) (part .unplaced) least → CannotBeat S e w
-    recall-cut at least starts e m pos = hit-cut need minutes earlier jobs modules part known m e least pos
-        (none-before need minutes earlier jobs modules part known at least starts)
+  pub recall-cut : {at : List ℕ} {least : ℕ} → JobStarts need minutes earlier jobs modules part at least → (e : ℕ) {m : List ℕ}
+      → 0 < ones (part .unplaced) → Remembered S m e → Hit m jobs (part .ends) (part .unplaced) least → CannotBeat S e w
+  recall-cut starts e pos = hit-cut known e pos (none-before known starts)
 
-    -- ---- all children
+  -- ---- all children
 
-    pub visit-all : (target : ℕ) → 0 < ones (part .unplaced)
-        → ((j : ℕ) → j < jobs → ready S (P .placed) j ≡ true → Fails S target (w ++ (j ∷ []))) → Fails S target w
-    visit-all target pos h =
-        children-cut S (suc target) w (omega (arith, size)) (λ j r. h j (ready-says S (P .placed) j r .job) r)
+  pub visit-all : (target : ℕ) → 0 < ones (part .unplaced)
+      → ((j : ℕ) → j < jobs → ready S (P .placed) j ≡ true → Fails S target (w ++ (j ∷ []))) → Fails S target w
+  visit-all target pos h =
+      children-cut S (suc target) w (omega (arith, size)) (λ j r. h j (ready-says S (P .placed) j r .job) r)
 
-    pub visit-remember : (target : ℕ) (m m′ : List ℕ) → Remembered S m (suc target) → Fails S target w
-        → Adds m m′ jobs (part .ends) (part .unplaced) (part .last) → Remembered S m′ (suc target)
-    visit-remember target m m′ = remembered-adds need minutes earlier jobs modules part known m m′ (suc target)
+  pub visit-remember : (target : ℕ) {m m′ : List ℕ} → Remembered S m (suc target) → Fails S target w
+      → Adds m m′ jobs (part .ends) (part .unplaced) (part .last) → Remembered S m′ (suc target)
+  visit-remember target = remembered-adds known (suc target)

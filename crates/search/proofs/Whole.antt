@@ -61,15 +61,14 @@ module _ (need minutes earlier related tails worth most lanes : List ℕ) (jobs 
   pub enter : {best : Found} {memory : List ℕ} (target : ℕ) → Lowering need minutes earlier related tails worth most lanes jobs modules best memory
       → target < best .end
       → Searching need minutes earlier related tails worth most lanes jobs modules (firstPart need minutes jobs modules) (replicate 20 0) 0 target memory
-  enter {best} {memory} target s l = record {
-    low = omega (arith, s .best-is .low);
-    known = first-known need minutes earlier jobs modules (s .fit);
-    chains = s .chains;
-    related-is = s .related-is;
-    weighted = s .weighted;
-    laned = s .laned;
+  enter target s l = record {
+    going = record {
+      low = omega (arith, s .best-is .low);
+      known = first-known need minutes earlier jobs modules (s .fit);
+      tabled = s .tabled;
+      remembered = remembered-less S _ l (s .remembered);
+    };
     settled = none-settled S target _;
-    remembered = remembered-less S memory (best .end) (suc target) l (s .remembered);
   }
 
   pub lower-hit : {best r : Found} {memory : List ℕ} (memory′ : List ℕ) {v : List ℕ} (target : ℕ)
@@ -83,7 +82,7 @@ module _ (need minutes earlier related tails worth most lanes : List ℕ) (jobs 
           hit = λ _. omega (arith, f .within);
           miss = λ h. clash (r .hit) e h;
         },
-        remembered-less S memory′ (suc target) (r .end) (omega (arith, f .within)) m,
+        remembered-less S memory′ (omega (arith, f .within)) m,
       )
 
   -- no order ends between the target and the best
@@ -121,7 +120,7 @@ module _ (need minutes earlier related tails worth most lanes : List ℕ) (jobs 
   pub turn-next : {best r : Found} {memory : List ℕ} (memory′ : List ℕ) → Lowering need minutes earlier related tails worth most lanes jobs modules best memory
       → Lowered S best r → Remembered S memory′ (r .end) → Turn r memory′
   turn-next {best} {r} memory′ s l m = record {
-    state = record { fit = s .fit; chains = s .chains; related-is = s .related-is; weighted = s .weighted; laned = s .laned; best-is = l .is; remembered = m };
+    state = record { fit = s .fit; tabled = s .tabled; best-is = l .is; remembered = m };
     done = λ e. l .miss e .1;
   }
 

@@ -79,17 +79,28 @@ pub record SettledSo (S : Sheet) (target : ℕ) (v by : List ℕ) (same : ℕ) :
       → SettledAt S target u i x
   pub same-start : (x : ℕ) → x < S .jobs → bit same x ≡ true → SameStart S target v x
 
-pub record Searching (need minutes earlier related tails worth most lanes : List ℕ) (jobs modules : ℕ) (part : Part) (by : List ℕ)
-    (same target : ℕ) (memory : List ℕ)
-    : Type 0 where
-  pub low : target < 65535
-  pub known : Known need minutes earlier jobs modules part
+-- the tables are those of the sheet
+pub record Tabled (need minutes earlier related tails worth most lanes : List ℕ) (jobs modules : ℕ) : Type 0 where
   pub chains : Tails (sheetOf need minutes earlier jobs modules) tails
   pub related-is : Related need minutes earlier jobs modules related
   pub weighted : Weighted need minutes jobs modules worth most
   pub laned : Laned need minutes jobs modules lanes
-  pub settled : SettledSo (sheetOf need minutes earlier jobs modules) target (wordOf part) by same
+
+-- an order that ends by the target is looked for from this part-plan on
+pub record Going (need minutes earlier related tails worth most lanes : List ℕ) (jobs modules : ℕ) (part : Part) (target : ℕ)
+    (memory : List ℕ)
+    : Type 0 where
+  pub low : target < 65535
+  pub known : Known need minutes earlier jobs modules part
+  pub tabled : Tabled need minutes earlier related tails worth most lanes jobs modules
   pub remembered : Remembered (sheetOf need minutes earlier jobs modules) memory (suc target)
+
+-- the same, where jobs were settled
+pub record Searching (need minutes earlier related tails worth most lanes : List ℕ) (jobs modules : ℕ) (part : Part) (by : List ℕ)
+    (same target : ℕ) (memory : List ℕ)
+    : Type 0 where
+  pub going : Going need minutes earlier related tails worth most lanes jobs modules part target memory
+  pub settled : SettledSo (sheetOf need minutes earlier jobs modules) target (wordOf part) by same
 
 -- the jobs of this set may come next, start no later than `start`, and lead to no order that ends by the target
 abbrev pub TriedSo : List ℕ → List ℕ → List ℕ → ℕ → ℕ → Part → ℕ → List ℕ → ℕ → ℕ → Type 0
@@ -111,12 +122,10 @@ abbrev pub keptAs : Found → Found
 keptAs best = record { hit = false; end = best .end; order = best .order }
 
 -- the tables, an order, and what is remembered of orders that end earlier
-pub record Lowering (need minutes earlier related tails worth most lanes : List ℕ) (jobs modules : ℕ) (best : Found) (memory : List ℕ) : Type 0 where
+pub record Lowering (need minutes earlier related tails worth most lanes : List ℕ) (jobs modules : ℕ) (best : Found) (memory : List ℕ)
+    : Type 0 where
   pub fit : Fit need minutes jobs modules
-  pub chains : Tails (sheetOf need minutes earlier jobs modules) tails
-  pub related-is : Related need minutes earlier jobs modules related
-  pub weighted : Weighted need minutes jobs modules worth most
-  pub laned : Laned need minutes jobs modules lanes
+  pub tabled : Tabled need minutes earlier related tails worth most lanes jobs modules
   pub best-is : OrderOf (sheetOf need minutes earlier jobs modules) best
   pub remembered : Remembered (sheetOf need minutes earlier jobs modules) memory (best .end)
 
@@ -130,16 +139,6 @@ pub record Lowered (S : Sheet) (best r : Found) : Type 0 where
 pub record Lowest (S : Sheet) (r : Found) : Type 0 where
   pub is : OrderOf S r
   pub least : (o : List ℕ) → Order S o → r .end ≤ endOf S o
-
--- the same, from a part-plan on
-pub record Going (need minutes earlier related tails worth most lanes : List ℕ) (jobs modules : ℕ) (part : Part) (target : ℕ) (memory : List ℕ) : Type 0 where
-  pub low : target < 65535
-  pub known : Known need minutes earlier jobs modules part
-  pub chains : Tails (sheetOf need minutes earlier jobs modules) tails
-  pub related-is : Related need minutes earlier jobs modules related
-  pub weighted : Weighted need minutes jobs modules worth most
-  pub laned : Laned need minutes jobs modules lanes
-  pub remembered : Remembered (sheetOf need minutes earlier jobs modules) memory (suc target)
 
 -- an order that ends first and begins with the jobs w, before which nothing ends as early
 pub record Placing (S : Sheet) (w : List ℕ) (r : Found) : Type 0 where

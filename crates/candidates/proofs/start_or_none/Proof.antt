@@ -25,14 +25,14 @@ next-start-requires c κs =
 returns : tie.Need-returns
 returns c =
     let start = c .before .before .before .before .before .before .before in
-    job-start _ _ _ _ _ _ (start .pre .0) _ (start .pre .1) _ (c .next-start .ensures)
+    job-start (start .pre .0) (start .pre .1) (c .next-start .ensures)
 
 returns-2 : tie.Need-returns-2
 returns-2 c =
     let start = c .before .before in
     let a = start .args in
     let placed = sym (c .before .test32 .ensures) ∙ c .if1 .left in
-    job-start _ _ _ _ _ _ (start .pre .0) _ (start .pre .1) _
+    job-start (start .pre .0) (start .pre .1)
     (inr (ap (λ x. x && eqb (bitAnd (getD (a .earlier .now) (a .j) 0) (a .t6 .unplaced)) 0) placed, refl))
 
 pub start-or-none-spec : {M : Type 1} → statement M

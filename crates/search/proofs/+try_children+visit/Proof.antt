@@ -4,17 +4,16 @@ use Prim.Native.Nat.{ℕ, suc, _+_, _*_, _<_}
 use native.Mathlib.Omega.{arith}
 use native.Mathlib.Nat.{pos-of-ne-zero}
 use lib.Count.{ones}
-use lib.ListN.{length, getD, take}
+use lib.ListN.{length, take}
 use Rattle.tables.specs.Tables.{sheetOf}
 use Rattle.placement.specs.Part.{partWith}
 use Rattle.candidates.proofs.Starting.{job-starts, starts-asked}
-use Rattle.candidates.proofs.Children.{child-placeable, child-fewer, child-known, child-word}
 use Rattle.bounds.proofs.Cuts.{bounding, hopeless-cut}
 use Rattle.search.specs.Search.{SettledSo, Remembered}
 use Rattle.search.proofs.Turns.{visit-leaf, recall-cut, visit-all, visit-remember}
 use Rattle.relations.proofs.Steps.{one-less}
-use Rattle.search.proofs.Passing.{passed-cut, settled-more, settled-less}
-use Rattle.search.proofs.Sweeps.{none-outcome, found-below, Sweep, sweep-first, chosen-in, sweep-next, sweep-all, all-tried, trying}
+use Rattle.search.proofs.Passing.{passed-cut, choice-placeable, choice-fewer, choice-word, choice-searching, settled-less}
+use Rattle.search.proofs.Sweeps.{none-outcome, found-below, Sweep, sweep-first, chosen-in, chosen-low, sweep-next, sweep-all, all-tried, trying}
 use borrow.Fn.Kinds.{In}
 use borrow.Fn.PlainCycle.{Measures, is, falls, and}
 use Rattle.search.proofs.try_children.Reads as try-children
@@ -107,19 +106,19 @@ visit-claims t = (
 try-children-mul-start : (t : ℕ) → try-children-lts.Need-mul-start (try-children-claims t) (try-children-at t) try-children.Post
 try-children-mul-start t c =
     let p = c .before .pre .1 in
-    record { fits = omega (arith, p .1 .inside, p .0 .known .fit .few) }
+    record { fits = omega (arith, p .1 .inside, p .0 .going .known .fit .few) }
 
 try-children-element-copy-out-start : (t : ℕ)
     → try-children-lts.Need-element-copy-out-start (try-children-claims t) (try-children-at t) try-children.Post
 try-children-element-copy-out-start t c =
     let p = c .before .pre .1 in
-    omega (arith, p .1 .inside, p .0 .known .fit .few)
+    omega (arith, p .1 .inside, p .0 .going .known .fit .few)
 
 try-children-passed-over-requires : (t : ℕ)
     → try-children-lts.Need-passed-over-requires (try-children-claims t) (try-children-at t) try-children.Post
 try-children-passed-over-requires t c κs =
     let p = c .before .before .before .pre .1 in
-    (p .0 .known .fit .few, omega (arith, p .1 .inside, p .0 .known .fit .few))
+    (p .0 .going .known .fit .few, omega (arith, p .1 .inside, p .0 .going .known .fit .few))
 
 try-children-none-found-requires : (t : ℕ)
     → try-children-lts.Need-none-found-requires (try-children-claims t) (try-children-at t) try-children.Post
@@ -127,53 +126,47 @@ try-children-none-found-requires t c κs = tt
 
 try-children-returns : (t : ℕ) → try-children-lts.Need-returns (try-children-claims t) (try-children-at t) try-children.Post
 try-children-returns t c =
-    let start = c .before .before .before .before .before .before in
-    let a = start .args in
-    let p = start .pre .1 in
-    let cut = passed-cut _ _ _ _ _ _ _ _ _ _ _ _ _ _ _ _ _ _ (p .0) (p .1) (c .before .before .passed-over .ensures (c .before .if1 .taken)) in
-    (rw (c .none-found .ensures) (none-outcome _ (a .target) _ cut), (p .0 .settled, p .0 .remembered))
+    let p = c .before .before .before .before .before .before .pre .1 in
+    let cut = passed-cut (p .0) (p .1) (c .before .before .passed-over .ensures (c .before .if1 .taken)) in
+    (rw (c .none-found .ensures) (none-outcome cut), (p .0 .settled, p .0 .going .remembered))
 
 try-children-mul-settled : (t : ℕ) → try-children-lts.Need-mul-settled (try-children-claims t) (try-children-at t) try-children.Post
 try-children-mul-settled t c =
     let p = c .before .before .before .before .before .pre .1 in
-    record { fits = omega (arith, p .1 .inside, p .0 .known .fit .few) }
+    record { fits = omega (arith, p .1 .inside, p .0 .going .known .fit .few) }
 
 try-children-element-write-settled : (t : ℕ)
     → try-children-lts.Need-element-write-settled (try-children-claims t) (try-children-at t) try-children.Post
 try-children-element-write-settled t c =
     let p = c .before .before .before .before .before .pre .1 in
-    omega (arith, p .1 .inside, p .0 .known .fit .few)
+    omega (arith, p .1 .inside, p .0 .going .known .fit .few)
 
 try-children-mul-with-job : (t : ℕ) → try-children-lts.Need-mul-with-job (try-children-claims t) (try-children-at t) try-children.Post
 try-children-mul-with-job t c =
     let p = c .before .before .before .before .before .pre .1 in
-    record { fits = omega (arith, p .1 .inside, p .0 .known .fit .few) }
+    record { fits = omega (arith, p .1 .inside, p .0 .going .known .fit .few) }
 
 try-children-element-copy-out-with-job : (t : ℕ)
     → try-children-lts.Need-element-copy-out-with-job (try-children-claims t) (try-children-at t) try-children.Post
 try-children-element-copy-out-with-job t c =
     let p = c .before .before .before .before .before .pre .1 in
-    omega (arith, p .1 .inside, p .0 .known .fit .few)
+    omega (arith, p .1 .inside, p .0 .going .known .fit .few)
 
 try-children-mul-with-job-2 : (t : ℕ) → try-children-lts.Need-mul-with-job-2 (try-children-claims t) (try-children-at t) try-children.Post
 try-children-mul-with-job-2 t c =
     let p = c .before .before .before .before .before .before .pre .1 in
-    record { fits = omega (arith, p .1 .inside, p .0 .known .fit .few) }
+    record { fits = omega (arith, p .1 .inside, p .0 .going .known .fit .few) }
 
 try-children-element-copy-out-with-job-2 : (t : ℕ)
     → try-children-lts.Need-element-copy-out-with-job-2 (try-children-claims t) (try-children-at t) try-children.Post
 try-children-element-copy-out-with-job-2 t c =
     let p = c .before .before .before .before .before .before .pre .1 in
-    omega (arith, p .1 .inside, p .0 .known .fit .few)
+    omega (arith, p .1 .inside, p .0 .going .known .fit .few)
 
 try-children-with-job-requires : (t : ℕ) → try-children-lts.Need-with-job-requires (try-children-claims t) (try-children-at t) try-children.Post
 try-children-with-job-requires t c κs =
-    let start = c .before .before .before .before .before .before .before in
-    let a = start .args in
-    let p = start .pre .1 in
-    child-placeable _ _ _ _ _ _ (p .0 .known) (a .job)
-    (p .1 .inside) (getD (a .at .now) (a .job) 0)
-    (p .1 .starts (a .job) (p .1 .inside)) (p .1 .may-come)
+    let p = c .before .before .before .before .before .before .before .pre .1 in
+    choice-placeable (p .0) (p .1)
 
 try-children-settled-now-requires : (t : ℕ)
     → try-children-lts.Need-settled-now-requires (try-children-claims t) (try-children-at t) try-children.Post
@@ -181,54 +174,21 @@ try-children-settled-now-requires t c κs = tt
 
 try-children-visit-requires : (t : ℕ) → try-children-lts.Need-visit-requires (try-children-claims t) (try-children-at t) try-children.Post
 try-children-visit-requires t c κs =
-    let start = c .before .before .before .before .before .before .before .before .before .before .before .before .before .before .before .before in
-    let a = start .args in
-    let p = start .pre .1 in
-    let known = p .0 .known in
-    let place = c .before .before .before .before .before .before .before .before .with-job in
-    let less = child-fewer _ _ _ _ _ _ known
-    (a .job) (p .1 .inside) (getD (a .at .now) (a .job) 0)
-    (p .1 .starts (a .job) (p .1 .inside)) (p .1 .may-come) (place .result) (place .ensures) in
-    let word = child-word _ _ _ _ _ _ known
-    (a .job) (p .1 .inside) (getD (a .at .now) (a .job) 0)
-    (p .1 .starts (a .job) (p .1 .inside)) (p .1 .may-come) (place .result) (place .ensures) in (
-      omega (arith, start .pre .0, less),
-      record {
-        low = p .0 .low;
-        known = child-known _ _ _ _ _ _ known
-            (a .job) (p .1 .inside) (getD (a .at .now) (a .job) 0)
-            (p .1 .starts (a .job) (p .1 .inside)) (p .1 .may-come) (place .result) (place .ensures);
-        chains = p .0 .chains;
-        related-is = p .0 .related-is;
-        weighted = p .0 .weighted;
-        laned = p .0 .laned;
-        settled = rw (c .before .settled-now .ensures, word) (settled-more _ _ _ _ _ _ _ _ _ _ _ _ _ _ _ _ _ _ (p .0) (p .1));
-        remembered = p .0 .remembered;
-      },
+    let p = c .before .before .before .before .before .before .before .before .before .before .before .before .before .before .before .before .pre .1 in
+    let child = c .before .before .before .before .before .before .before .before .with-job .ensures in (
+      omega (arith, c .before .before .before .before .before .before .before .before .before .before .before .before .before .before .before .before .pre .0, choice-fewer (p .0) (p .1) child),
+      rw (c .before .settled-now .ensures) (choice-searching (p .0) (p .1) child),
     )
 
 try-children-same-length : (t : ℕ) → try-children-lts.Need-same-length (try-children-claims t) (try-children-at t) try-children.Post
-try-children-same-length t c =
-    let visit = c .before .before .visit in
-    visit .kept .1 .1 .1 .1 .1 .1 .1 .1 .1 .1 .1 .1 .1 .1 .1 .1 .1 .1 .1 .1 .1 .1 .1 .0
+try-children-same-length t c = c .before .before .visit .kept .1 .1 .1 .1 .1 .1 .1 .1 .1 .1 .1 .1 .1 .1 .1 .1 .1 .1 .1 .1 .1 .1 .1 .0
 
 try-children-returns-2 : (t : ℕ) → try-children-lts.Need-returns-2 (try-children-claims t) (try-children-at t) try-children.Post
 try-children-returns-2 t c =
-    let start = c .before .before .before .before .before .before .before .before .before .before .before .before .before .before .before .before .before .before .before in
-    let a = start .args in
-    let p = start .pre .1 in
-    let known = p .0 .known in
-    let place = c .before .before .before .before .before .before .before .before .before .before .before .with-job in
-    let word = child-word _ _ _ _ _ _ known
-    (a .job) (p .1 .inside) (getD (a .at .now) (a .job) 0)
-    (p .1 .starts (a .job) (p .1 .inside)) (p .1 .may-come) (place .result) (place .ensures) in
-    let visit = c .before .before .visit in (
-      rw word at (visit .ensures .0),
-      (
-        settled-less (take (a .placed) (a .order .now)) (a .job) (p .0 .settled) (rw word at (visit .ensures .1 .0)),
-        visit .ensures .1 .1,
-      ),
-    )
+    let p = c .before .before .before .before .before .before .before .before .before .before .before .before .before .before .before .before .before .before .before .pre .1 in
+    let child = c .before .before .before .before .before .before .before .before .before .before .before .with-job .ensures in
+    let visit = c .before .before .visit .ensures in
+    (rw (choice-word (p .0) (p .1) child) at (visit .0), (settled-less (p .0) (p .1) child (visit .1 .0), visit .1 .1))
 
 abbrev visit-Inv-loop : visit-lts.InvT-loop
 visit-Inv-loop need minutes earlier related tails worth most lanes jobs modules ends until held order unplaced left last free placed gone settled₀ same target
@@ -244,38 +204,22 @@ visit-μ-loop need minutes earlier related tails worth most lanes jobs modules e
     ones untried
 
 visit-finished-requires : (t : ℕ) → visit-lts.Need-finished-requires (visit-claims t) (visit-at t) visit.Post visit-Inv-loop visit-μ-loop
-visit-finished-requires t c κs =
-    let p = c .before .before .pre .1 in
-    p .known .fit .few
+visit-finished-requires t c κs = c .before .before .pre .1 .going .known .fit .few
 
 visit-returns : (t : ℕ) → visit-lts.Need-returns (visit-claims t) (visit-at t) visit.Post visit-Inv-loop visit-μ-loop
 visit-returns t c =
-    let start = c .before .before .before in
-    let a = start .args in
-    let p = start .pre .1 in (
-      rw (c .finished .ensures) (visit-leaf _ _ _ _ _ _ (p .known) (c .before .if1 .taken) (a .target)),
-      (p .settled, p .remembered),
-    )
+    let p = c .before .before .before .pre .1 in
+    (rw (c .finished .ensures) (visit-leaf (p .going .known) (c .before .if1 .taken) (c .before .before .before .args .target)), (p .settled, p .going .remembered))
 
 visit-ready-starts-requires : (t : ℕ)
     → visit-lts.Need-ready-starts-requires (visit-claims t) (visit-at t) visit.Post visit-Inv-loop visit-μ-loop
-visit-ready-starts-requires t c κs =
-    let start = c .before .before in
-    let a = start .args in
-    starts-asked _ _ _ _ _ _ (start .pre .1 .known)
+visit-ready-starts-requires t c κs = starts-asked (c .before .before .pre .1 .going .known)
 
 visit-hopeless-requires : (t : ℕ) → visit-lts.Need-hopeless-requires (visit-claims t) (visit-at t) visit.Post visit-Inv-loop visit-μ-loop
 visit-hopeless-requires t c κs =
-    let start = c .before .before .before .before .before in
-    let a = start .args in
-    let p = start .pre .1 in
-    let r = c .before .before .ready-starts in
-    let starts = job-starts _ _ _ _ _ _ (p .known) (r .result .at)
-    (r .result .least) (r .ensures) in (
-      (p .known .fit, (p .weighted, p .laned)),
-      bounding _ _ _ (a .tails .now) _ _ _ (p .known)
-          (r .result .at) (r .result .least) starts (p .low),
-    )
+    let g = c .before .before .before .before .before .pre .1 .going in
+    let starts = job-starts (g .known) (c .before .before .ready-starts .ensures) in
+    ((g .known .fit, (g .tabled .weighted, g .tabled .laned)), bounding (g .known) starts (g .low))
 
 visit-none-found-requires : (t : ℕ)
     → visit-lts.Need-none-found-requires (visit-claims t) (visit-at t) visit.Post visit-Inv-loop visit-μ-loop
@@ -283,22 +227,15 @@ visit-none-found-requires t c κs = tt
 
 visit-returns-2 : (t : ℕ) → visit-lts.Need-returns-2 (visit-claims t) (visit-at t) visit.Post visit-Inv-loop visit-μ-loop
 visit-returns-2 t c =
-    let start = c .before .before .before .before .before .before .before .before in
-    let a = start .args in
-    let p = start .pre .1 in
-    let r = c .before .before .before .before .before .ready-starts in
-    let starts = job-starts _ _ _ _ _ _ (p .known) (r .result .at)
-    (r .result .least) (r .ensures) in
-    let cut = hopeless-cut _ _ _ (a .tails .now) _ _ _ (p .known)
-    (r .result .at) (r .result .least) starts (a .target) (p .chains)
-    (pos-of-ne-zero (c .before .before .before .before .before .before .if1 .left)) (c .before .before .hopeless .ensures
-    (c .before .if2 .taken)) in
-    (rw (c .none-found .ensures) (none-outcome _ (a .target) _ cut), (p .settled, p .remembered))
+    let a = c .before .before .before .before .before .before .before .before .args in
+    let p = c .before .before .before .before .before .before .before .before .pre .1 in
+    let known = p .going .known in
+    let cut = hopeless-cut known (job-starts known (c .before .before .before .before .before .ready-starts .ensures)) (a .tails .now) (a .target) (p .going .tabled .chains)
+    (pos-of-ne-zero (c .before .before .before .before .before .before .if1 .left)) (c .before .before .hopeless .ensures (c .before .if2 .taken)) in
+    (rw (c .none-found .ensures) (none-outcome cut), (p .settled, p .going .remembered))
 
 visit-recall-requires : (t : ℕ) → visit-lts.Need-recall-requires (visit-claims t) (visit-at t) visit.Post visit-Inv-loop visit-μ-loop
-visit-recall-requires t c κs =
-    let p = c .before .before .before .before .before .before .before .before .pre .1 in
-    p .known .fit .few
+visit-recall-requires t c κs = c .before .before .before .before .before .before .before .before .pre .1 .going .known .fit .few
 
 visit-none-found-requires-2 : (t : ℕ)
     → visit-lts.Need-none-found-requires-2 (visit-claims t) (visit-at t) visit.Post visit-Inv-loop visit-μ-loop
@@ -309,195 +246,115 @@ visit-same-length t c = refl
 
 visit-returns-3 : (t : ℕ) → visit-lts.Need-returns-3 (visit-claims t) (visit-at t) visit.Post visit-Inv-loop visit-μ-loop
 visit-returns-3 t c =
-    let start = c .before .before .before .before .before .before .before .before .before .before .before in
-    let a = start .args in
-    let p = start .pre .1 in
-    let r = c .before .before .before .before .before .before .before .before .ready-starts in
-    let starts = job-starts _ _ _ _ _ _ (p .known) (r .result .at)
-    (r .result .least) (r .ensures) in
-    let cut = recall-cut _ _ _ _ _ _ (p .known)
-    (r .result .at) (r .result .least) starts (suc (a .target)) (a .memory .now)
-    (pos-of-ne-zero (c .before .before .before .before .before .before .before .before .before .if1 .left))
-    (p .remembered) (c .before .before .recall .ensures (c .before .if3 .taken)) in
-    (rw (c .none-found2 .ensures) (none-outcome _ (a .target) _ cut), (p .settled, p .remembered))
+    let p = c .before .before .before .before .before .before .before .before .before .before .before .pre .1 in
+    let known = p .going .known in
+    let cut = recall-cut known (job-starts known (c .before .before .before .before .before .before .before .before .ready-starts .ensures)) (suc (c .before .before .before .before .before .before .before .before .before .before .before .args .target)) (pos-of-ne-zero (c .before .before .before .before .before .before .before .before .before .if1 .left)) (p .going .remembered)
+    (c .before .before .recall .ensures (c .before .if3 .taken)) in
+    (rw (c .none-found2 .ensures) (none-outcome cut), (p .settled, p .going .remembered))
 
 visit-to-try-requires : (t : ℕ) → visit-lts.Need-to-try-requires (visit-claims t) (visit-at t) visit.Post visit-Inv-loop visit-μ-loop
 visit-to-try-requires t c κs =
-    let start = c .before .before .before .before .before .before .before .before .before .before .before in
-    let a = start .args in
-    let p = start .pre .1 in
-    let r = c .before .before .before .before .before .before .before .before .ready-starts in
-    let starts = job-starts _ _ _ _ _ _ (p .known) (r .result .at)
-    (r .result .least) (r .ensures) in
-    trying _ _ _ _ _ _ (p .known) (a .target) (r .result .at)
-    (starts .each) 0 (r .result .least) (starts .first)
+    let known = c .before .before .before .before .before .before .before .before .before .before .before .pre .1 .going .known in
+    trying known (job-starts known (c .before .before .before .before .before .before .before .before .ready-starts .ensures))
 
 visit-next-choice-requires : (t : ℕ)
     → visit-lts.Need-next-choice-requires (visit-claims t) (visit-at t) visit.Post visit-Inv-loop visit-μ-loop
-visit-next-choice-requires t c κs =
-    let p = c .before .before .before .before .before .before .before .before .before .before .before .before .before .pre .1 in
-    p .known .fit .few
+visit-next-choice-requires t c κs = c .before .before .before .before .before .before .before .before .before .before .before .before .before .pre .1 .going .known .fit .few
 
 visit-loop-holds : (t : ℕ) → visit-lts.Need-loop-holds (visit-claims t) (visit-at t) visit.Post visit-Inv-loop visit-μ-loop
 visit-loop-holds t c =
-    let start = c .before .before .before .before .before .before .before .before .before .before .before .before .before .before in
-    let a = start .args in
-    let p = start .pre .1 in
-    let r = c .before .before .before .before .before .before .before .before .before .before .before .ready-starts in
-    let starts = job-starts _ _ _ _ _ _ (p .known) (r .result .at)
-    (r .result .least) (r .ensures) in (
-      sweep-first _ _ _ _ _ _ (p .known) (a .target) (r .result .at)
-          (starts .each) (c .before .before .to-try .result) (c .next-choice .result) (c .next-choice .ensures),
-      (p .settled, (p .remembered, refl)),
+    let p = c .before .before .before .before .before .before .before .before .before .before .before .before .before .before .pre .1 in
+    let known = p .going .known in (
+      sweep-first known (job-starts known (c .before .before .before .before .before .before .before .before .before .before .before .ready-starts .ensures)) (c .next-choice .ensures),
+      (p .settled, (p .going .remembered, refl)),
     )
 
 visit-try-children-requires : (t : ℕ)
     → visit-lts.Need-try-children-requires (visit-claims t) (visit-at t) visit.Post visit-Inv-loop visit-μ-loop
 visit-try-children-requires t c κs =
     let start = c .before .before .before .before .before .before .before .before .before .before .before .before .before .before .before .before .before .before .before .before in
-    let a = start .args in
-    let p = start .pre .1 in
-    let r = c .before .before .before .before .before .before .before .before .before .before .before .before .before .before .before .before .before .ready-starts in
-    let starts = job-starts _ _ _ _ _ _ (p .known) (r .result .at)
-    (r .result .least) (r .ensures) in
+    let g = start .pre .1 .going in
     let loop = c .before .before .before .before .before .loop in
     let sweep = loop .inv .0 in
-    let l : loop .c .start < 65535 = omega (arith, c .before .before .before .if4 .taken, sweep .choice .low) in
-    let chosen = sweep .choice .some l in (
+    let chosen = sweep .choice .some (chosen-low (sweep .choice) (c .before .before .before .if4 .taken)) in (
       omega (arith, start .pre .0),
       (
         record {
-          low = p .low;
-          known = p .known;
-          chains = p .chains;
-          related-is = p .related-is;
-          weighted = p .weighted;
-          laned = p .laned;
+          going = record { low = g .low; known = g .known; tabled = g .tabled; remembered = loop .inv .1 .1 .0 };
           settled = loop .inv .1 .0;
-          remembered = loop .inv .1 .1 .0;
         },
         record {
-          starts = starts .each;
+          starts = job-starts (g .known) (c .before .before .before .before .before .before .before .before .before .before .before .before .before .before .before .before .before .ready-starts .ensures) .each;
           before = rw (chosen .1 .1) (sweep .before);
           inside = chosen .0;
-          may-come = omega (arith, chosen .1 .1);
+          may-come = omega (arith, chosen .1 .1, chosen-low (sweep .choice) (c .before .before .before .if4 .taken));
         },
       ),
     )
 
 visit-same-length-2 : (t : ℕ) → visit-lts.Need-same-length-2 (visit-claims t) (visit-at t) visit.Post visit-Inv-loop visit-μ-loop
 visit-same-length-2 t c =
-    let loop = c .before .before .before .before .before .before .before .before .before .loop in
-    c .before .before .before .try-children .kept .1 .1 .1 .1 .1 .1 .1 .1 .1 .1 .1 .1 .1 .1 .1 .1 .1 .1 .1 .1 .1 .1 .1 .1 .1 .1 .0 ∙ loop .inv .1 .1 .1
+    c .before .before .before .try-children .kept .1 .1 .1 .1 .1 .1 .1 .1 .1 .1 .1 .1 .1 .1 .1 .1 .1 .1 .1 .1 .1 .1 .1 .1 .1 .1 .0 ∙ c .before .before .before .before .before .before .before .before .before .loop .inv .1 .1 .1
 
 visit-returns-4 : (t : ℕ) → visit-lts.Need-returns-4 (visit-claims t) (visit-at t) visit.Post visit-Inv-loop visit-μ-loop
 visit-returns-4 t c =
-    let start = c .before .before .before .before .before .before .before .before .before .before .before .before .before .before .before .before .before .before .before .before .before .before .before .before in
-    let a = start .args in
-    let p = start .pre .1 in
-    let loop = c .before .before .before .before .before .before .before .before .before .loop in
-    let try = c .before .before .before .try-children in
-    (found-below _ (a .target) (take (a .placed) (a .order .now)) (loop .c .job) _ (try .ensures .0) (c .if5 .taken), try .ensures .1)
+    let a = c .before .before .before .before .before .before .before .before .before .before .before .before .before .before .before .before .before .before .before .before .before .before .before .before .args in
+    let try = c .before .before .before .try-children .ensures in
+    (found-below (take (a .placed) (a .order .now)) (c .before .before .before .before .before .before .before .before .before .loop .c .job) (try .0) (c .if5 .taken), try .1)
 
 visit-clear32-requires : (t : ℕ) → visit-lts.Need-clear32-requires (visit-claims t) (visit-at t) visit.Post visit-Inv-loop visit-μ-loop
 visit-clear32-requires t c κs =
-    let loop = c .before .before .before .before .before .before .before .before .before .loop in
-    let sweep = loop .inv .0 in
-    let p = c .before .before .before .before .before .before .before .before .before .before .before .before .before .before .before .before .before .before .before .before .before .before .before .before .pre .1 in
-    let l : loop .c .start < 65535 = omega (arith, c .before .before .before .before .before .before .before .if4 .taken, sweep .choice .low) in
-    omega (arith, sweep .choice .some l .0, p .known .fit .few)
+    let sweep = c .before .before .before .before .before .before .before .before .before .loop .inv .0 in
+    let chosen = sweep .choice .some (chosen-low (sweep .choice) (c .before .before .before .before .before .before .before .if4 .taken)) in
+    omega (arith, chosen .0, c .before .before .before .before .before .before .before .before .before .before .before .before .before .before .before .before .before .before .before .before .before .before .before .before .pre .1 .going .known .fit .few)
 
 visit-set32-requires : (t : ℕ) → visit-lts.Need-set32-requires (visit-claims t) (visit-at t) visit.Post visit-Inv-loop visit-μ-loop
 visit-set32-requires t c κs =
-    let loop = c .before .before .before .before .before .before .before .before .before .before .loop in
-    let sweep = loop .inv .0 in
-    let p = c .before .before .before .before .before .before .before .before .before .before .before .before .before .before .before .before .before .before .before .before .before .before .before .before .before .pre .1 in
-    let l : loop .c .start < 65535 = omega
-    (arith, c .before .before .before .before .before .before .before .before .if4 .taken, sweep .choice .low) in
-    omega (arith, sweep .choice .some l .0, p .known .fit .few)
+    let sweep = c .before .before .before .before .before .before .before .before .before .before .loop .inv .0 in
+    let chosen = sweep .choice .some (chosen-low (sweep .choice) (c .before .before .before .before .before .before .before .before .if4 .taken)) in
+    omega (arith, chosen .0, c .before .before .before .before .before .before .before .before .before .before .before .before .before .before .before .before .before .before .before .before .before .before .before .before .before .pre .1 .going .known .fit .few)
 
 visit-next-choice-requires-2 : (t : ℕ)
     → visit-lts.Need-next-choice-requires-2 (visit-claims t) (visit-at t) visit.Post visit-Inv-loop visit-μ-loop
-visit-next-choice-requires-2 t c κs =
-    let p = c .before .before .before .before .before .before .before .before .before .before .before .before .before .before .before .before .before .before .before .before .before .before .before .before .before .before .before .pre .1 in
-    p .known .fit .few
+visit-next-choice-requires-2 t c κs = c .before .before .before .before .before .before .before .before .before .before .before .before .before .before .before .before .before .before .before .before .before .before .before .before .before .before .before .pre .1 .going .known .fit .few
 
 visit-loop-less : (t : ℕ) → visit-lts.Need-loop-less (visit-claims t) (visit-at t) visit.Post visit-Inv-loop visit-μ-loop
 visit-loop-less t c =
-    let start = c .before .before .before .before .before .before .before .before .before .before .before .before .before .before .before .before .before .before .before .before .before .before .before .before .before .before .before .before in
-    let a = start .args in
-    let p = start .pre .1 in
-    let r = c .before .before .before .before .before .before .before .before .before .before .before .before .before .before .before .before .before .before .before .before .before .before .before .before .before .ready-starts in
-    let starts = job-starts _ _ _ _ _ _ (p .known) (r .result .at)
-    (r .result .least) (r .ensures) in
-    let first = c .before .before .before .before .before .before .before .before .before .before .before .before .before .before .before .before .to-try in
-    let loop = c .before .before .before .before .before .before .before .before .before .before .before .before .before .loop in
-    let sweep = loop .inv .0 in
-    let l : loop .c .start < 65535 = omega
-    (arith, c .before .before .before .before .before .before .before .before .before .before .before .if4 .taken, sweep .choice .low) in
-    rw (c .before .before .before .clear32 .ensures) (one-less (chosen-in _ _ _ _ _ _ (p .known) (a .target) (r .result .at) (starts .each) (first .result) (loop .untried) (loop .c) (sweep .choice) l))
+    let sweep = c .before .before .before .before .before .before .before .before .before .before .before .before .before .loop .inv .0 in
+    rw (c .before .before .before .clear32 .ensures) (one-less (chosen-in (sweep .choice) (chosen-low (sweep .choice) (c .before .before .before .before .before .before .before .before .before .before .before .if4 .taken))))
 
 visit-loop-again : (t : ℕ) → visit-lts.Need-loop-again (visit-claims t) (visit-at t) visit.Post visit-Inv-loop visit-μ-loop
 visit-loop-again t c =
-    let start = c .before .before .before .before .before .before .before .before .before .before .before .before .before .before .before .before .before .before .before .before .before .before .before .before .before .before .before .before in
-    let a = start .args in
-    let p = start .pre .1 in
-    let r = c .before .before .before .before .before .before .before .before .before .before .before .before .before .before .before .before .before .before .before .before .before .before .before .before .before .ready-starts in
-    let starts = job-starts _ _ _ _ _ _ (p .known) (r .result .at)
-    (r .result .least) (r .ensures) in
-    let first = c .before .before .before .before .before .before .before .before .before .before .before .before .before .before .before .before .to-try in
+    let known = c .before .before .before .before .before .before .before .before .before .before .before .before .before .before .before .before .before .before .before .before .before .before .before .before .before .before .before .before .pre .1 .going .known in
     let loop = c .before .before .before .before .before .before .before .before .before .before .before .before .before .loop in
     let sweep = loop .inv .0 in
-    let try = c .before .before .before .before .before .before .before .try-children in
-    let l : loop .c .start < 65535 = omega
-    (arith, c .before .before .before .before .before .before .before .before .before .before .before .if4 .taken, sweep .choice .low) in (
-      rw (c .before .before .before .clear32 .ensures, c .before .before .set32 .ensures)
-          (sweep-next _ _ _ _ _ _ (p .known) (a .target)
-          (r .result .at) (starts .each) (first .result) (loop .untried) (loop .tried) (loop .c) (c .next-choice2 .result) sweep l
-          (try .ensures .0 .miss (c .before .before .before .before .if5 .left)) (rw (c .before .before .before .clear32 .ensures) at
-          (c .next-choice2 .ensures))),
+    let try = c .before .before .before .before .before .before .before .try-children in (
+      rw (c .before .before .before .clear32 .ensures, c .before .before .set32 .ensures) (sweep-next known (job-starts known (c .before .before .before .before .before .before .before .before .before .before .before .before .before .before .before .before .before .before .before .before .before .before .before .before .before .ready-starts .ensures)) sweep
+          (chosen-low (sweep .choice) (c .before .before .before .before .before .before .before .before .before .before .before .if4 .taken)) (try .ensures .0 .miss (c .before .before .before .before .if5 .left)) (rw (c .before .before .before .clear32 .ensures) at (c .next-choice2 .ensures))),
       (try .ensures .1 .0, (try .ensures .1 .1, try .kept .1 .1 .1 .1 .1 .1 .1 .1 .1 .1 .1 .1 .1 .1 .1 .1 .1 .1 .1 .1 .1 .1 .1 .1 .1 .1 .0 ∙ loop .inv .1 .1 .1)),
     )
 
 visit-remember-requires : (t : ℕ) → visit-lts.Need-remember-requires (visit-claims t) (visit-at t) visit.Post visit-Inv-loop visit-μ-loop
-visit-remember-requires t c κs =
-    let p = c .before .before .before .before .before .before .before .before .before .before .before .before .before .before .before .before .before .before .pre .1 in
-    p .known .fit .few
+visit-remember-requires t c κs = c .before .before .before .before .before .before .before .before .before .before .before .before .before .before .before .before .before .before .pre .1 .going .known .fit .few
 
 visit-none-found-requires-3 : (t : ℕ)
     → visit-lts.Need-none-found-requires-3 (visit-claims t) (visit-at t) visit.Post visit-Inv-loop visit-μ-loop
 visit-none-found-requires-3 t c κs = tt
 
 visit-same-length-3 : (t : ℕ) → visit-lts.Need-same-length-3 (visit-claims t) (visit-at t) visit.Post visit-Inv-loop visit-μ-loop
-visit-same-length-3 t c =
-    let loop = c .before .before .before .before .before .before .before .loop in
-    c .before .before .before .remember .kept .0 ∙ loop .inv .1 .1 .1
+visit-same-length-3 t c = c .before .before .before .remember .kept .0 ∙ c .before .before .before .before .before .before .before .loop .inv .1 .1 .1
 
 visit-returns-5 : (t : ℕ) → visit-lts.Need-returns-5 (visit-claims t) (visit-at t) visit.Post visit-Inv-loop visit-μ-loop
 visit-returns-5 t c =
-    let start = c .before .before .before .before .before .before .before .before .before .before .before .before .before .before .before .before .before .before .before .before .before .before in
-    let a = start .args in
-    let p = start .pre .1 in
-    let r = c .before .before .before .before .before .before .before .before .before .before .before .before .before .before .before .before .before .before .before .ready-starts in
-    let starts = job-starts _ _ _ _ _ _ (p .known) (r .result .at)
-    (r .result .least) (r .ensures) in
-    let first = c .before .before .before .before .before .before .before .before .before .before .to-try in
+    let a = c .before .before .before .before .before .before .before .before .before .before .before .before .before .before .before .before .before .before .before .before .before .before .args in
+    let g = c .before .before .before .before .before .before .before .before .before .before .before .before .before .before .before .before .before .before .before .before .before .before .pre .1 .going in
+    let starts = job-starts (g .known) (c .before .before .before .before .before .before .before .before .before .before .before .before .before .before .before .before .before .before .before .ready-starts .ensures) in
     let loop = c .before .before .before .before .before .before .before .loop in
-    let remember = c .before .before .before .remember in
-    let swept = sweep-all _ _ _ _ _ _ (p .known) (a .target)
-    (r .result .at) (starts .each) (first .result) (loop .untried) (loop .tried) (loop .c) (loop .inv .0)
-    (c .before .before .before .before .before .if4 .left) in
-    let all = all-tried _ _ _ _ _ _ (p .known) (a .target)
-    (r .result .at) (starts .each) (first .result) (a .related .now) (p .related-is) (first .ensures) swept in
-    let cut = visit-all _ _ _ _ _ _ (p .known)
-    (a .target) (pos-of-ne-zero
-    (c .before .before .before .before .before .before .before .before .before .before .before .before .before .before .before .before .before .before .before .before .if1 .left)) all in (
-      rw (c .none-found3 .ensures) (none-outcome _ (a .target) _ cut),
-      (
-        loop .inv .1 .0,
-        visit-remember _ _ _ _ _ _ (p .known)
-            (a .target) (loop .memory) (remember .last .0) (loop .inv .1 .1 .0) cut (remember .ensures),
-      ),
+    let swept = sweep-all (g .known) starts (loop .inv .0) (c .before .before .before .before .before .if4 .left) in
+    let all = all-tried (g .known) starts (a .target) (c .before .before .before .before .before .before .before .before .before .before .to-try .result) (a .related .now) (g .tabled .related-is) (c .before .before .before .before .before .before .before .before .before .before .to-try .ensures) swept in
+    let cut = visit-all (g .known) (a .target) (pos-of-ne-zero (c .before .before .before .before .before .before .before .before .before .before .before .before .before .before .before .before .before .before .before .before .if1 .left)) all in (
+      rw (c .none-found3 .ensures) (none-outcome cut),
+      (loop .inv .1 .0, visit-remember (g .known) (a .target) (loop .inv .1 .1 .0) cut (c .before .before .before .remember .ensures)),
     )
 
 pub +try-children+visit-spec : {M : Type 1} → statement M

@@ -24,10 +24,7 @@ first-order-requires c κs =
       record {
         low = lowest .ensures .is .low;
         known = first-known (a .need .now) (a .minutes .now) (a .earlier .now) (a .jobs) (a .modules) (h .fit);
-        chains = h .chains;
-        related-is = h .related-is;
-        weighted = h .weighted;
-        laned = h .laned;
+        tabled = h .tabled;
         remembered = remembered-none _ _ (length (lowest .last .1 .1 .1 .1 .1 .1 .1 .1 .1 .1 .1 .0)) _ (c .before .before .before .clear .ensures);
       },
     )

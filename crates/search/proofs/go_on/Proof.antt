@@ -35,8 +35,7 @@ place-requires c κs =
     let known = start .pre .0 in
     let l = ready-says _ _ (a .j) (start .pre .1) .job in
     let s = c .before .before .start-or-none in
-    child-placeable (a .need .now) (a .minutes .now) (a .earlier .now) (a .jobs) (a .modules) (a .part) known (a .j) l (s .result)
-    (s .ensures) (starts-short known (start .pre .1) (s .ensures))
+    child-placeable known l (s .ensures) (starts-short known (start .pre .1) (s .ensures))
 
 returns : tie.Need-returns
 returns c =
@@ -45,11 +44,9 @@ returns c =
     let known = start .pre .0 in
     let l = ready-says _ _ (a .j) (start .pre .1) .job in
     let s = c .before .before .before .start-or-none in (
-      child-known (a .need .now) (a .minutes .now) (a .earlier .now) (a .jobs) (a .modules) (a .part) known (a .j) l (s .result)
-          (s .ensures) (starts-short known (start .pre .1) (s .ensures)) (c .place .result) (c .place .ensures),
+      child-known known l (s .ensures) (starts-short known (start .pre .1) (s .ensures)) (c .place .ensures),
       (
-        child-word (a .need .now) (a .minutes .now) (a .earlier .now) (a .jobs) (a .modules) (a .part) known (a .j) l (s .result)
-            (s .ensures) (starts-short known (start .pre .1) (s .ensures)) (c .place .result) (c .place .ensures),
+        child-word known l (s .ensures) (starts-short known (start .pre .1) (s .ensures)) (c .place .ensures),
         c .place .ensures .placed,
       ),
     )

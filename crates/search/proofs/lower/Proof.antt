@@ -76,7 +76,7 @@ returns-3 c =
     rw (c .kept2 .ensures) (
       lower-miss (a .need .now) (a .minutes .now) (a .earlier .now) (a .related .now) (a .tails .now) (a .worth .now) (a .most .now) (a .lanes .now) (a .jobs) (a .modules) (start .pre)
           (λ o d. between o d (none o d)),
-      remembered-until _ _ (suc (target .result)) (a .best .end) between (visit .ensures .1 .1),
+      remembered-until _ between (visit .ensures .1 .1),
     )
 
 pub lower-spec : {M : Type 1} → statement M

@@ -42,10 +42,12 @@ best-order-requires c κs =
     let start = c .before .before .before .before .before .before .before .before .before .before .before .before .before .before .before .before .before .before .before .before .before .before .before .before in
     record {
       fit = start .pre;
-      chains = c .before .before .before .before .before .before .before .before .before .before .before .before .before .before .before .before .before .before .chains .ensures .each;
-      related-is = c .before .before .before .before .before .before .before .before .before .before .before .before .before .before .before .before .relate .ensures;
-      weighted = c .before .before .before .before .before .before .before .before .before .before .before .before .before .before .weightings .ensures;
-      laned = c .before .before .before .before .before .before .before .lanes-of .ensures;
+      tabled = record {
+        chains = c .before .before .before .before .before .before .before .before .before .before .before .before .before .before .before .before .before .before .chains .ensures .each;
+        related-is = c .before .before .before .before .before .before .before .before .before .before .before .before .before .before .before .before .relate .ensures;
+        weighted = c .before .before .before .before .before .before .before .before .before .before .before .before .before .before .weightings .ensures;
+        laned = c .before .before .before .before .before .before .before .lanes-of .ensures;
+      };
       best-is = listed-order (c .before .before .before .before .before .before .before .before .before .before .first-listed .ensures) (c .before .before .before .before .before .before .before .before .if1 .left);
       remembered = remembered-none _ _ (length (start .args .memory .now)) _ (c .before .before .before .before .before .before .before .before .before .before .before .before .before .before .before .before .before .before .before .before .before .clear .ensures);
     }

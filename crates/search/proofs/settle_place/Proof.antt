@@ -49,7 +49,7 @@ try-place-requires c κs =
       job-below h
           (a .part .placed) (word-length (g .known)) (start .pre .1 .1),
     ) in (
-      record { low = g .low; known = g .known; chains = g .chains; related-is = g .related-is; weighted = g .weighted; laned = g .laned; remembered = loop .inv .1 .1 .0 },
+      record { low = g .low; known = g .known; tabled = g .tabled; remembered = loop .inv .1 .1 .0 },
       below,
     )
 

@@ -16,11 +16,10 @@ none-found-requires c κs = search needs
 returns : tie.Need-returns
 returns c =
     let start = c .before .before .before .before in
-    let a = start .args in
     let g = start .pre .0 in
     let l = start .pre .1 in
     let s = c .before .before .start-or-none in
-    (rw (c .none-found .ensures) (none-outcome _ (a .target) _ (not-next g l (s .ensures) (c .before .if1 .taken))), g .remembered)
+    (rw (c .none-found .ensures) (none-outcome (not-next g l (s .ensures) (c .before .if1 .taken))), g .remembered)
 
 mul-place : tie.Need-mul-place
 mul-place c = search needs
@@ -37,23 +36,20 @@ element-copy-out-place-2 c = search needs
 place-requires : tie.Need-place-requires
 place-requires c κs =
     let start = c .before .before .before .before .before in
-    let a = start .args in
     let g = start .pre .0 in
     let l = start .pre .1 in
     let s = c .before .before .before .start-or-none in
     let low : s .result < 65535 = start-low (g .known) (s .ensures) (c .before .before .if1 .left) in
-    child-placeable (a .need .now) (a .minutes .now) (a .earlier .now) (a .jobs) (a .modules) (a .part) (g .known)
-    (a .j) l (s .result) (s .ensures) low
+    child-placeable (g .known) l (s .ensures) low
 
 visit-requires : tie.Need-visit-requires
 visit-requires c κs =
     let start = c .before .before .before .before .before .before .before .before .before .before .before .before .before in
-    let a = start .args in
     let g = start .pre .0 in
     let l = start .pre .1 in
     let s = c .before .before .before .before .before .before .before .before .before .before .before .start-or-none in
     let low : s .result < 65535 = start-low (g .known) (s .ensures) (c .before .before .before .before .before .before .before .before .before .before .if1 .left) in
-    place-enter g l (s .ensures) low (c .before .before .before .before .before .before .before .place .result) (c .before .before .before .before .before .before .before .place .ensures)
+    place-enter g l (s .ensures) low (c .before .before .before .before .before .before .before .place .ensures)
 
 same-length : tie.Need-same-length
 same-length c = search needs
@@ -61,15 +57,13 @@ same-length c = search needs
 returns-2 : tie.Need-returns-2
 returns-2 c =
     let start = c .before .before .before .before .before .before .before .before .before .before .before .before .before .before .before .before in
-    let a = start .args in
     let g = start .pre .0 in
     let l = start .pre .1 in
     let s = c .before .before .before .before .before .before .before .before .before .before .before .before .before .before .start-or-none in
     let low : s .result < 65535 = start-low (g .known) (s .ensures)
     (c .before .before .before .before .before .before .before .before .before .before .before .before .before .if1 .left) in
     let place = c .before .before .before .before .before .before .before .before .before .before .place in
-    let word = child-word (a .need .now) (a .minutes .now) (a .earlier .now) (a .jobs) (a .modules) (a .part) (g .known)
-    (a .j) l (s .result) (s .ensures) low (place .result) (place .ensures) in
+    let word = child-word (g .known) l (s .ensures) low (place .ensures) in
     let visit = c .before .before .visit in
     (rw word at (visit .ensures .0), visit .ensures .1 .1)
 
