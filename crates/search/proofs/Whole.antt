@@ -53,83 +53,86 @@ first-word need minutes jobs modules = refl
 kept-is : {S : Sheet} {best : Found} → OrderOf S best → OrderOf S (keptAs best)
 kept-is h = record { size = h .size; order = h .order; end = h .end; low = h .low }
 
-module _ (need minutes earlier related tails worth most lanes : List ℕ) (jobs modules : ℕ) where
+-- an order that is to end by the target
+pub enter : {need minutes earlier related tails worth most lanes : List ℕ} {jobs modules : ℕ} {best : Found} {memory : List ℕ} (target : ℕ)
+    → Lowering need minutes earlier related tails worth most lanes jobs modules best memory → target < best .end
+    → Searching need minutes earlier related tails worth most lanes jobs modules (firstPart need minutes jobs modules) (replicate 20 0) 0
+    target memory
+enter {need} {minutes} {earlier} {jobs = jobs} {modules} {memory = memory} target s l = record {
+  going = record {
+    low = omega (arith, s .best-is .low);
+    known = first-known need minutes earlier jobs modules (s .fit);
+    tabled = s .tabled;
+    remembered = remembered-less _ memory l (s .remembered);
+  };
+  settled = none-settled _ target _;
+}
+
+-- an order that ends by the target, and so earlier
+pub lower-hit : {S : Sheet} {best r : Found} (memory : List ℕ) {v : List ℕ} (target : ℕ) → OrderOf S best → target < best .end
+    → Outcome S target v r → r .hit ≡ true → Remembered S memory (suc target) → Lowered S best r × Remembered S memory (r .end)
+lower-hit {S} {best} {r} memory target s l o e m =
+    let f = o .hit e in (
+      record {
+        is = record { size = o .size; order = f .order; end = f .end; low = omega (arith, f .within, s .low) };
+        hit = λ _. omega (arith, f .within);
+        miss = λ h. clash (r .hit) e h;
+      },
+      remembered-less S memory (omega (arith, f .within)) m,
+    )
+
+-- no order ends between the target and the best
+module _ (need minutes earlier : List ℕ) (jobs modules end target : ℕ) where
   abbrev S : Sheet
   S = sheetOf need minutes earlier jobs modules
 
-  -- an order that is to end by the target
-  pub enter : {best : Found} {memory : List ℕ} (target : ℕ) → Lowering need minutes earlier related tails worth most lanes jobs modules best memory
-      → target < best .end
-      → Searching need minutes earlier related tails worth most lanes jobs modules (firstPart need minutes jobs modules) (replicate 20 0) 0 target memory
-  enter target s l = record {
-    going = record {
-      low = omega (arith, s .best-is .low);
-      known = first-known need minutes earlier jobs modules (s .fit);
-      tabled = s .tabled;
-      remembered = remembered-less S _ l (s .remembered);
-    };
-    settled = none-settled S target _;
-  }
-
-  pub lower-hit : {best r : Found} {memory : List ℕ} (memory′ : List ℕ) {v : List ℕ} (target : ℕ)
-      → Lowering need minutes earlier related tails worth most lanes jobs modules best memory
-      → target < best .end → Outcome S target v r → r .hit ≡ true → Remembered S memory′ (suc target)
-      → Lowered S best r × Remembered S memory′ (r .end)
-  lower-hit {best} {r} {memory} memory′ target s l o e m =
-      let f = o .hit e in (
-        record {
-          is = record { size = o .size; order = f .order; end = f .end; low = omega (arith, f .within, s .best-is .low) };
-          hit = λ _. omega (arith, f .within);
-          miss = λ h. clash (r .hit) e h;
-        },
-        remembered-less S memory′ (omega (arith, f .within)) m,
-      )
-
-  -- no order ends between the target and the best
-  pub none-between : (best : Found) (target : ℕ) → Fit need minutes jobs modules → ¬ (best .end ≡ 0)
-      → Rounded minutes jobs (best .end - 1) target → (o : List ℕ) → Order S o → suc target ≤ endOf S o → best .end ≤ endOf S o
-  none-between best target fit z h o d l = go (less-or-not (endOf S o) (best .end))
+  pub none-between : Fit need minutes jobs modules → ¬ (end ≡ 0) → Rounded minutes jobs (end - 1) target
+      → (o : List ℕ) → Order S o → suc target ≤ endOf S o → end ≤ endOf S o
+  none-between fit z h o d l = go (less-or-not (endOf S o) end)
     where
-      go : (endOf S o < best .end) ⊎ (best .end ≤ endOf S o) → best .end ≤ endOf S o
+      go : (endOf S o < end) ⊎ (end ≤ endOf S o) → end ≤ endOf S o
       go (inr x) = x
       go (inl x) =
           let e = end-sum S (fit .narrow) (λ j. refl) refl o d in
           absurd (omega (arith, e .1, h .none-between (e .0) (omega (arith, e .1))))
 
-  -- none ends earlier
-  pub lower-miss : {best : Found} {memory : List ℕ} → Lowering need minutes earlier related tails worth most lanes jobs modules best memory
-      → ((o : List ℕ) → Order S o → best .end ≤ endOf S o) → Lowered S best (keptAs best)
-  lower-miss {best} s least = record { is = kept-is (s .best-is); hit = λ x. clash false x refl; miss = λ x. (refl, least) }
+-- none ends earlier
+pub lower-miss : {S : Sheet} {best : Found} → OrderOf S best → ((o : List ℕ) → Order S o → best .end ≤ endOf S o)
+    → Lowered S best (keptAs best)
+lower-miss s least = record { is = kept-is s; hit = λ x. clash false x refl; miss = λ x. (refl, least) }
 
-  pub none-by : {r : Found} {v : List ℕ} (target : ℕ) → v ≡ [] → Outcome S target v r → r .hit ≡ false
-      → (o : List ℕ) → Order S o → suc target ≤ endOf S o
-  unfolding CannotBeat
-  none-by target e m h o d = m .miss h o d (o, ap (λ (x : List ℕ). x ++ o) (sym e))
+pub none-by : {S : Sheet} {target : ℕ} {r : Found} {v : List ℕ} → v ≡ [] → Outcome S target v r → r .hit ≡ false
+    → (o : List ℕ) → Order S o → suc target ≤ endOf S o
+unfolding CannotBeat
+none-by e m h o d = m .miss h o d (o, ap (λ (x : List ℕ). x ++ o) (sym e))
 
-  -- no order ends before minute 0
-  pub from-zero : (best : Found) → best .end ≡ 0 → (o : List ℕ) → Order S o → best .end ≤ endOf S o
-  from-zero best z o d = omega arith
+-- ---- a turn of the loop
 
-  -- ---- a turn of the loop
+-- while earlier ends are looked for, an order and what is remembered; then no order ends earlier
+pub record Turn (need minutes earlier related tails worth most lanes : List ℕ) (jobs modules : ℕ) (best : Found) (memory : List ℕ)
+    : Type 0 where
+  pub state : Lowering need minutes earlier related tails worth most lanes jobs modules best memory
+  pub done : best .hit ≡ false → (o : List ℕ) → Order (sheetOf need minutes earlier jobs modules) o
+      → best .end ≤ endOf (sheetOf need minutes earlier jobs modules) o
 
-  -- while earlier ends are looked for, an order and what is remembered; then no order ends earlier
-  pub record Turn (best : Found) (memory : List ℕ) : Type 0 where
-    pub state : Lowering need minutes earlier related tails worth most lanes jobs modules best memory
-    pub done : best .hit ≡ false → (o : List ℕ) → Order S o → best .end ≤ endOf S o
+pub turn-next : {need minutes earlier related tails worth most lanes : List ℕ} {jobs modules : ℕ} {best r : Found} {memory : List ℕ}
+    (memory′ : List ℕ) → Lowering need minutes earlier related tails worth most lanes jobs modules best memory
+    → Lowered (sheetOf need minutes earlier jobs modules) best r → Remembered (sheetOf need minutes earlier jobs modules) memory′ (r .end)
+    → Turn need minutes earlier related tails worth most lanes jobs modules r memory′
+turn-next memory′ s l m = record {
+  state = record { fit = s .fit; tabled = s .tabled; best-is = l .is; remembered = m };
+  done = λ e. l .miss e .1;
+}
 
-  pub turn-next : {best r : Found} {memory : List ℕ} (memory′ : List ℕ) → Lowering need minutes earlier related tails worth most lanes jobs modules best memory
-      → Lowered S best r → Remembered S memory′ (r .end) → Turn r memory′
-  turn-next {best} {r} memory′ s l m = record {
-    state = record { fit = s .fit; tabled = s .tabled; best-is = l .is; remembered = m };
-    done = λ e. l .miss e .1;
-  }
+pub turn-less : {S : Sheet} {best r : Found} → Lowered S best r → best .hit ≡ true
+    → r .end + only (r .hit) 1 < best .end + only (best .hit) 1
+turn-less {S} {best} {r} l e = rw e (go (true-or-false (r .hit)))
+  where
+    go : (r .hit ≡ true) ⊎ (r .hit ≡ false) → r .end + only (r .hit) 1 < best .end + 1
+    go (inl h) = rw h (omega (arith, l .hit h))
+    go (inr h) = rw h (omega (arith, l .miss h .0))
 
-  pub turn-less : {best r : Found} → Lowered S best r → best .hit ≡ true → r .end + only (r .hit) 1 < best .end + only (best .hit) 1
-  turn-less {best} {r} l e = rw e (go (true-or-false (r .hit)))
-    where
-      go : (r .hit ≡ true) ⊎ (r .hit ≡ false) → r .end + only (r .hit) 1 < best .end + 1
-      go (inl h) = rw h (omega (arith, l .hit h))
-      go (inr h) = rw h (omega (arith, l .miss h .0))
-
-  pub turn-last : {best : Found} {memory : List ℕ} → Turn best memory → best .hit ≡ false → Lowest S best
-  turn-last t e = record { is = t .state .best-is; least = t .done e }
+pub turn-last : {need minutes earlier related tails worth most lanes : List ℕ} {jobs modules : ℕ} {best : Found} {memory : List ℕ}
+    → Turn need minutes earlier related tails worth most lanes jobs modules best memory → best .hit ≡ false
+    → Lowest (sheetOf need minutes earlier jobs modules) best
+turn-last t e = record { is = t .state .best-is; least = t .done e }

@@ -1,9 +1,8 @@
 -- `search::lower` meets its contract.
 use mathlib.Core.Path.{ap, _∙_}
-use Prim.Native.Nat.{suc}
 use native.Mathlib.Omega.{arith}
 use Rattle.placement.specs.Part.{wordOf}
-use Rattle.search.proofs.Whole.{enter, lower-hit, none-between, lower-miss, none-by, from-zero, first-word}
+use Rattle.search.proofs.Whole.{enter, lower-hit, none-between, lower-miss, none-by, first-word}
 use Rattle.search.proofs.Recalls.{remembered-until}
 use borrow.Author.Needs.{needs}
 use Rattle.search.proofs.lower.Statement.{statement}
@@ -14,14 +13,9 @@ kept-requires c κs = search needs
 
 returns : tie.Need-returns
 returns c =
-    let start = c .before .before .before .before in
-    let a = start .args in
-    rw (c .kept .ensures) (
-      lower-miss (a .need .now) (a .minutes .now) (a .earlier .now) (a .related .now) (a .tails .now) (a .worth .now) (a .most .now) (a .lanes .now) (a .jobs)
-          (a .modules) (start .pre) (from-zero (a .need .now) (a .minutes .now) (a .earlier .now) (a .related .now) (a .tails .now) (a .worth .now) (a .most .now) (a .lanes .now) (a .jobs)
-          (a .modules) (a .best) (c .before .if1 .taken)),
-      start .pre .remembered,
-    )
+    let p = c .before .before .before .before .pre in
+    let none = c .before .if1 .taken in
+    rw (c .kept .ensures) (lower-miss (p .best-is) (λ o d. omega (arith, none)), p .remembered)
 
 sub-rounded : tie.Need-sub-rounded
 sub-rounded c = search needs
@@ -36,25 +30,19 @@ first-part-requires c κs = search needs
 
 visit-requires : tie.Need-visit-requires
 visit-requires c κs =
-    let start = c .before .before .before .before .before .before .before .before .before .before .before .before .before in
-    let a = start .args in
     let target = c .before .before .before .before .before .before .before .before .rounded in
-    rw (c .before .before .before .before .before .before .before .first-part .ensures) (enter (a .need .now) (a .minutes .now) (a .earlier .now) (a .related .now)
-    (a .tails .now) (a .worth .now) (a .most .now) (a .lanes .now) (a .jobs) (a .modules) (target .result) (start .pre)
-    (let low = c .before .before .before .before .before .before .before .before .before .before .if1 .left in omega (arith, target .ensures .below)))
+    let some = c .before .before .before .before .before .before .before .before .before .before .if1 .left in
+    rw (c .before .before .before .before .before .before .before .first-part .ensures) (enter (target .result) (c .before .before .before .before .before .before .before .before .before .before .before .before .before .pre) (omega (arith, some, target .ensures .below)))
 
 same-length : tie.Need-same-length
 same-length c = search needs
 
 returns-2 : tie.Need-returns-2
 returns-2 c =
-    let start = c .before .before .before .before .before .before .before .before .before .before .before .before .before .before .before .before .before in
-    let a = start .args in
-    let visit = c .before .before .before .visit in
     let target = c .before .before .before .before .before .before .before .before .before .before .before .before .rounded in
-    lower-hit (a .need .now) (a .minutes .now) (a .earlier .now) (a .related .now) (a .tails .now) (a .worth .now) (a .most .now) (a .lanes .now) (a .jobs) (a .modules) _
-    (target .result) (start .pre) (let low = c .before .before .before .before .before .before .before .before .before .before .before .before .before .before .if1 .left in omega (arith, target .ensures .below)) (visit .ensures .0) (c .if2 .taken)
-    (visit .ensures .1 .1)
+    let visit = c .before .before .before .visit .ensures in
+    let some = c .before .before .before .before .before .before .before .before .before .before .before .before .before .before .if1 .left in
+    lower-hit _ (target .result) (c .before .before .before .before .before .before .before .before .before .before .before .before .before .before .before .before .before .pre .best-is) (omega (arith, some, target .ensures .below)) (visit .0) (c .if2 .taken) (visit .1 .1)
 
 kept-requires-2 : tie.Need-kept-requires-2
 kept-requires-2 c κs = search needs
@@ -64,19 +52,15 @@ same-length-2 c = search needs
 
 returns-3 : tie.Need-returns-3
 returns-3 c =
-    let start = c .before .before .before .before .before .before .before .before .before .before .before .before .before .before .before .before .before .before in
-    let a = start .args in
-    let visit = c .before .before .before .before .visit in
-    let target = c .before .before .before .before .before .before .before .before .before .before .before .before .before .rounded in
+    let a = c .before .before .before .before .before .before .before .before .before .before .before .before .before .before .before .before .before .before .args in
+    let p = c .before .before .before .before .before .before .before .before .before .before .before .before .before .before .before .before .before .before .pre in
+    let visit = c .before .before .before .before .visit .ensures in
     let word = ap wordOf (c .before .before .before .before .before .before .before .before .before .before .before .before .first-part .ensures) ∙ first-word (a .need .now) (a .minutes .now) (a .jobs) (a .modules) in
-    let between = none-between (a .need .now) (a .minutes .now) (a .earlier .now) (a .related .now) (a .tails .now) (a .worth .now) (a .most .now) (a .lanes .now) (a .jobs) (a .modules)
-    (a .best) (target .result) (start .pre .fit) (c .before .before .before .before .before .before .before .before .before .before .before .before .before .before .before .if1 .left) (target .ensures) in
-    let none = none-by (a .need .now) (a .minutes .now) (a .earlier .now) (a .related .now) (a .tails .now) (a .worth .now) (a .most .now) (a .lanes .now) (a .jobs) (a .modules)
-    (target .result) word (visit .ensures .0) (c .before .if2 .left) in
+    let between = none-between (a .need .now) (a .minutes .now) (a .earlier .now) (a .jobs) (a .modules) (a .best .end) (c .before .before .before .before .before .before .before .before .before .before .before .before .before .rounded .result)
+    (p .fit) (c .before .before .before .before .before .before .before .before .before .before .before .before .before .before .before .if1 .left) (c .before .before .before .before .before .before .before .before .before .before .before .before .before .rounded .ensures) in
     rw (c .kept2 .ensures) (
-      lower-miss (a .need .now) (a .minutes .now) (a .earlier .now) (a .related .now) (a .tails .now) (a .worth .now) (a .most .now) (a .lanes .now) (a .jobs) (a .modules) (start .pre)
-          (λ o d. between o d (none o d)),
-      remembered-until _ between (visit .ensures .1 .1),
+      lower-miss (p .best-is) (λ o d. between o d (none-by word (visit .0) (c .before .if2 .left) o d)),
+      remembered-until _ between (visit .1 .1),
     )
 
 pub lower-spec : {M : Type 1} → statement M

@@ -19,11 +19,8 @@ lower-requires c κs = c .before .before .pre
 
 loop-holds : tie.Need-loop-holds Inv-loop μ-loop
 loop-holds c =
-    let start = c .before .before .before .before .before in
-    let a = start .args in
     let lower = c .before .before .lower in (
-      turn-next (a .need .now) (a .minutes .now) (a .earlier .now) (a .related .now) (a .tails .now) (a .worth .now) (a .most .now) (a .lanes .now) (a .jobs) (a .modules) _ (start .pre)
-          (lower .ensures .0) (lower .ensures .1),
+      turn-next _ (c .before .before .before .before .before .pre) (lower .ensures .0) (lower .ensures .1),
       refl,
     )
 
@@ -31,20 +28,13 @@ lower-requires-2 : tie.Need-lower-requires-2 Inv-loop μ-loop
 lower-requires-2 c κs = c .before .before .loop .inv .0 .state
 
 loop-less : tie.Need-loop-less Inv-loop μ-loop
-loop-less c =
-    let start = c .before .before .before .before .before .before .before .before .before .before .before in
-    let a = start .args in
-    turn-less (a .need .now) (a .minutes .now) (a .earlier .now) (a .related .now) (a .tails .now) (a .worth .now) (a .most .now) (a .lanes .now) (a .jobs) (a .modules)
-    (c .before .before .lower2 .ensures .0) (c .before .before .before .before .loop-test .taken)
+loop-less c = turn-less (c .before .before .lower2 .ensures .0) (c .before .before .before .before .loop-test .taken)
 
 loop-again : tie.Need-loop-again Inv-loop μ-loop
 loop-again c =
-    let start = c .before .before .before .before .before .before .before .before .before .before .before in
-    let a = start .args in
     let lower = c .before .before .lower2 in
     let loop = c .before .before .before .before .before .loop in (
-      turn-next (a .need .now) (a .minutes .now) (a .earlier .now) (a .related .now) (a .tails .now) (a .worth .now) (a .most .now) (a .lanes .now) (a .jobs) (a .modules) _
-          (loop .inv .0 .state) (lower .ensures .0) (lower .ensures .1),
+      turn-next _ (loop .inv .0 .state) (lower .ensures .0) (lower .ensures .1),
       lower .kept .1 .1 .1 .1 .1 .1 .1 .1 .1 .1 .1 .0 ∙ loop .inv .1,
     )
 
@@ -52,11 +42,7 @@ same-length : tie.Need-same-length Inv-loop μ-loop
 same-length c = c .before .loop .inv .1 ∙ c .before .before .before .before .lower .kept .1 .1 .1 .1 .1 .1 .1 .1 .1 .1 .1 .0
 
 returns : tie.Need-returns Inv-loop μ-loop
-returns c =
-    let start = c .before .before .before .before .before .before .before in
-    let a = start .args in
-    turn-last (a .need .now) (a .minutes .now) (a .earlier .now) (a .related .now) (a .tails .now) (a .worth .now) (a .most .now) (a .lanes .now) (a .jobs) (a .modules)
-    (c .before .loop .inv .0) (c .loop-test .left)
+returns c = turn-last (c .before .loop .inv .0) (c .loop-test .left)
 
 pub lowest-spec : {M : Type 1} → statement M
 lowest-spec =
