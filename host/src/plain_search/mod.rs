@@ -177,15 +177,7 @@ impl Search<'_> {
     }
 }
 
-/// The tie rule's order and its end, or none where some job would have to end before itself.
-pub fn run(tables: &Tables, memory: &mut [u8]) -> Option<Found> {
-    match run_with(tables, memory, &Rules::default()) {
-        Outcome::Found(found) => Some(found),
-        _ => None,
-    }
-}
-
-/// The same with these rules alone.
+/// The tie rule's order and its end, found by these rules.
 pub fn run_with(tables: &Tables, memory: &mut [u8], rules: &Rules) -> Outcome {
     let mut memory = Memory::new(memory, tables.jobs);
     memory.clear();

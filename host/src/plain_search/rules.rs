@@ -55,6 +55,24 @@ impl Default for Rules {
 }
 
 impl Rules {
+    /// No cut is made, and every job that may come next is tried.
+    pub fn bare() -> Rules {
+        Rules {
+            area: false,
+            chains: false,
+            overlaps: false,
+            weights: false,
+            lanes: false,
+            modules: false,
+            same_minute: false,
+            swap: false,
+            idle: false,
+            alike: false,
+            alone: false,
+            ..Rules::default()
+        }
+    }
+
     /// For each rule its name and the rules without it.
     pub fn each_left_out() -> Vec<(&'static str, Rules)> {
         let all = Rules::default();

@@ -1,7 +1,7 @@
 //! A call in a process of its own: nothing interrupts the library, so the process is killed at the cut-off.
 use crate::{clock, process};
 use depot_host::lists::{self, List};
-use depot_host::plain_search::{self, Tables};
+use depot_host::plain_search::{run_with, Outcome, Rules, Tables};
 use depot_host::{card_length, plan, Card};
 use std::process::Command;
 use std::time::Duration;
@@ -19,7 +19,10 @@ const AGAIN: Duration = Duration::from_millis(150);
 #[derive(Clone, Copy)]
 pub enum Side {
     Library,
+    /// The same search in plain Rust.
     Plain,
+    /// The same without rules.
+    Bare,
 }
 
 /// How much processor time a call took, how many part-plans it visited (0: not counted), and the end of its plan.
@@ -35,6 +38,7 @@ pub fn call(side: Side, list: &List, memory: usize, cutoff: Duration) -> Option<
     let side = match side {
         Side::Library => "library",
         Side::Plain => "plain",
+        Side::Bare => "bare",
     };
     let program = env::current_exe().expect("the program has a path");
     let mut command = Command::new(program);
@@ -62,7 +66,11 @@ pub fn answer(words: &[String]) {
     let mut work = vec![0xA5; memory.parse().expect("a length")];
     let text = io::read_to_string(io::stdin()).expect("a list");
     let list = lists::read(&text).expect("a list").remove(0);
-    let took = if side == "plain" { plain(&list, &mut work) } else { library(&list, &mut work) };
+    let took = match side.as_str() {
+        "plain" => plain(&list, &mut work, &Rules::default()),
+        "bare" => plain(&list, &mut work, &Rules::bare()),
+        _ => library(&list, &mut work),
+    };
     println!("{}", took.text());
 }
 
@@ -74,11 +82,11 @@ fn library(list: &List, work: &mut [u8]) -> Took {
     Took { seconds, visited: 0, end }
 }
 
-fn plain(list: &List, work: &mut [u8]) -> Took {
+fn plain(list: &List, work: &mut [u8], rules: &Rules) -> Took {
     let tables = Tables::of(list);
-    let mut found = None;
-    let seconds = shortest(|| found = plain_search::run(&tables, work));
-    let found = found.expect("the list has an order");
+    let mut outcome = Outcome::NoOrder;
+    let seconds = shortest(|| outcome = run_with(&tables, work, rules));
+    let Outcome::Found(found) = outcome else { panic!("{}: no order", list.name) };
     Took { seconds, visited: found.visited, end: found.end }
 }
 

@@ -27,6 +27,7 @@ pub struct Options {
     pub cutoff: Duration,
     pub limit: u64,
     pub each: bool,
+    pub bare: bool,
     pub svg: Option<String>,
 }
 
@@ -48,6 +49,7 @@ impl Options {
             cutoff: Duration::from_secs(1),
             limit: 300_000,
             each: false,
+            bare: false,
             svg: None,
         };
         let mut asked = Asked { sizes: vec![10, 12], family: String::new(), seed: 1, file: None };
@@ -71,6 +73,7 @@ impl Options {
                 "--full" => asked.sizes = vec![10, 12, 14, 16, 20],
                 "--svg" => options.svg = Some(value()?.clone()),
                 "--each" => options.each = true,
+                "--bare" => options.bare = true,
                 "--help" | "-h" => return Ok(None),
                 _ => return Err(format!("{word} is no part and no option")),
             }

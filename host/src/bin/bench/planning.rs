@@ -33,7 +33,7 @@ pub fn measure(options: &Options) {
 fn measure_group(group: &Group, options: &Options) -> Panel {
     let mut panel = Panel { name: group.name.clone(), lists: group.lists.len(), lines: Vec::new() };
     for memory in options.memory_or(&MEMORY) {
-        let runs: Vec<Option<Solved>> = group.lists.iter().map(|list| solve(list, memory, options.cutoff)).collect();
+        let runs: Vec<Option<Solved>> = group.lists.iter().map(|list| solve(list, memory, options)).collect();
         if options.each {
             group.lists.iter().zip(&runs).for_each(|(list, run)| print_one(list, run));
         }
@@ -56,9 +56,9 @@ fn times(runs: &[Option<Solved>], cutoff: Duration) -> Times {
     Times::of(&seconds, cutoff)
 }
 
-fn solve(list: &List, memory: usize, cutoff: Duration) -> Option<Solved> {
-    let library = call(Side::Library, list, memory, cutoff)?;
-    let plain = call(Side::Plain, list, memory, 2 * cutoff);
+fn solve(list: &List, memory: usize, options: &Options) -> Option<Solved> {
+    let library = call(Side::Library, list, memory, options.cutoff)?;
+    let plain = call(if options.bare { Side::Bare } else { Side::Plain }, list, memory, 2 * options.cutoff);
     Some(Solved { library, plain })
 }
 

@@ -21,5 +21,6 @@ options of plans, ablation and gecode:
   --limit N        ablation: part-plans until a search is given up (300000)
   --full           sizes 10,12,14,16,20
   --each           plans, gecode: a line for each list too
+  --bare           plans: the library is one without rules (tests/bare_search.py), and so is the plain search beside it
   --svg FILE       plans: a picture too, the share of the lists that are solved within a time
 ";

@@ -1,0 +1,48 @@
+#!/usr/bin/env python3
+"""Measures the search without its rules; not in the gate.
+
+The bare search makes no cut and tries every job that may come next: `hopeless` and `passed_over` answer false and `to_try` gives the
+whole set, which their contracts allow. The repository is copied to target/bare/, these three bodies are replaced there, the library is
+proved and built anew, and the benchmark compares it with the plain search without rules. Words after the script's name are the
+benchmark's options, such as --sizes 8,9 --memory 0.
+"""
+import pathlib
+import re
+import shutil
+import subprocess
+import sys
+
+ROOT = pathlib.Path(__file__).parent.parent
+BARE = ROOT / 'target/bare'
+# a function of the search, and what stands in its place
+BODIES = {('bounds', 'hopeless'): 'false', ('branching', 'passed_over'): 'false', ('branching', 'to_try'): 'set'}
+
+
+def copy_files():
+    listed = subprocess.run(['git', 'ls-files', 'crates.txt', 'crates', 'host'], cwd=ROOT, check=True, capture_output=True, text=True)
+    shutil.rmtree(BARE / 'crates', ignore_errors=True)
+    for name in listed.stdout.splitlines():
+        (BARE / name).parent.mkdir(parents=True, exist_ok=True)
+        shutil.copyfile(ROOT / name, BARE / name)
+
+
+def replace_body(crate, function, body):
+    """Replaces the function's body; its proof is then found without a file."""
+    source = BARE / 'crates' / crate / 'src/lib.rt'
+    text, count = re.subn(rf'(\npub fn {function}\b.*?\n{{\n).*?\n}}\n', rf'\g<1>    {body}\n}}\n', source.read_text(), flags=re.S)
+    assert count == 1, f'{crate} has no function {function}'
+    source.write_text(text)
+    shutil.rmtree(BARE / 'crates' / crate / 'proofs' / function)
+
+
+def main():
+    copy_files()
+    for (crate, function), body in BODIES.items():
+        replace_body(crate, function, body)
+    subprocess.run(['rt', 'staticlib', 'firmware'], cwd=BARE, check=True, stdout=subprocess.DEVNULL)
+    options = sys.argv[1:] or ['--sizes', '8,9', '--memory', '0']
+    bench = ['cargo', 'run', '--quiet', '--release', '--offline', '--bin', 'bench', 'plans', '--bare', *options]
+    subprocess.run(bench, cwd=BARE / 'host', check=True)
+
+
+main()
