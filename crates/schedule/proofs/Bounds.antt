@@ -1,7 +1,7 @@
 -- The bounds by weights, by lanes and by modules, and jobs that must overlap, as cuts.
 use mathlib.Core.Path.{_≡_}
 use mathlib.Core.Logic.{_⊎_, inl, inr}
-use mathlib.Core.Bool.{true, false, not, _&&_}
+use mathlib.Core.Bool.{false, not, _&&_}
 use mathlib.Core.List.{List, [], _∷_}
 use Prim.Native.Nat.{ℕ, suc, _+_, _-_, _*_, _≤_, _<_}
 use native.Mathlib.Omega.{arith}
@@ -40,9 +40,6 @@ module _ (S : Sheet) (lasting : Lasting S) (n : Narrow S) (w : List ℕ) (f : Fo
     valid : Valid S Q
     valid = complete-valid S (placeAll S P p) (place-all-sound S n P p sound (c .0)) (completes-all S P p c)
 
-    early : (k : ℕ) → k < S .jobs → P .placed k ≡ true → P .plan .start k ≤ l
-    early k x p = le-trans (sound .early k x p) from
-
     later : (k : ℕ) → k < S .jobs → P .placed k ≡ false → l ≤ Q .start k
     unfolding placeAll
     later = go p c
@@ -55,17 +52,15 @@ module _ (S : Sheet) (lasting : Lasting S) (n : Narrow S) (w : List ℕ) (f : Fo
     goes-on = record {
       timed = valid-timed S Q valid;
       kept = λ k x z. place-all-keeps S P p (c .0) k z .start;
-      early = early;
+      early = λ k x z. le-trans (sound .early k x z) from;
       later = later;
     }
 
     goes-on-with : GoesOnWith S P l Q
     goes-on-with = record {
+      on = goes-on;
       valid = valid;
-      kept = λ k x z. place-all-keeps S P p (c .0) k z .start;
       uses = λ k m x z. place-all-keeps S P p (c .0) k z .uses m;
-      early = early;
-      later = later;
     }
 
   -- ---- the cuts
@@ -83,7 +78,8 @@ module _ (S : Sheet) (lasting : Lasting S) (n : Narrow S) (w : List ℕ) (f : Fo
       → CannotBeat S (suc T) w
   weights-cut y K most over = by-end (λ p c x. omega (arith, over, weights-bound S P l (Q p c) (goes-on p c) T x y K most))
 
-  pub reach-cut : (y v K Z : ℕ → ℕ) → Holds (S .need) (S .jobs) (S .modules) y K → Rises (S .modules) K → Holds (S .minutes) (S .jobs) T v Z → Z 0 ≡ 0 → Rises T Z
+  pub reach-cut : (y v K Z : ℕ → ℕ) → Holds (S .need) (S .jobs) (S .modules) y K → Rises (S .modules) K
+      → Holds (S .minutes) (S .jobs) T v Z → Z 0 ≡ 0 → Rises T Z
       → sum T (λ t. only (leb l t) (K (S .modules - occupied S P t) * gain Z T t)) < sum (S .jobs) (λ k. only (not (P .placed k)) (y k * v k))
       → CannotBeat S (suc T) w
   reach-cut y v K Z most more lasts none rises over = by-end (λ p c x.

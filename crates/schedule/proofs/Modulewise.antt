@@ -18,6 +18,7 @@ use Rattle.schedule.specs.ListPlan.{PartPlan, occupies, free, occupied}
 use Rattle.schedule.proofs.Sound.{Sound}
 use Rattle.schedule.proofs.Occupied.{free-count}
 use Rattle.schedule.proofs.Area.{availableFrom}
+use Rattle.schedule.proofs.Weights.{GoesOn}
 use Rattle.schedule.proofs.Lanes.{OnLanes, lanes-bound}
 
 -- no set of jobs that are left and last x minutes together weighs more than Z x
@@ -25,13 +26,11 @@ abbrev pub Lasts : Sheet → PartPlan → (ℕ → ℕ) → (ℕ → ℕ) → Ty
 Lasts S P y Z = (X : ℕ → Bool) (x : ℕ) → ((k : ℕ) → X k ≡ true → P .placed k ≡ false)
     → sum (S .jobs) (λ k. only (X k) (S .minutes k)) ≤ x → sum (S .jobs) (λ k. only (X k) (y k)) ≤ Z x
 
--- Q goes on from P, on the same modules: it keeps the placed jobs and starts the others from minute l on
+-- Q goes on from P, and keeps the placed jobs on their modules too
 pub record GoesOnWith (S : Sheet) (P : PartPlan) (l : ℕ) (Q : Plan) : Type 0 where
+  pub on : GoesOn S P l Q
   pub valid : Valid S Q
-  pub kept : (k : ℕ) → k < S .jobs → P .placed k ≡ true → Q .start k ≡ P .plan .start k
   pub uses : (k m : ℕ) → k < S .jobs → P .placed k ≡ true → Q .uses k m ≡ P .plan .uses k m
-  pub early : (k : ℕ) → k < S .jobs → P .placed k ≡ true → P .plan .start k ≤ l
-  pub later : (k : ℕ) → k < S .jobs → P .placed k ≡ false → l ≤ Q .start k
 
 -- the minute from which module m is free for the jobs that are left
 abbrev pub freeFrom : Sheet → PartPlan → ℕ → ℕ → ℕ
@@ -50,15 +49,15 @@ module _ (S : Sheet) (w : Lasting S) (P : PartPlan) (l : ℕ) (Q : Plan) (h : Go
   starts-free m k x b =
       let most = largest-le (S .jobs) (λ i. only (P .placed i && P .plan .uses i m) (finish S (P .plan) i)) (Q .start k)
       (λ i z. only-within (P .placed i && P .plan .uses i m) (finish S (P .plan) i) (Q .start k) (one i z)) in
-      omega (arith, most, h .later k x (is-left m k b))
+      omega (arith, most, h .on .later k x (is-left m k b))
     where
       one : (i : ℕ) → i < S .jobs → (P .placed i && P .plan .uses i m) ≡ true → finish S (P .plan) i ≤ Q .start k
       one i z c =
           let p = and-left (P .placed i) _ c in
-          let s = h .kept i z p in
+          let s = h .on .kept i z p in
           let u : Q .uses i m ≡ true = h .uses i m z p ∙ and-right (P .placed i) _ c in
           let other : i ≢ k = λ y. clash (P .placed i) p (ap (P .placed) y ∙ is-left m k b) in
-          ⊎-elim (λ d. omega (arith, d, s)) (λ d. absurd (omega (arith, d, s, h .early i z p, h .later k x (is-left m k b), w k x)))
+          ⊎-elim (λ d. omega (arith, d, s)) (λ d. absurd (omega (arith, d, s, h .on .early i z p, h .on .later k x (is-left m k b), w k x)))
           (h .valid .apart i k m z x other u (and-right (not (P .placed k)) _ b))
 
   -- ---- the modules as lanes
@@ -135,7 +134,8 @@ module _ (S : Sheet) (P : PartPlan) (s : Sound S P) (l : ℕ) (from : P .last �
           (S .need k * rest-of k)
       go true q =
           rw q
-          (sum-alike (S .modules) (P .plan .uses k) (rest-of k) ∙ ap (λ (c : ℕ). c * rest-of k) (s .enough k x (and-left (P .placed k) _ q)))
+          (sum-alike (S .modules) (P .plan .uses k) (rest-of k)
+          ∙ ap (λ (c : ℕ). c * rest-of k) (s .enough k x (and-left (P .placed k) _ q)))
       go false q = rw q (sum-zero (S .modules))
 
   pub by-profile : sum (S .modules) (λ m. Z (T - freeFrom S P l m))
