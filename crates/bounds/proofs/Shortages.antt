@@ -80,9 +80,9 @@ module _ (need minutes earlier : List ℕ) (jobs modules : ℕ) (part : Part) (k
       → CannotBeat S (suc T) w
   unfolding servedOn
   overfull-cut o =
-      let free = sum-same T (λ t. only (leb least t) (o .most (modules - heldAt (part .until) (part .held) (part .placed) t) * gain (o .reach) T t))
-      (λ t. only (leb least t) (o .most (modules - occupied S P t) * gain (o .reach) T t))
-      (λ t l. ap (λ (x : ℕ). only (leb least t) (o .most (modules - x) * gain (o .reach) T t)) (held-is t)) in
+      let served : ℕ → ℕ → ℕ = λ x t. only (leb least t) (o .most (modules - x) * gain (o .reach) T t) in
+      let free = sum-same T (λ t. served (heldAt (part .until) (part .held) (part .placed) t) t) (λ t. served (occupied S P t) t)
+      (λ t l. ap (λ (x : ℕ). served x t) (held-is t)) in
       reach-cut S (known .fit .lasting) (known .fit .narrow) w (known .is .follows) least (starts .low)
       (none-before need minutes earlier jobs modules part known at least starts) T (o .weight) (o .value) (o .most) (o .reach)
       (o .weighs) (o .most-rises) (o .lasts) (o .reach-none) (o .reach-rises)

@@ -7,12 +7,12 @@ use lib.ListN.{getD}
 use Rattle.counting.specs.Counting.{only, sum}
 use Rattle.counting.proofs.Tests.{only-le}
 use Rattle.bits.specs.Bits.{bit}
+use Rattle.schedule.specs.Bounds.{mustRun}
 use Rattle.tables.specs.Tables.{Fit}
 use Rattle.placement.specs.declared.Ended.{Ended}
 use Rattle.placement.specs.Profile.{EndedBy}
 use Rattle.placement.proofs.Profiles.{held-from-le}
 use Rattle.overlaps.specs.Overlaps.{mustHold, Overlapping}
-use Rattle.schedule.specs.Bounds.{mustRun}
 
 -- no job holds more than the cabinet has
 pub hold-small : {need minutes : List ℕ} {jobs modules : ℕ} → Fit need minutes jobs modules → (l T m k : ℕ) → k < jobs

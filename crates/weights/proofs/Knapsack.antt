@@ -13,8 +13,8 @@ use lib.ListN.{getD, replicate, length-replicate}
 use Rattle.counting.specs.Counting.{only, sum, Holds}
 use Rattle.counting.proofs.Tests.{true-or-false, less-or-not, last-or-below}
 use Rattle.tables.specs.Tables.{Fit}
+use Rattle.tables.proofs.Laws.{zeros}
 use Rattle.weights.specs.Weights.{weightIn, mostWith, Put, Knapsack, MostOf, Weighting, WeightedTo}
-use Rattle.weights.proofs.Puts.{zeros}
 
 -- ---- the weight of one job
 

@@ -45,7 +45,7 @@ pub record Room (most : ℕ → ℕ) (until held : List ℕ) (placed modules l T
   pub low : room ≤ 720 * at
   pub all : room + roomFor most until held modules placed at T ≡ roomFor most until held modules placed l T
 
-pub room-start : {most : ℕ → ℕ} {until held : List ℕ} {placed modules l T room : ℕ} → ((x : ℕ) → most x ≤ 720) → room ≤ 0
+pub room-start : {most : ℕ → ℕ} {until held : List ℕ} {placed modules l T room : ℕ} → ((x : ℕ) → most x ≤ 720) → room ≡ 0
     → Room most until held placed modules l T room l
 room-start small none = record { small = small; low = omega arith; all = omega arith }
 
