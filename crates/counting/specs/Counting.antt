@@ -1,5 +1,5 @@
--- Sums, counts, the largest value, tests and joined lists over the numbers below n.
--- Each is a fold from below, the shape of a loop `while i < n`: its invariant is `acc ≡ sum i f`.
+-- Sums, counts, the largest value, tests and joined lists over the numbers below n, and two bounds.
+-- Each but these is a fold from below, the shape of a loop `while i < n`: its invariant is `acc ≡ sum i f`.
 use mathlib.Core.Bool.{Bool, true, false, _&&_, _||_}
 use mathlib.Core.List.{List, [], _++_}
 use Prim.Native.Nat.{ℕ, zero, suc, _+_, _≤_, max}
@@ -37,6 +37,8 @@ count n p = sum n (λ i. only (p i) 1)
 unfoldable pub joined {ℓ} : {A : Type ℓ} → ℕ → (ℕ → List A) → List A
 joined zero f = []
 joined (suc n) f = joined n f ++ f n
+
+-- ---- bounds
 
 -- up to n, a larger number has no smaller value
 abbrev pub Rises : ℕ → (ℕ → ℕ) → Type 0
