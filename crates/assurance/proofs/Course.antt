@@ -1,7 +1,7 @@
 -- What a controller that follows a plan holds: the needs of the jobs that have begun and not ended, never more than the sheet's modules.
 use mathlib.Core.Path.{_≡_, refl, ap, _∙_}
 use mathlib.Core.Logic.{_⊎_, inl, inr}
-use mathlib.Core.Bool.{Bool, true, false, not, _&&_, _||_}
+use mathlib.Core.Bool.{Bool, true, false, not, _&&_, _||_, or-true}
 use Prim.Native.Nat.{ℕ, _+_, _≤_, _<_, zero-le}
 use native.Mathlib.Omega.{arith}
 use native.Mathlib.Nat.{le-refl}
@@ -87,10 +87,6 @@ module _ (S : Sheet) (P : Plan) (v : Valid S P) (w : Lasting S) (b e : ℕ → B
       begun = λ i c q. ap (λ z. eqb i j || z) (h .begun i c q) ∙ or-true (eqb i j);
     }
       where
-        or-true : (z : Bool) → (z || true) ≡ true
-        or-true true = refl
-        or-true false = refl
-
         one : (i k : ℕ) → i < S .jobs → k < S .jobs → placing b j i ≡ true → b k ≡ false
             → (z : Bool) → eqb i j ≡ z → P .start i ≤ P .start k
         one i k c d p q true y = rw (eqb-true i j y) (omega (arith, x .begins k d q))

@@ -10,6 +10,7 @@ use lib.Bits.{bitOr, bitAnd, or-shr, or-mod, and-shr, and-mod, and-high}
 use borrow.Author.Tests.{eqb-true, eqb-false}
 use Rattle.counting.specs.Counting.{only}
 use Rattle.bits.specs.Bits.{bit}
+use Rattle.counting.proofs.Tests.{only-mul}
 
 -- ---- a bit as a number
 
@@ -24,11 +25,8 @@ bit-digit x i = go (eqb (x / 2 ^ i % 2) 1) refl
 
 -- as the digit's value, 0 or a power of 2
 pub bit-value : (x i : ℕ) → x / 2 ^ i % 2 * 2 ^ i ≡ only (bit x i) (2 ^ i)
-bit-value x i = ap (λ (d : ℕ). d * 2 ^ i) (bit-digit x i) ∙ value (bit x i)
-  where
-    value : (b : Bool) → only b 1 * 2 ^ i ≡ only b (2 ^ i)
-    value true = omega arith
-    value false = omega arith
+bit-value x i =
+    ap (λ (d : ℕ). d * 2 ^ i) (bit-digit x i) ∙ only-mul (bit x i) 1 (2 ^ i) ∙ ap (only (bit x i)) (omega arith)
 
 -- ---- the lowest bit, and the others
 

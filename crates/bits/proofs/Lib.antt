@@ -4,3 +4,4 @@ pub mod Members
 pub mod Sets
 pub mod Ones
 pub mod Walks
+pub mod Weighing

@@ -1,7 +1,7 @@
 -- A walk over the members of a set: the lowest is taken out until none is left.
 use mathlib.Core.Path.{_≡_, refl, sym, ap, _∙_}
 use mathlib.Core.Logic.{_⊎_, inl, inr}
-use mathlib.Core.Bool.{Bool, true, false, _&&_}
+use mathlib.Core.Bool.{Bool, true, false, _&&_, and-true}
 use Prim.Native.Nat.{ℕ, zero, suc, _+_, _-_, _*_, _/_, _%_, _^_, _≤_, _<_, min}
 use native.Mathlib.Omega.{arith}
 use native.Mathlib.Nat.{pos-of-ne-zero, not-suc-le-zero}
@@ -105,11 +105,7 @@ walk-gone rest j i b = go (eqb i j) refl
   where
     go : (e : Bool) → eqb i j ≡ e → (i ≡ j) ⊎ (bit rest i ≡ false)
     go true e = inl (eqb-true i j e)
-    go false e = inr (kept (bit rest i) (rw e at (sym (bit-without rest j i) ∙ b)))
-      where
-        kept : (x : Bool) → x && true ≡ false → x ≡ false
-        kept true y = y
-        kept false y = refl
+    go false e = inr (sym (and-true (bit rest i)) ∙ rw e at (sym (bit-without rest j i) ∙ b))
 
 pub walk-less : (rest j : ℕ) → bit rest j ≡ true → ones (withoutBit rest j) < ones rest
 walk-less rest j b = omega (arith, ones-without rest j b)

@@ -10,11 +10,12 @@ use lib.Dec.{ltb, leb}
 use lib.ListN.{getD}
 use borrow.Author.Tests.{ltb-true, lt-ltb}
 use Rattle.counting.specs.Counting.{only, sum}
-use Rattle.counting.proofs.Tests.{and-left, and-right}
+use Rattle.counting.proofs.Tests.{and-left, and-right, mul-only}
 use Rattle.counting.proofs.Sums.{sum-same}
 use Rattle.bits.specs.Bits.{bit}
 use Rattle.schedule.specs.Plan.{Sheet, finish}
 use Rattle.schedule.specs.ListPlan.{PartPlan, occupies, occupied}
+use Rattle.schedule.specs.Bounds.{mustRun, gain}
 use Rattle.schedule.proofs.Places.{CannotBeat}
 use Rattle.schedule.proofs.Bounds.{overlap-cut, weights-cut, reach-cut, modules-cut}
 use Rattle.tables.specs.Tables.{sheetOf}
@@ -23,16 +24,12 @@ use Rattle.placement.specs.Profile.{heldAt}
 use Rattle.placement.specs.Part.{wordOf, Figures}
 use Rattle.placement.proofs.Parts.{occupied-is}
 use Rattle.weights.specs.Weights.{Outweighed}
-use Rattle.overlaps.specs.Overlaps.{runsAt, mustHold, Overlapping}
+use Rattle.overlaps.specs.Overlaps.{mustHold, Overlapping}
 use Rattle.lanes.specs.Lanes.{servedOn, Overfull}
 use Rattle.sums.specs.Sums.{together, Unserved}
 use Rattle.candidates.specs.Candidates.{Known, theoryPart, JobStarts}
 use Rattle.candidates.proofs.Starting.{none-before}
 use Rattle.bounds.specs.Bounds.{TooFew}
-
-times-only : (b : Bool) (x y : ℕ) → only b (x * y) ≡ x * only b y
-times-only true x y = refl
-times-only false x y = omega arith
 
 module _ {need minutes earlier : List ℕ} {jobs modules : ℕ} {part : Part} (known : Known need minutes earlier jobs modules part)
     {at : List ℕ} {least : ℕ} (starts : JobStarts need minutes earlier jobs modules part at least) (T : ℕ) where
@@ -60,7 +57,7 @@ module _ {need minutes earlier : List ℕ} {jobs modules : ℕ} {part : Part} (k
   overlapping-cut o =
       let m = o .minute in
       let same = sum-same jobs (λ k. only (not (P .placed k)) (mustHold need minutes least T m k))
-      (λ k. only (not (P .placed k) && runsAt least T m (S .minutes k)) (S .need k)) (λ k l. both (not (P .placed k)) _ (S .need k)) in
+      (λ k. only (not (P .placed k) && mustRun least T m (S .minutes k)) (S .need k)) (λ k l. both (not (P .placed k)) _ (S .need k)) in
       overlap-cut S (known .fit .lasting) (known .fit .narrow) w (known .is .follows) least (starts .low)
       (none-before known starts) T m (o .from)
       (omega (arith, o .over, of-set (mustHold need minutes least T m), same, held-is m))
@@ -83,10 +80,9 @@ module _ {need minutes earlier : List ℕ} {jobs modules : ℕ} {part : Part} (k
       → CannotBeat S (suc T) w
   unfolding servedOn
   overfull-cut o =
-      let gain : ℕ → ℕ = λ t. o .reach (T - t) - o .reach (T - suc t) in
-      let free = sum-same T (λ t. only (leb least t) (o .most (modules - heldAt (part .until) (part .held) (part .placed) t) * gain t))
-      (λ t. only (leb least t) (o .most (modules - occupied S P t) * gain t))
-      (λ t l. ap (λ (x : ℕ). only (leb least t) (o .most (modules - x) * gain t)) (held-is t)) in
+      let served : ℕ → ℕ → ℕ = λ x t. only (leb least t) (o .most (modules - x) * gain (o .reach) T t) in
+      let free = sum-same T (λ t. served (heldAt (part .until) (part .held) (part .placed) t) t) (λ t. served (occupied S P t) t)
+      (λ t l. ap (λ (x : ℕ). served x t) (held-is t)) in
       reach-cut S (known .fit .lasting) (known .fit .narrow) w (known .is .follows) least (starts .low)
       (none-before known starts) T (o .weight) (o .value) (o .most) (o .reach)
       (o .weighs) (o .most-rises) (o .lasts) (o .reach-none) (o .reach-rises)
@@ -117,7 +113,7 @@ module _ {need minutes earlier : List ℕ} {jobs modules : ℕ} {part : Part} (k
         ≡ sum jobs (λ i. only (occupies S P least i) (S .need i * u .reach (T - finish S (P .plan) i)))
     behind =
         sum-same (part .placed) _ _ (λ k l.
-        times-only (ltb least (getD (part .until) k 0)) (getD (part .held) k 0) (u .reach (T - getD (part .until) k 0)))
+        sym (mul-only (ltb least (getD (part .until) k 0)) (getD (part .held) k 0) (u .reach (T - getD (part .until) k 0))))
         ∙ F .by-end (λ e. only (ltb least e) (u .reach (T - e)))
         ∙ sum-same jobs _ _ (λ i l. one i (P .placed i) refl)
       where
@@ -125,7 +121,7 @@ module _ {need minutes earlier : List ℕ} {jobs modules : ℕ} {part : Part} (k
             → only (P .placed i) (S .need i * only (ltb least (finish S (P .plan) i)) (u .reach (T - finish S (P .plan) i)))
             ≡ only (occupies S P least i) (S .need i * u .reach (T - finish S (P .plan) i))
         one i true e = rw (e, add-zero (finish S (P .plan) i))
-            (sym (times-only (ltb least (finish S (P .plan) i)) (S .need i) (u .reach (T - finish S (P .plan) i))))
+            (mul-only (ltb least (finish S (P .plan) i)) (S .need i) (u .reach (T - finish S (P .plan) i)))
         one i false e = rw e refl
 
     unserved-cut : CannotBeat S (suc T) w

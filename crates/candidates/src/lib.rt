@@ -1,7 +1,7 @@
 // The jobs that may come next from a part-plan, when each of them starts, and which of them is the next to be tried.
 ghost use mathlib.Core.Path.{_≡_};
 ghost use mathlib.Core.Bool.{true};
-ghost use Prim.Native.Nat.{_+_, _-_, _*_, _<_, _≤_, min};
+ghost use Prim.Native.Nat.{_+_, _-_, _*_, _<_, _≤_};
 ghost use lib.ListN.{getD};
 ghost use Rattle.bits.specs.Bits.{bit};
 ghost use Rattle.placement.specs.Profile.{Profile};
@@ -88,13 +88,6 @@ pub fn start_or_none(
     65535
 }
 
-// The earlier of two minutes.
-fn sooner(a: u16, b: u16) -> u16
-    ensures { λ r. ⌜ r ≡ min a b ⌝ }
-{
-    if a <= b { a } else { b }
-}
-
 // The starts of all jobs that may come next.
 pub fn ready_starts<'a>(
     need: &[u16; 20],
@@ -135,7 +128,7 @@ pub fn ready_starts<'a>(
             j,
         );
         at[j] = s;
-        least = sooner(least, s);
+        least = placement::sooner(least, s);
         rest = bits::without_lowest32(rest);
     }
     Starts { at, least }

@@ -2,14 +2,14 @@
 use mathlib.Core.Path.{_≡_, refl, sym, ap, _∙_}
 use mathlib.Core.Logic.{_⊎_, inl, inr}
 use mathlib.Core.Bool.{Bool, true, false, not, _&&_, _||_}
-use Prim.Native.Nat.{ℕ, zero, suc, _+_, _≤_, _<_, min, zero-le}
+use Prim.Native.Nat.{ℕ, zero, suc, _+_, _*_, _≤_, _<_, min, zero-le}
 use native.Mathlib.Omega.{arith}
 use native.Mathlib.Nat.{le-refl}
 use lib.Dec.{ltb, eqb}
 use borrow.Author.Tests.{ltb-true, ltb-false}
 use Rattle.counting.specs.Counting.{only, sum, any, count}
-use Rattle.counting.proofs.Tests.{true-or-false, only-le, only-mono}
-use Rattle.counting.proofs.Sums.{sum-le, sum-same, sum-zero, le-sum, sum-up, sum-insert}
+use Rattle.counting.proofs.Tests.{true-or-false, only-le, only-mono, only-split, only-mul}
+use Rattle.counting.proofs.Sums.{sum-le, sum-same, sum-mul, sum-zero, le-sum, sum-up, sum-insert}
 
 pub count-le : (n : ℕ) (p : ℕ → Bool) → count n p ≤ n
 unfolding sum
@@ -33,11 +33,7 @@ count-none n p h = count-same n p (λ i. false) h ∙ sum-zero n
 pub count-not : (n : ℕ) (p : ℕ → Bool) → count n p + count n (λ i. not (p i)) ≡ n
 unfolding sum
 count-not zero p = refl
-count-not (suc n) p = omega (arith, count-not n p, one (p n))
-  where
-    one : (b : Bool) → only b 1 + only (not b) 1 ≡ 1
-    one true = refl
-    one false = refl
+count-not (suc n) p = omega (arith, count-not n p, only-split (p n) 1)
 
 -- where all are counted, each passes
 pub count-full : (n : ℕ) (p : ℕ → Bool) → n ≤ count n p → (i : ℕ) → i < n → p i ≡ true
@@ -76,6 +72,10 @@ any-le-count (suc n) p = go (true-or-false (any n p)) (true-or-false (p n)) (any
 
 pub count-insert : (n : ℕ) (d : ℕ → Bool) (j : ℕ) → j < n → d j ≡ false → count n (λ i. eqb i j || d i) ≡ suc (count n d)
 count-insert n d j l e = omega (arith, sum-insert n d (λ i. 1) j l e)
+
+-- the same for each number that passes
+pub sum-alike : (n : ℕ) (p : ℕ → Bool) (c : ℕ) → sum n (λ i. only (p i) c) ≡ count n p * c
+sum-alike n p c = sum-same n _ _ (λ i l. rw (only-mul (p i) 1 c) (ap (only (p i)) (omega arith))) ∙ sum-mul n (λ i. only (p i) 1) c
 
 -- a test that does not depend on the number
 pub only-count : (b : Bool) (n : ℕ) (p : ℕ → Bool) → only b (count n p) ≡ count n (λ m. b && p m)

@@ -2,7 +2,7 @@
 use mathlib.Core.Path.{_≡_, refl}
 use mathlib.Core.Logic.{_⊎_, inl, inr, _≢_}
 use mathlib.Core.Bool.{Bool, true, false, not, _&&_, _||_}
-use Prim.Native.Nat.{ℕ, _≤_, _<_, suc, zero-le}
+use Prim.Native.Nat.{ℕ, suc, _+_, _*_, _≤_, _<_, zero-le}
 use native.Mathlib.Omega.{arith}
 use native.Mathlib.Nat.{le-refl}
 use lib.Dec.{ltb, eqb}
@@ -97,3 +97,22 @@ only-le false x = zero-le
 pub only-mono : (a b : Bool) (x : ℕ) → (a ≡ true → b ≡ true) → only a x ≤ only b x
 only-mono true b x h = rw (h refl) (le-refl x)
 only-mono false b x h = zero-le
+
+-- what passes the test is within the bound
+pub only-within : (b : Bool) (x y : ℕ) → (b ≡ true → x ≤ y) → only b x ≤ y
+only-within true x y h = h refl
+only-within false x y h = zero-le
+
+-- with the test and without it
+pub only-split : (b : Bool) (x : ℕ) → x ≡ only b x + only (not b) x
+only-split true x = omega arith
+only-split false x = omega arith
+
+-- a product with it
+pub only-mul : (b : Bool) (x y : ℕ) → only b x * y ≡ only b (x * y)
+only-mul true x y = refl
+only-mul false x y = omega arith
+
+pub mul-only : (b : Bool) (x y : ℕ) → x * only b y ≡ only b (x * y)
+mul-only true x y = refl
+mul-only false x y = omega arith

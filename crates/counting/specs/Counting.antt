@@ -1,8 +1,8 @@
--- Sums, counts, the largest value, tests and joined lists over the numbers below n.
--- Each is a fold from below, the shape of a loop `while i < n`: its invariant is `acc ≡ sum i f`.
+-- Sums, counts, the largest value, tests and joined lists over the numbers below n, and two bounds.
+-- Each but these is a fold from below, the shape of a loop `while i < n`: its invariant is `acc ≡ sum i f`.
 use mathlib.Core.Bool.{Bool, true, false, _&&_, _||_}
 use mathlib.Core.List.{List, [], _++_}
-use Prim.Native.Nat.{ℕ, zero, suc, _+_, max}
+use Prim.Native.Nat.{ℕ, zero, suc, _+_, _≤_, max}
 
 -- x where the test holds, and 0 elsewhere
 abbrev pub only : Bool → ℕ → ℕ
@@ -37,3 +37,13 @@ count n p = sum n (λ i. only (p i) 1)
 unfoldable pub joined {ℓ} : {A : Type ℓ} → ℕ → (ℕ → List A) → List A
 joined zero f = []
 joined (suc n) f = joined n f ++ f n
+
+-- ---- bounds
+
+-- up to n, a larger number has no smaller value
+abbrev pub Rises : ℕ → (ℕ → ℕ) → Type 0
+Rises n f = (a b : ℕ) → a ≤ b → b ≤ n → f a ≤ f b
+
+-- no set of numbers below n that is at most x wide, where x is at most `top`, is worth more than K x
+abbrev pub Holds : (ℕ → ℕ) → ℕ → ℕ → (ℕ → ℕ) → (ℕ → ℕ) → Type 0
+Holds width n top y K = (X : ℕ → Bool) (x : ℕ) → x ≤ top → sum n (λ k. only (X k) (width k)) ≤ x → sum n (λ k. only (X k) (y k)) ≤ K x

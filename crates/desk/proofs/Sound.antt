@@ -1,14 +1,14 @@
 -- The test of a desk as facts: what holds of a desk that can be, and that the others' part and a controller's own add up.
 use mathlib.Core.Path.{_≡_, refl, _∙_}
 use mathlib.Core.Logic.{_⊎_, inl, inr, ⊎-elim}
-use mathlib.Core.Bool.{Bool, true, false, not, _&&_}
+use mathlib.Core.Bool.{true, false, not, _&&_}
 use Prim.Native.Nat.{ℕ, _+_, _≤_, _<_, max}
 use native.Mathlib.Omega.{arith}
 use lib.Dec.{ltb, leb, eqb}
 use lib.ListN.{length, List·getD-eq-default}
 use borrow.Author.Tests.{ltb-true, leb-true, eqb-true, lt-ltb, le-ltb, le-leb, eq-eqb, not-false}
 use Rattle.counting.specs.Counting.{only, sum, every}
-use Rattle.counting.proofs.Tests.{and-left, and-right, and-both, or-left, or-right, less-or-not, only-le}
+use Rattle.counting.proofs.Tests.{and-left, and-right, and-both, or-left, or-right, less-or-not, only-le, only-split}
 use Rattle.counting.proofs.Sums.{sum-same, sum-add, sum-single}
 use Rattle.counting.proofs.Ranges.{every-at, every-intro}
 use Rattle.desk.specs.declared.Desk.{Desk}
@@ -131,13 +131,9 @@ pub reserves-split : (d : Desk) (c : ℕ) → c < d .count → sum (d .count) (r
 reserves-split d c l =
     let n = d .count in
     let split : sum n (reserved d) ≡ sum n (λ i. only (eqb i c) (reserved d i)) + reservedForOthers d c =
-    sum-same n _ _ (λ i k. one (reserved d i) (eqb i c))
+    sum-same n _ _ (λ i k. only-split (eqb i c) (reserved d i))
     ∙ sum-add n (λ i. only (eqb i c) (reserved d i)) (λ i. only (not (eqb i c)) (reserved d i)) in
     omega (arith, sum-single n (reserved d) c l)
-  where
-    one : (x : ℕ) (b : Bool) → x ≡ only b x + only (not b) x
-    one x true = omega arith
-    one x false = omega arith
 
 -- a number that is no controller's holds nothing and reserves nothing
 pub none-reserved : (d : Desk) → Sound d → (c : ℕ) → d .count ≤ c → reserved d c ≡ 0

@@ -17,7 +17,8 @@ use Rattle.schedule.specs.Rows.{sameList}
 use Rattle.schedule.proofs.RowLaws as plans
 use Rattle.bits.specs.Bits.{bit, setOf}
 use Rattle.card.specs.Card as card
-use Rattle.sheet_format.specs.Format.{u16At, u32At, recordAt, recordBytes, trailerBytes, sheetBytes}
+use Rattle.words.specs.Words.{u16At, u32At}
+use Rattle.sheet_format.specs.Format.{recordAt, recordBytes, trailerBytes, sheetBytes}
 use Rattle.sheet_format.specs.Format.{places as sheet-places}
 use Rattle.sheet_format.specs.Checks.{outside, faulty}
 use Rattle.sheet.specs.Read.{reading}

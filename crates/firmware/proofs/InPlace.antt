@@ -44,6 +44,7 @@ use Rattle.desk.proofs.Desk as D
 use Rattle.desk.proofs.Desk.Laws as D′
 use Rattle.desk.proofs.Booked as B
 use Rattle.desk.proofs.Booked.Laws as B′
+use Rattle.firmware.proofs.Machine.{deskV, number-fits, desk-is}
 
 -- ---- the thin call and the call by value, over what the latter answers
 
@@ -119,10 +120,6 @@ ByValue 𝓤 H A answer = tripleOf 𝓤 H A (value-ended .signature) (closing �
 abbrev stayed : Stays (thin-ended .signature .params) (thin-ended .kept)
 stayed = (stay-ref (0 ∷ []) tt (plain (λ _. D.the-row)), (stay-none (λ _. u32) yes, (stay-none (λ _. u32) yes, tt)))
 
--- the machine value of a desk
-abbrev deskV : Desk → Val
-deskV = LL.val D.the-type D′.the-laws
-
 module _ {M : Type 1} (𝓤 : URA M) (H : Heap 𝓤) (A : Atoms 𝓤) (W : Given 𝓤 H A) (key : Name) (answer : Answer)
     (κ : Lft) (q : Share) (b o : ℕ) (γ : GName) (d : Desk) (c k : ℕ) (c-fits : c < 2 ^ 32) (k-fits : k < 2 ^ 32) where
   abbrev args : RefT Desk × (ℕ × (ℕ × Unit {0}))
@@ -163,13 +160,6 @@ module _ {M : Type 1} (𝓤 : URA M) (H : Heap 𝓤) (A : Atoms 𝓤) (W : Given
   answered : (r : Booked)
       → ent 𝓤 (ensured 𝓤 H A value-ended (value-clauses 𝓤 answer) tt (d, (c, (k, tt))) tt r) (fact 𝓤 (r ≡ answer d c k))
   answered r = exE 𝓤 _ (λ ws. snd∗ 𝓤 (sem 𝓤 H A (lasts value-ended tt (d, (c, (k, tt))) ws)) (fact 𝓤 (r ≡ answer d c k)))
-
-  -- what whoever holds an answer knows of its number and of its desk
-  number-fits : (r : Booked) (vs : List Val) → Is B.the-row r vs → r .refusal < 2 ^ 32
-  number-fits r vs is = LL.owed B.the-type B′.the-laws r vs is .0 .1
-
-  desk-is : (r : Booked) (vs : List Val) → Is B.the-row r vs → Is D.the-row (r .desk) (deskV (r .desk) ∷ [])
-  desk-is r vs is = LL.owed B.the-type B′.the-laws r vs is .1 .0
 
   module _ (C : Calls 𝓤 H) (Λ : Loops 𝓤 H) (fm : FmC 𝓤 H (W .laws) C) (known : Triple 𝓤 (C key) (ByValue 𝓤 H A answer)) where
     walk : ent 𝓤 (onEntry 𝓤 H A thin-signature (κ, tt) (q, tt) args values)

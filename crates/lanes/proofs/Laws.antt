@@ -7,11 +7,13 @@ use native.Mathlib.Omega.{arith}
 use native.Mathlib.Nat.{le-refl, le-trans, mul-add, mul-le-mul-right, zero-div, div-mul-le-self, le-div-iff-mul-le}
 use lib.Dec.{leb}
 use lib.ListN.{getD}
-use Rattle.counting.specs.Counting.{only, sum}
+use Rattle.counting.specs.Counting.{only, sum, Rises}
 use Rattle.counting.proofs.Sums.{sum-le, sum-same, sum-mul}
+use Rattle.counting.proofs.Intervals.{sum-from, sum-past}
 use Rattle.bits.specs.Bits.{bit}
+use Rattle.schedule.specs.Bounds.{gain}
 use Rattle.placement.specs.Profile.{heldAt, Profile}
-use Rattle.weights.proofs.Walks.{Walk, sum-from, sum-past, free-at}
+use Rattle.weights.proofs.Walks.{Walk, free-at}
 use Rattle.values.specs.Values.{reachAt, mostAt, worthAt, stepOf, Laned}
 use Rattle.lanes.specs.Lanes.{reachIn, servedOn, Serving, Overfull}
 
@@ -28,9 +30,9 @@ difference c x y z l m =
     let e : x - y + (y - z) ≡ x - z = omega arith in
     sym (mul-add c (x - y) (y - z)) ∙ ap (λ (n : ℕ). c * n) e
 
-module _ (Z : ℕ → ℕ) (T : ℕ) (rises : (a b : ℕ) → a ≤ b → b ≤ T → Z a ≤ Z b) (g : ℕ → ℕ) (c : ℕ) where
+module _ (Z : ℕ → ℕ) (T : ℕ) (rises : Rises T Z) (g : ℕ → ℕ) (c : ℕ) where
   abbrev gains : ℕ → ℕ
-  gains a = sum T (λ t. only (leb a t) (g t * (Z (T - t) - Z (T - suc t))))
+  gains a = sum T (λ t. only (leb a t) (g t * gain Z T t))
 
   gains-from : (d a : ℕ) → a + d ≤ T → ((t : ℕ) → a ≤ t → t < a + d → g t ≡ c)
       → gains a ≡ c * (Z (T - a) - Z (T - (a + d))) + gains (a + d)
@@ -42,9 +44,9 @@ module _ (Z : ℕ → ℕ) (T : ℕ) (rises : (a b : ℕ) → a ≤ b → b ≤ 
       let e : suc a + d ≡ a + suc d = omega arith in
       let rec : gains (suc a) ≡ c * (Z (T - suc a) - Z (T - (a + suc d))) + gains (a + suc d) =
       rw e at (gains-from d (suc a) (omega arith) (λ t x y. h t (omega arith) (omega arith))) in
-      let one = sum-from T a (suc a) (c * (Z (T - a) - Z (T - suc a))) (λ t. g t * (Z (T - t) - Z (T - suc t))) (omega arith) (omega arith)
+      let one = sum-from T a (suc a) (c * gain Z T a) (λ t. g t * gain Z T t) (omega arith) (omega arith)
       (λ t x y. (let s : t ≡ a = omega arith in rw (h t x (omega arith), s) refl)) in
-      let step : c * (Z (T - a) - Z (T - suc a)) * (suc a - a) ≡ c * (Z (T - a) - Z (T - suc a)) =
+      let step : c * gain Z T a * (suc a - a) ≡ c * gain Z T a =
       (let u : suc a - a ≡ 1 = omega arith in rw u (omega arith)) in
       let all = difference c (Z (T - a)) (Z (T - suc a)) (Z (T - (a + suc d))) (rises (T - suc a) (T - a) (omega arith) (omega arith))
       (rises (T - (a + suc d)) (T - suc a) (omega arith) (omega arith)) in
@@ -56,7 +58,7 @@ module _ {lanes until held : List ℕ} {placed gone free modules l T : ℕ} (s :
   pub inside-table : (x : ℕ) → x ≤ T → x / stepOf lanes < 1024
   inside-table x m = omega (arith, div-rises x T (stepOf lanes) (s .step-some) m, s .inside)
 
-  pub reach-in-rises : (a b : ℕ) → a ≤ b → b ≤ T → reachIn lanes a ≤ reachIn lanes b
+  pub reach-in-rises : Rises T (reachIn lanes)
   reach-in-rises a b x y = s .reach-rises (a / stepOf lanes) (b / stepOf lanes) (div-rises a b (stepOf lanes) (s .step-some) x)
       (inside-table b y)
 
@@ -120,7 +122,7 @@ module _ {lanes until held : List ℕ} {placed gone free modules l T : ℕ} (s :
         let all = serve-to T (w .before) (le-refl _) (λ t k x y n o. absurd (omega arith)) in
         let end : reachIn lanes (T - T) ≡ 0 = ap (reachIn lanes) (omega arith) ∙ reach-in-none in
         let whole : reach - reachIn lanes (T - T) ≡ reach = omega (arith, end) in
-        let past = sum-past T (λ t. mostAt lanes (modules - heldAt until held placed t) * (reachIn lanes (T - t) - reachIn lanes (T - suc t))) in
+        let past = sum-past T (λ t. mostAt lanes (modules - heldAt until held placed t) * gain (reachIn lanes) T t) in
         let done : total + mostAt lanes f * reach + served T ≡ served l = rw whole at all in
         omega (arith, done, past)
 

@@ -1,12 +1,12 @@
 -- What the lanes that are open from a minute on serve up to a target, and when the jobs that are left have more value.
 use mathlib.Core.Path.{_≡_}
-use mathlib.Core.Bool.{Bool}
 use mathlib.Core.List.{List}
-use Prim.Native.Nat.{ℕ, suc, _-_, _*_, _/_, _≤_, _<_}
+use Prim.Native.Nat.{ℕ, _-_, _*_, _/_, _≤_, _<_}
 use lib.Dec.{leb}
 use lib.ListN.{getD}
-use Rattle.counting.specs.Counting.{only, sum}
+use Rattle.counting.specs.Counting.{only, sum, Rises, Holds}
 use Rattle.bits.specs.Bits.{bit}
+use Rattle.schedule.specs.Bounds.{gain}
 use Rattle.placement.specs.Profile.{heldAt, Profile}
 use Rattle.weights.specs.Weights.{Weighs}
 use Rattle.values.specs.Values.{reachAt, mostAt, stepOf}
@@ -18,7 +18,7 @@ reachIn lanes x = reachAt lanes (x / stepOf lanes)
 -- what the lanes serve from minute l up to minute T: as many are open as weight can stand on the modules that are free
 unfoldable pub servedOn : (ℕ → ℕ) → (ℕ → ℕ) → List ℕ → List ℕ → ℕ → ℕ → ℕ → ℕ → ℕ
 servedOn most reach until held modules placed l T =
-    sum T (λ t. only (leb l t) (most (modules - heldAt until held placed t) * (reach (T - t) - reach (T - suc t))))
+    sum T (λ t. only (leb l t) (most (modules - heldAt until held placed t) * gain reach T t))
 
 -- the jobs of the set have more value than lanes for some weights and values can serve
 pub record Overfull (need minutes until held : List ℕ) (jobs modules placed set l T : ℕ) : Type 0 where
@@ -27,10 +27,9 @@ pub record Overfull (need minutes until held : List ℕ) (jobs modules placed se
   pub most : ℕ → ℕ
   pub reach : ℕ → ℕ
   pub weighs : Weighs need jobs modules weight most
-  pub most-rises : (a b : ℕ) → a ≤ b → b ≤ modules → most a ≤ most b
-  pub lasts : (X : ℕ → Bool) (x : ℕ) → x ≤ T → sum jobs (λ k. only (X k) (getD minutes k 0)) ≤ x
-      → sum jobs (λ k. only (X k) (value k)) ≤ reach x
-  pub reach-rises : (a b : ℕ) → a ≤ b → b ≤ T → reach a ≤ reach b
+  pub most-rises : Rises modules most
+  pub lasts : Holds (λ k. getD minutes k 0) jobs T value reach
+  pub reach-rises : Rises T reach
   pub reach-none : reach 0 ≡ 0
   pub over : servedOn most reach until held modules placed l T < sum jobs (λ k. only (bit set k) (weight k * value k))
 

@@ -9,23 +9,12 @@ ghost use Rattle.placement.specs.Profile.{Profile};
 ghost use Rattle.values.specs.Values.{reachAt, mostAt, worthAt, stepOf, Laned};
 ghost use Rattle.lanes.specs.Lanes.{reachIn, servedOn, Serving, Overfull};
 
-// So many minutes in whole steps.
-fn steps(minutes: u16, step: u32) -> usize
-    requires { ⌜ 0 < step ⌝ }
-    ensures { λ r. ⌜ r ≡ minutes / step ⌝ }
-{
-    if step == 1 {
-        return minutes as usize;
-    }
-    ((minutes as u32) / step) as usize
-}
-
 // The most value that a lane can serve from minute t up to the target.
 fn reach_from(lanes: &[u32; 1110], t: u16, target: u16) -> u32
     requires { ⌜ (0 < stepOf (now lanes)) × ((target / stepOf (now lanes) < 1024) × (t ≤ target)) ⌝ }
     ensures { λ r. ⌜ r ≡ reachIn (now (lanes .entry)) (target - t) ⌝ }
 {
-    lanes[steps(target - t, lanes[1109])]
+    lanes[values::steps(target - t, lanes[1109])]
 }
 
 // How many lanes are open on x free modules.
@@ -117,7 +106,7 @@ pub fn overfull<'a>(
     if target < least {
         return false;
     }
-    if steps(target, lanes[1109]) >= 1024 {
+    if values::steps(target, lanes[1109]) >= 1024 {
         return false;
     }
     served_on(

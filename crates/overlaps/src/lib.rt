@@ -6,12 +6,13 @@ ghost use lib.ListN.{getD};
 ghost use Rattle.counting.specs.Counting.{only, sum};
 ghost use Rattle.bits.specs.Bits.{bit};
 ghost use Rattle.tables.specs.Tables.{Fit};
+ghost use Rattle.schedule.specs.Bounds.{mustRun};
 ghost use Rattle.placement.specs.Profile.{Profile};
-ghost use Rattle.overlaps.specs.Overlaps.{runsAt, mustHold, Overlapping};
+ghost use Rattle.overlaps.specs.Overlaps.{mustHold, Overlapping};
 
 // The modules of a job that must run at minute m, as it starts from minute l on and ends by the target; 0 where it need not.
 fn must_hold(need: u16, minutes: u16, l: u16, target: u16, m: u16) -> u16
-    ensures { λ r. ⌜ r ≡ only (runsAt l target m minutes) need ⌝ }
+    ensures { λ r. ⌜ r ≡ only (mustRun l target m minutes) need ⌝ }
 {
     let d = minutes as u32;
     if (target as u32) <= (m as u32) + d {

@@ -5,7 +5,7 @@ use mathlib.Core.Bool.{Bool, true, false, not, _&&_, _||_}
 use mathlib.Core.List.{List, [], _∷_, _++_}
 use Prim.Native.Nat.{ℕ, suc, _+_, _-_, _*_, _≤_, _<_, zero-le}
 use native.Mathlib.Omega.{arith}
-use native.Mathlib.Nat.{le-trans, mul-le-mul-left, mul-le-mul-right, add-zero, not-suc-le-zero}
+use native.Mathlib.Nat.{le-trans, mul-le-mul-left, mul-le-mul-right, mul-one, add-zero, not-suc-le-zero}
 use native.Mathlib.Numerals.{add-one}
 use lib.Dec.{ltb, eqb}
 use lib.Bits.{bitAnd, and-comm}
@@ -13,9 +13,9 @@ use lib.Count.{ones}
 use lib.ListN.{length, getD, take, set, length-set, length-replicate, getD-replicate}
 use lib.Pow.{pow-pos}
 use lib.Seq.{getD-set-same, getD-set-other, take-suc-set}
-use borrow.Author.Tests.{eqb-true, eqb-false, eq-eqb}
+use borrow.Author.Tests.{eqb-true, eqb-false, eq-eqb, not-true, not-false}
 use Rattle.counting.specs.Counting.{only, sum, count}
-use Rattle.counting.proofs.Tests.{true-or-false, clash, only-le, same-test, and-left, and-right, and-both}
+use Rattle.counting.proofs.Tests.{true-or-false, clash, only-le, only-within, mul-only, same-test, and-left, and-right, and-both}
 use Rattle.counting.proofs.Sums.{sum-same, sum-zero, sum-add, sum-single, sum-most, le-sum}
 use Rattle.counting.proofs.Ranges.{largest-le, largest-same}
 use Rattle.counting.proofs.Counts.{count-same, count-not, count-full}
@@ -37,18 +37,6 @@ use Rattle.placement.specs.declared.Part.{Part}
 use Rattle.placement.specs.Profile.{heldAt, heldAfter, heldFrom}
 use Rattle.placement.specs.Part.{waits, StartFor, Figures, IsPart, Placeable, Placed, isReady, firstPart}
 use Rattle.placement.proofs.Inserts.{inserted-sum}
-
-not-true-false : (b : Bool) → not b ≡ true → b ≡ false
-not-true-false true e = sym e
-not-true-false false e = refl
-
-not-false-true : (b : Bool) → not b ≡ false → b ≡ true
-not-false-true true e = refl
-not-false-true false e = sym e
-
-times-one : (b : Bool) (x : ℕ) → x * only b 1 ≡ only b x
-times-one true x = omega arith
-times-one false x = omega arith
 
 module _ (need minutes earlier : List ℕ) (jobs modules : ℕ) (fit : Fit need minutes jobs modules) where
   abbrev S : Sheet
@@ -98,13 +86,13 @@ module _ (need minutes earlier : List ℕ) (jobs modules : ℕ) (fit : Fit need 
     pub occupied-is : (t : ℕ) → heldAt (p .until) (p .held) (p .placed) t ≡ occupied S P t
     unfolding heldAt occupied
     occupied-is t =
-        sum-same (p .placed) _ _ (λ k l. sym (times-one (ltb t (getD (p .until) k 0)) (getD (p .held) k 0)))
+        sum-same (p .placed) _ _ (λ k l. rw (mul-only, mul-one))
         ∙ F .by-end (λ e. only (ltb t e) 1)
         ∙ sum-same jobs _ _ (λ i l. one i (P .placed i) refl)
       where
         one : (i : ℕ) (b : Bool) → P .placed i ≡ b
             → only (P .placed i) (S .need i * only (ltb t (finish S (P .plan) i)) 1) ≡ only (occupies S P t i) (S .need i)
-        one i true e = rw (e, add-zero (finish S (P .plan) i)) (times-one (ltb t (finish S (P .plan) i)) (S .need i))
+        one i true e = rw (e, add-zero (finish S (P .plan) i), mul-only, mul-one)
         one i false e = rw e refl
 
     pub after-is : (t : ℕ) → heldAfter (p .until) (p .held) (p .placed) t
@@ -132,28 +120,23 @@ module _ (need minutes earlier : List ℕ) (jobs modules : ℕ) (fit : Fit need 
         let flat = sum-same jobs (λ i. getD minutes i 0 + 0) (λ i. getD minutes i 0) (λ i l. add-zero (getD minutes i 0)) in
         omega (arith, all-minutes need minutes jobs modules fit)
 
-    only-short : (i : ℕ) → i < jobs → (P .placed i ≡ true) ⊎ (P .placed i ≡ false) → only (P .placed i) (finish S (P .plan) i) ≤ 28800
-    only-short i l (inl e) = rw e (end-short i l e)
-    only-short i l (inr e) = rw e zero-le
-
     pub last-short : p .last ≤ 28800
     last-short =
-        let ends = largest-le jobs (λ i. only (P .placed i) (finish S (P .plan) i)) 28800 (λ i l. only-short i l (true-or-false (P .placed i))) in
+        let ends = largest-le jobs (λ i. only (P .placed i) (finish S (P .plan) i)) 28800
+        (λ i l. only-within (P .placed i) _ 28800 (end-short i l)) in
         omega (arith, F .last, sound .ended)
 
     pub after-small : (t : ℕ) → heldAfter (p .until) (p .held) (p .placed) t ≤ 40000000
     after-small t =
         let most = sum-most jobs (λ i. only (P .placed i) (S .need i * (finish S (P .plan) i - t))) (64 * 28800)
-        (λ i l. one i l (true-or-false (P .placed i))) in
+        (λ i l. only-within (P .placed i) _ (64 * 28800) (one i l)) in
         let all : jobs * (64 * 28800) ≤ 20 * (64 * 28800) = mul-le-mul-right (64 * 28800) (fit .few) in
         omega (arith, after-is t)
       where
-        one : (i : ℕ) → i < jobs → (P .placed i ≡ true) ⊎ (P .placed i ≡ false)
-            → only (P .placed i) (S .need i * (finish S (P .plan) i - t)) ≤ 64 * 28800
-        one i l (inr e) = rw e zero-le
-        one i l (inl e) =
+        one : (i : ℕ) → i < jobs → P .placed i ≡ true → S .need i * (finish S (P .plan) i - t) ≤ 64 * 28800
+        one i l e =
             let w : getD need i 0 ≤ 64 = omega (arith, fit .narrow i l, fit .most) in
-            rw e (le-trans (mul-le-mul-left (getD need i 0) (omega (arith, end-short i l e))) (mul-le-mul-right 28800 w))
+            le-trans (mul-le-mul-left (getD need i 0) (omega (arith, end-short i l e))) (mul-le-mul-right 28800 w)
 
     pub left-small : p .left ≤ 2000000
     left-small =
@@ -171,8 +154,8 @@ module _ (need minutes earlier : List ℕ) (jobs modules : ℕ) (fit : Fit need 
           let z : bitAnd (getD earlier j 0) (p .unplaced) ≡ 0 = eqb-true _ 0 (and-right (bit (p .unplaced) j) _ e) in
           ready-when S (P .placed) j (record {
             job = l;
-            new = not-true-false (P .placed j) (sym (F .set j l) ∙ a);
-            after = λ i k b. not-false-true (P .placed i) (sym (F .set i k) ∙ and-empty (getD earlier j 0) (p .unplaced) z i b);
+            new = not-true (P .placed j) (sym (F .set j l) ∙ a);
+            after = λ i k b. not-false (P .placed i) (sym (F .set i k) ∙ and-empty (getD earlier j 0) (p .unplaced) z i b);
           })
 
       ready-follow : ready S (P .placed) j ≡ true → isReady earlier (p .unplaced) j ≡ true

@@ -2,7 +2,7 @@
 use mathlib.Core.Path.{_≡_, refl, sym, ap, ap₂, _∙_}
 use mathlib.Core.Bool.{Bool, true, false, cond, not, _&&_, _||_, and-false}
 use mathlib.Core.List.{List, []}
-use Prim.Native.Nat.{ℕ, zero, suc, _+_, _<_}
+use Prim.Native.Nat.{ℕ, _+_, _<_}
 use native.Mathlib.Omega.{arith}
 use native.Mathlib.Nat.{add-zero}
 use lib.Dec.{ltb, eqb}
@@ -17,6 +17,7 @@ use Rattle.bits.proofs.Sets.{bit-setOf}
 use Rattle.schedule.specs.Plan.{Sheet, finish}
 use Rattle.schedule.specs.ListPlan.{PartPlan, occupies, free, lowest, place, placeAll, partOf}
 use Rattle.tables.specs.Tables.{sheetOf}
+use Rattle.tables.proofs.Laws.{zeros}
 use Rattle.replay.specs.declared.Slots.{Slots}
 use Rattle.free_modules.specs.Lowest.{outside, lowestOutside}
 use Rattle.free_modules.proofs.Laws.{lowest-same}
@@ -37,11 +38,6 @@ pub record SlotsOf (S : Sheet) (P : PartPlan) (s : Slots) : Type 0 where
   pub modules-length : length (s .modules) ≡ 20
 
 -- ---- lists of numbers by job
-
-zeros : (n i : ℕ) → _≡_ {A = ℕ} (getD (replicate n 0) i 0) 0
-zeros zero i = refl
-zeros (suc n) zero = refl
-zeros (suc n) (suc i) = zeros n i
 
 -- the place of one job more is written
 placed-more : (xs : List ℕ) (j v : ℕ) (d : ℕ → Bool) (f g : ℕ → ℕ) → j < length xs → ((i : ℕ) → getD xs i 0 ≡ only (d i) (f i))

@@ -8,7 +8,8 @@ use Rattle.schedule.specs.Plan.{overWide}
 use Rattle.schedule.specs.ListPlan.{ready, firstMinute, startOf, placeAll}
 use Rattle.schedule.specs.TieRule.{ordersAfter, earliestOf}
 use Rattle.checking.specs.Checking.{firstFailing}
-use Rattle.sheet_format.specs.Format.{u16At, u32At, recordAt, noJobs, places}
+use Rattle.words.specs.Words.{u16At, u32At}
+use Rattle.sheet_format.specs.Format.{recordAt, noJobs, places}
 use Rattle.sheet_format.specs.Checks.{outside, faulty}
 use Rattle.sheet.specs.Read.{reading}
 use Rattle.sheet.specs.Label.{labelOf}

@@ -3,16 +3,16 @@ use mathlib.Core.Path.{_≡_, refl, sym, ap, _∙_}
 use mathlib.Core.Logic.{_⊎_, inl, inr}
 use mathlib.Core.Bool.{Bool, true, false, not, cond, _&&_}
 use mathlib.Core.List.{List, [], _∷_}
-use Prim.Native.Nat.{ℕ, _+_, _-_, _*_, _≤_, _<_, zero-le}
+use Prim.Native.Nat.{ℕ, _+_, _-_, _*_, _≤_, _<_}
 use native.Mathlib.Omega.{arith}
-use native.Mathlib.Nat.{le-refl, le-trans, le-of-eq, mul-le-mul-left, mul-le-mul-right, mul-add, zero-mul}
+use native.Mathlib.Nat.{le-refl, le-trans, le-of-eq, mul-le-mul-left, mul-le-mul-right, mul-add}
 use lib.Dec.{ltb, eqb}
 use borrow.Author.Tests.{ltb-false, eqb-true}
 use Rattle.counting.specs.Counting.{only, sum, largest}
-use Rattle.counting.proofs.Tests.{true-or-false}
+use Rattle.counting.proofs.Tests.{true-or-false, only-within}
 use Rattle.counting.proofs.Sums.{sum-le, sum-same, sum-add, sum-mul, sum-zero, sum-const, sum-swap, le-sum}
 use Rattle.counting.proofs.Ranges.{le-largest, largest-le}
-use Rattle.counting.proofs.Counts.{count-insert}
+use Rattle.counting.proofs.Counts.{count-insert, sum-alike}
 use Rattle.schedule.specs.Plan.{Sheet, finish, planEnd, Narrow}
 use Rattle.schedule.specs.ListPlan.{PartPlan, occupies, startOf, place, placeAll, occupied}
 use Rattle.schedule.proofs.Starts.{Ready, ready-says, start-may}
@@ -120,7 +120,7 @@ formula-six S P h =
     let n = S .jobs in
     let N = S .modules in
     let each = sum-le N (availableFrom S P) (λ m. P .last + sum n (λ i. left i m))
-    (λ m l. largest-le n _ _ (λ i k. one i m k (true-or-false (P .placed i && P .plan .uses i m)))) in
+    (λ m l. largest-le n _ _ (λ i k. only-within (P .placed i && P .plan .uses i m) _ _ (one i m k))) in
     let split = sum-add N (λ m. P .last) (λ m. sum n (λ i. left i m)) in
     let flat = sum-const N (P .last) in
     let swap = sum-swap n N left in
@@ -131,25 +131,24 @@ formula-six S P h =
   where
     -- what is left of job i on module m at the last start
     left : ℕ → ℕ → ℕ
-    left i m = only (P .placed i && P .plan .uses i m) 1 * (finish S (P .plan) i - P .last)
+    left i m = only (P .placed i && P .plan .uses i m) (finish S (P .plan) i - P .last)
 
-    one : (i m : ℕ) → i < S .jobs → ((P .placed i && P .plan .uses i m) ≡ true) ⊎ ((P .placed i && P .plan .uses i m) ≡ false)
-        → only (P .placed i && P .plan .uses i m) (finish S (P .plan) i) ≤ P .last + sum (S .jobs) (λ i. left i m)
-    one i m l (inr e) = rw e zero-le
-    one i m l (inl e) =
-        let a : 1 * (finish S (P .plan) i - P .last) ≤ sum (S .jobs) (λ i. left i m) = rw e at (le-sum (S .jobs) (λ i. left i m) i l) in
-        rw e (omega arith)
+    one : (i m : ℕ) → i < S .jobs → (P .placed i && P .plan .uses i m) ≡ true
+        → finish S (P .plan) i ≤ P .last + sum (S .jobs) (λ i. left i m)
+    one i m l e =
+        let a : finish S (P .plan) i - P .last ≤ sum (S .jobs) (λ i. left i m) = rw e at (le-sum (S .jobs) (λ i. left i m) i l) in
+        omega arith
 
     two : (i : ℕ) → i < S .jobs → (P .placed i ≡ true) ⊎ (P .placed i ≡ false)
         → sum (S .modules) (left i) + only (not (P .placed i)) (S .need i * S .minutes i) ≡ todo S P (P .last) i
     two i l (inl e) =
         let d = finish S (P .plan) i - P .last in
         let c : sum (S .modules) (left i) ≡ S .need i * d =
-        sum-same (S .modules) _ (λ m. only (P .plan .uses i m) 1 * d) (λ m k. ap (λ b. only (b && P .plan .uses i m) 1 * d) e)
-        ∙ sum-mul (S .modules) (λ m. only (P .plan .uses i m) 1) d ∙ ap (λ x. x * d) (h .enough i l e) in
+        sum-same (S .modules) _ (λ m. only (P .plan .uses i m) d) (λ m k. ap (λ b. only (b && P .plan .uses i m) d) e)
+        ∙ sum-alike (S .modules) (P .plan .uses i) d ∙ ap (λ x. x * d) (h .enough i l e) in
         rw e (omega arith)
     two i l (inr e) =
         let d = finish S (P .plan) i - P .last in
         let c : sum (S .modules) (left i) ≡ 0 =
-        sum-same (S .modules) _ (λ m. 0) (λ m k. ap (λ b. only (b && P .plan .uses i m) 1 * d) e ∙ zero-mul d) ∙ sum-zero (S .modules) in
+        sum-same (S .modules) _ (λ m. 0) (λ m k. ap (λ b. only (b && P .plan .uses i m) d) e) ∙ sum-zero (S .modules) in
         rw e (omega arith)

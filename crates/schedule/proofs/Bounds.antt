@@ -1,25 +1,26 @@
 -- The bounds by weights, by lanes and by modules, and jobs that must overlap, as cuts.
 use mathlib.Core.Path.{_≡_}
 use mathlib.Core.Logic.{_⊎_, inl, inr}
-use mathlib.Core.Bool.{true, false, not, _&&_}
+use mathlib.Core.Bool.{false, not, _&&_}
 use mathlib.Core.List.{List, [], _∷_}
 use Prim.Native.Nat.{ℕ, suc, _+_, _-_, _*_, _≤_, _<_}
 use native.Mathlib.Omega.{arith}
 use native.Mathlib.Nat.{le-trans}
 use lib.Dec.{leb}
-use Rattle.counting.specs.Counting.{only, sum}
+use Rattle.counting.specs.Counting.{only, sum, Rises, Holds}
 use Rattle.counting.proofs.Tests.{clash, less-or-not}
 use Rattle.schedule.specs.Plan.{Sheet, Plan, Valid, finish, planEnd, Narrow, Lasting}
 use Rattle.schedule.specs.ListPlan.{PartPlan, noJobs, Follows, occupies, placeAll, partOf, occupied}
+use Rattle.schedule.specs.Bounds.{mustRun, gain}
 use Rattle.schedule.proofs.Sound.{Sound, part-sound, place-all-sound, Completes, completes-all, complete-valid}
 use Rattle.schedule.proofs.Earliest.{valid-timed}
 use Rattle.schedule.proofs.Along.{place-all-keeps}
 use Rattle.schedule.proofs.Branch.{next-first}
 use Rattle.schedule.proofs.Places.{CannotBeat}
 use Rattle.schedule.proofs.Cuts.{NoneBefore, by-completions}
-use Rattle.schedule.proofs.Weights.{Holds, GoesOn, weights-bound}
-use Rattle.schedule.proofs.Reach.{LastsTo, Rises, gain, reach-bound}
-use Rattle.schedule.proofs.Overlaps.{mustRun, must-fit}
+use Rattle.schedule.proofs.Weights.{GoesOn, weights-bound}
+use Rattle.schedule.proofs.Reach.{reach-bound}
+use Rattle.schedule.proofs.Overlaps.{must-fit}
 use Rattle.schedule.proofs.Modulewise.{Lasts, GoesOnWith, modules-bound, by-profile}
 
 module _ (S : Sheet) (lasting : Lasting S) (n : Narrow S) (w : List ℕ) (f : Follows S noJobs w) (l : ℕ) (from : partOf S w .last ≤ l)
@@ -39,9 +40,6 @@ module _ (S : Sheet) (lasting : Lasting S) (n : Narrow S) (w : List ℕ) (f : Fo
     valid : Valid S Q
     valid = complete-valid S (placeAll S P p) (place-all-sound S n P p sound (c .0)) (completes-all S P p c)
 
-    early : (k : ℕ) → k < S .jobs → P .placed k ≡ true → P .plan .start k ≤ l
-    early k x p = le-trans (sound .early k x p) from
-
     later : (k : ℕ) → k < S .jobs → P .placed k ≡ false → l ≤ Q .start k
     unfolding placeAll
     later = go p c
@@ -54,17 +52,15 @@ module _ (S : Sheet) (lasting : Lasting S) (n : Narrow S) (w : List ℕ) (f : Fo
     goes-on = record {
       timed = valid-timed S Q valid;
       kept = λ k x z. place-all-keeps S P p (c .0) k z .start;
-      early = early;
+      early = λ k x z. le-trans (sound .early k x z) from;
       later = later;
     }
 
     goes-on-with : GoesOnWith S P l Q
     goes-on-with = record {
+      on = goes-on;
       valid = valid;
-      kept = λ k x z. place-all-keeps S P p (c .0) k z .start;
       uses = λ k m x z. place-all-keeps S P p (c .0) k z .uses m;
-      early = early;
-      later = later;
     }
 
   -- ---- the cuts
@@ -77,12 +73,13 @@ module _ (S : Sheet) (lasting : Lasting S) (n : Narrow S) (w : List ℕ) (f : Fo
       go p c (inl x) = x
       go p c (inr x) = absurd (h p c x)
 
-  pub weights-cut : (y K : ℕ → ℕ) → Holds S y K
+  pub weights-cut : (y K : ℕ → ℕ) → Holds (S .need) (S .jobs) (S .modules) y K
       → sum T (λ t. only (leb l t) (K (S .modules - occupied S P t))) < sum (S .jobs) (λ k. only (not (P .placed k)) (S .minutes k * y k))
       → CannotBeat S (suc T) w
   weights-cut y K most over = by-end (λ p c x. omega (arith, over, weights-bound S P l (Q p c) (goes-on p c) T x y K most))
 
-  pub reach-cut : (y v K Z : ℕ → ℕ) → Holds S y K → Rises (S .modules) K → LastsTo S T v Z → Z 0 ≡ 0 → Rises T Z
+  pub reach-cut : (y v K Z : ℕ → ℕ) → Holds (S .need) (S .jobs) (S .modules) y K → Rises (S .modules) K
+      → Holds (S .minutes) (S .jobs) T v Z → Z 0 ≡ 0 → Rises T Z
       → sum T (λ t. only (leb l t) (K (S .modules - occupied S P t) * gain Z T t)) < sum (S .jobs) (λ k. only (not (P .placed k)) (y k * v k))
       → CannotBeat S (suc T) w
   reach-cut y v K Z most more lasts none rises over = by-end (λ p c x.

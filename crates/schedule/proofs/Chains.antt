@@ -1,16 +1,15 @@
 -- The longest-chain bound: a job that can follow, and the longest chain of jobs that wait for it, must still fit before the end.
 use mathlib.Core.Path.{_≡_, refl, sym}
-use mathlib.Core.Logic.{_⊎_, inl, inr}
-use mathlib.Core.Bool.{Bool, true, false, _&&_, _||_}
+use mathlib.Core.Bool.{Bool, true, false, _&&_, or-true}
 use mathlib.Core.List.{List, [], _∷_}
-use Prim.Native.Nat.{ℕ, zero, suc, _+_, _-_, _≤_, _<_, zero-le}
+use Prim.Native.Nat.{ℕ, zero, suc, _+_, _-_, _≤_, _<_}
 use native.Mathlib.Omega.{arith}
 use native.Mathlib.Nat.{le-trans, le-of-eq}
 use lib.Dec.{eqb}
 use lib.ListN.{length}
 use borrow.Author.Tests.{eqb-true, ne-eqb, not-true}
 use Rattle.counting.specs.Counting.{only, largest, count}
-use Rattle.counting.proofs.Tests.{true-or-false, clash, not-of-false}
+use Rattle.counting.proofs.Tests.{clash, not-of-false, only-within}
 use Rattle.counting.proofs.Ranges.{le-largest, largest-le, any-none, none-any}
 use Rattle.counting.proofs.Counts.{count-mono, count-insert}
 use Rattle.schedule.specs.Plan.{Sheet, Plan, Valid, finish, planEnd, Narrow}
@@ -31,13 +30,8 @@ chain-le S P v zero j l = omega (arith, le-largest (S .jobs) (finish S P) j l)
 chain-le S P v (suc k) j l =
     let e = le-largest (S .jobs) (finish S P) j l in
     let b = largest-le (S .jobs) (λ i. only (S .before j i) (chain S k i)) (planEnd S P - finish S P j)
-    (λ i m. one i m (true-or-false (S .before j i)) (chain-le S P v k i m)) in
+    (λ i m. only-within (S .before j i) (chain S k i) _ (λ q. omega (arith, v .after j i l m q, chain-le S P v k i m))) in
     omega arith
-  where
-    one : (i : ℕ) → i < S .jobs → (S .before j i ≡ true) ⊎ (S .before j i ≡ false) → P .start i + chain S k i ≤ planEnd S P
-        → only (S .before j i) (chain S k i) ≤ planEnd S P - finish S P j
-    one i m (inl q) h = rw q (omega (arith, v .after j i l m q))
-    one i m (inr q) h = rw q zero-le
 
 -- ---- a job that can follow starts no earlier for waiting
 
@@ -85,10 +79,6 @@ start-waits S w P (i ∷ o) (f, c) j q = go (eqb j i) refl (λ d. start-waits S 
 
     still : eqb j i ≡ false → Ready S (Q .placed) j
     still e = record { job = q .job; new = rw e (q .new); after = λ k l b. rw (q .after k l b) (or-true (eqb k i)) }
-      where
-        or-true : (b : Bool) → (b || true) ≡ true
-        or-true true = refl
-        or-true false = refl
 
     go : (b : Bool) → eqb j i ≡ b → (Ready S (Q .placed) j → startOf S Q j ≤ placeAll S Q o .plan .start j)
         → startOf S P j ≤ placeAll S Q o .plan .start j

@@ -1,9 +1,9 @@
 -- Without arrivals and rests each job of a list plan starts at minute 0 or as another job ends: so a plan ends at a sum of minutes.
 use mathlib.Core.Path.{_≡_, refl, sym, ap, _∙_, subst}
 use mathlib.Core.Logic.{_⊎_, inl, inr, _≢_}
-use mathlib.Core.Bool.{Bool, true, false, _&&_, _||_}
+use mathlib.Core.Bool.{Bool, true, false, _&&_, _||_, or-true}
 use mathlib.Core.List.{List, [], _∷_}
-use Prim.Native.Nat.{ℕ, _+_, _-_, _≤_, _<_}
+use Prim.Native.Nat.{ℕ, _+_, _-_, _<_}
 use native.Mathlib.Omega.{arith}
 use native.Mathlib.Nat.{le-trans}
 use lib.Dec.{eqb}
@@ -79,11 +79,7 @@ module _ (S : Sheet) (n : Narrow S) (arrival : (j : ℕ) → S .arrival j ≡ 0)
 
     -- the same of more jobs
     more : {u : ℕ} → SumOf S (P .placed) u → SumOf S (placing (P .placed) j) u
-    more (X, w, e) = (X, (λ k x. or-true (eqb k j) (w k x)), e)
-      where
-        or-true : (a : Bool) {b : Bool} → b ≡ true → (a || b) ≡ true
-        or-true true e = refl
-        or-true false e = e
+    more (X, w, e) = (X, (λ k x. rw (w k x) (or-true (eqb k j))), e)
 
     -- the minutes of job j as well
     and-its : {u : ℕ} → SumOf S (P .placed) u → SumOf S (placing (P .placed) j) (u + S .minutes j)

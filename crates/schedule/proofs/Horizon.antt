@@ -1,6 +1,5 @@
 -- How late a list plan can end: the last arrival, and then every job with its rest one after another.
 use mathlib.Core.Path.{_≡_, refl}
-use mathlib.Core.Logic.{_⊎_, inl, inr}
 use mathlib.Core.Bool.{Bool, true, false}
 use mathlib.Core.List.{List, [], _∷_}
 use Prim.Native.Nat.{ℕ, _+_, _≤_, _<_, zero-le}
@@ -8,7 +7,7 @@ use native.Mathlib.Omega.{arith}
 use lib.Dec.{eqb}
 use borrow.Author.Tests.{eqb-true}
 use Rattle.counting.specs.Counting.{only, sum}
-use Rattle.counting.proofs.Tests.{true-or-false, clash, only-le}
+use Rattle.counting.proofs.Tests.{clash, only-le, only-within}
 use Rattle.counting.proofs.Sums.{sum-le, sum-insert}
 use Rattle.counting.proofs.Ranges.{largest-le}
 use Rattle.schedule.specs.Plan.{Sheet, finish, Narrow}
@@ -28,7 +27,7 @@ module _ (S : Sheet) (w : Narrow S) (a : ℕ) (arr : (j : ℕ) → j < S .jobs �
   unfolding limit
   place-within P j h r =
       let u = limit (P .placed) in
-      let clear : allFreeFrom S P ≤ u = largest-le (S .jobs) _ _ (λ i l. one i l (true-or-false (P .placed i))) in
+      let clear : allFreeFrom S P ≤ u = largest-le (S .jobs) _ _ (λ i l. only-within (P .placed i) _ _ (h .ends i l)) in
       let s = start-le S P j u (record {
         later = h .last;
         arrived = omega (arith, arr j (r .job));
@@ -38,11 +37,6 @@ module _ (S : Sheet) (w : Narrow S) (a : ℕ) (arr : (j : ℕ) → j < S .jobs �
       let more = sum-insert (S .jobs) (P .placed) (λ i. S .minutes i + S .rest) j (r .job) (r .new) in
       record { last = omega arith; ends = λ i l. two s more i l (eqb i j) refl }
     where
-      one : (i : ℕ) → i < S .jobs → (P .placed i ≡ true) ⊎ (P .placed i ≡ false)
-          → only (P .placed i) (finish S (P .plan) i + S .rest) ≤ limit (P .placed)
-      one i l (inl e) = rw e (h .ends i l e)
-      one i l (inr e) = rw e zero-le
-
       two : startOf S P j ≤ limit (P .placed)
           → sum (S .jobs) (λ i. only (placing (P .placed) j i) (S .minutes i + S .rest))
           ≡ sum (S .jobs) (λ i. only (P .placed i) (S .minutes i + S .rest)) + (S .minutes j + S .rest)

@@ -1,16 +1,16 @@
 -- Lanes, each of which serves jobs one after another from the minute on at which it opens, and what they serve.
 use mathlib.Core.Path.{_≡_, refl, sym, ap, _∙_}
 use mathlib.Core.Logic.{_⊎_, inl, inr, ⊎-elim, _≢_}
-use mathlib.Core.Bool.{Bool, true, false, not, _&&_}
+use mathlib.Core.Bool.{Bool, true, false, _&&_}
 use Prim.Native.Nat.{ℕ, _+_, _-_, _*_, _≤_, _<_, zero-le, min}
 use native.Mathlib.Omega.{arith}
 use lib.Dec.{leb, eqb}
 use borrow.Author.Tests.{ltb-true, leb-true, eqb-true, eqb-false}
 use Rattle.counting.specs.Counting.{only, sum, count}
 use Rattle.counting.proofs.Tests.{true-or-false, clash, and-left, and-right}
-use Rattle.counting.proofs.Sums.{sum-le, sum-same, sum-swap, sum-zero, sum-mul}
+use Rattle.counting.proofs.Sums.{sum-le, sum-same, sum-swap, sum-zero}
 use Rattle.counting.proofs.Intervals.{inside, sum-inside}
-use Rattle.counting.proofs.Counts.{count-le, count-one, count-none}
+use Rattle.counting.proofs.Counts.{count-le, count-one, count-none, sum-alike}
 
 -- each of these jobs fills as many lanes as it weighs, which are open from its start on, and two jobs on a lane do not overlap
 pub record OnLanes (jobs : ℕ) (of : ℕ → Bool) (start minutes weight : ℕ → ℕ) (lanes : ℕ) (isOpen uses : ℕ → ℕ → Bool) : Type 0 where
@@ -82,15 +82,9 @@ module _ (jobs : ℕ) (of : ℕ → Bool) (start minutes weight : ℕ → ℕ) (
   over-lanes : (y : ℕ → ℕ) (k : ℕ) → k < jobs → only (of k) (weight k * y k) ≡ sum lanes (λ m. only (served m k) (y k))
   over-lanes y k x = go (of k) refl
     where
-      one : (b : Bool) → only b 1 * y k ≡ only b (y k)
-      one true = omega arith
-      one false = omega arith
-
       go : (b : Bool) → of k ≡ b → only (of k) (weight k * y k) ≡ sum lanes (λ m. only (served m k) (y k))
       go true q =
-          rw q
-          (ap (λ (c : ℕ). c * y k) (sym (h .enough k x q)) ∙ sym (sum-mul lanes (λ m. only (uses k m) 1) (y k))
-          ∙ sum-same lanes _ _ (λ m z. one (uses k m)))
+          rw q (ap (λ (c : ℕ). c * y k) (sym (h .enough k x q)) ∙ sym (sum-alike lanes (uses k) (y k)))
       go false q = rw q (sym (sum-zero lanes))
 
   -- The jobs have no more value than the lanes can serve in the minutes that they are open.

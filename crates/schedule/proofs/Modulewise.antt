@@ -2,21 +2,23 @@
 -- minute at which it comes free, no more weight than Z of the minutes up to the end.
 use mathlib.Core.Path.{_≡_, refl, sym, ap, _∙_}
 use mathlib.Core.Logic.{_⊎_, inl, inr, ⊎-elim, _≢_}
-use mathlib.Core.Bool.{Bool, true, false, not, _&&_}
-use Prim.Native.Nat.{ℕ, _+_, _-_, _*_, _≤_, _<_, zero-le, max}
+use mathlib.Core.Bool.{Bool, true, false, not, _&&_, and-true}
+use Prim.Native.Nat.{ℕ, _+_, _-_, _*_, _≤_, _<_, max}
 use native.Mathlib.Omega.{arith}
 use lib.Dec.{leb}
 use borrow.Author.Tests.{leb-true, lt-ltb, le-leb, not-true, not-false}
 use Rattle.counting.specs.Counting.{only, sum, count}
-use Rattle.counting.proofs.Tests.{true-or-false, clash, and-left, and-right, and-both}
-use Rattle.counting.proofs.Sums.{sum-le, sum-same, sum-add, sum-swap, sum-zero, sum-mul, le-sum}
+use Rattle.counting.proofs.Tests.{true-or-false, clash, and-left, and-right, and-both, only-within}
+use Rattle.counting.proofs.Sums.{sum-le, sum-same, sum-add, sum-swap, sum-zero, le-sum}
 use Rattle.counting.proofs.Intervals.{inside, sum-inside}
 use Rattle.counting.proofs.Ranges.{le-largest, largest-le, any-some}
+use Rattle.counting.proofs.Counts.{sum-alike}
 use Rattle.schedule.specs.Plan.{Sheet, Plan, Valid, finish, planEnd, Lasting}
 use Rattle.schedule.specs.ListPlan.{PartPlan, occupies, free, occupied}
 use Rattle.schedule.proofs.Sound.{Sound}
 use Rattle.schedule.proofs.Occupied.{free-count}
 use Rattle.schedule.proofs.Area.{availableFrom}
+use Rattle.schedule.proofs.Weights.{GoesOn}
 use Rattle.schedule.proofs.Lanes.{OnLanes, lanes-bound}
 
 -- no set of jobs that are left and last x minutes together weighs more than Z x
@@ -24,13 +26,11 @@ abbrev pub Lasts : Sheet → PartPlan → (ℕ → ℕ) → (ℕ → ℕ) → Ty
 Lasts S P y Z = (X : ℕ → Bool) (x : ℕ) → ((k : ℕ) → X k ≡ true → P .placed k ≡ false)
     → sum (S .jobs) (λ k. only (X k) (S .minutes k)) ≤ x → sum (S .jobs) (λ k. only (X k) (y k)) ≤ Z x
 
--- Q goes on from P, on the same modules: it keeps the placed jobs and starts the others from minute l on
+-- Q goes on from P, and keeps the placed jobs on their modules too
 pub record GoesOnWith (S : Sheet) (P : PartPlan) (l : ℕ) (Q : Plan) : Type 0 where
+  pub on : GoesOn S P l Q
   pub valid : Valid S Q
-  pub kept : (k : ℕ) → k < S .jobs → P .placed k ≡ true → Q .start k ≡ P .plan .start k
   pub uses : (k m : ℕ) → k < S .jobs → P .placed k ≡ true → Q .uses k m ≡ P .plan .uses k m
-  pub early : (k : ℕ) → k < S .jobs → P .placed k ≡ true → P .plan .start k ≤ l
-  pub later : (k : ℕ) → k < S .jobs → P .placed k ≡ false → l ≤ Q .start k
 
 -- the minute from which module m is free for the jobs that are left
 abbrev pub freeFrom : Sheet → PartPlan → ℕ → ℕ → ℕ
@@ -48,19 +48,17 @@ module _ (S : Sheet) (w : Lasting S) (P : PartPlan) (l : ℕ) (Q : Plan) (h : Go
   starts-free : (m k : ℕ) → k < S .jobs → served m k ≡ true → freeFrom S P l m ≤ Q .start k
   starts-free m k x b =
       let most = largest-le (S .jobs) (λ i. only (P .placed i && P .plan .uses i m) (finish S (P .plan) i)) (Q .start k)
-      (λ i z. one i z (true-or-false (P .placed i && P .plan .uses i m))) in
-      omega (arith, most, h .later k x (is-left m k b))
+      (λ i z. only-within (P .placed i && P .plan .uses i m) (finish S (P .plan) i) (Q .start k) (one i z)) in
+      omega (arith, most, h .on .later k x (is-left m k b))
     where
-      one : (i : ℕ) → i < S .jobs → ((P .placed i && P .plan .uses i m) ≡ true) ⊎ ((P .placed i && P .plan .uses i m) ≡ false)
-          → only (P .placed i && P .plan .uses i m) (finish S (P .plan) i) ≤ Q .start k
-      one i z (inr c) = rw c zero-le
-      one i z (inl c) =
+      one : (i : ℕ) → i < S .jobs → (P .placed i && P .plan .uses i m) ≡ true → finish S (P .plan) i ≤ Q .start k
+      one i z c =
           let p = and-left (P .placed i) _ c in
-          let s = h .kept i z p in
+          let s = h .on .kept i z p in
           let u : Q .uses i m ≡ true = h .uses i m z p ∙ and-right (P .placed i) _ c in
           let other : i ≢ k = λ y. clash (P .placed i) p (ap (P .placed) y ∙ is-left m k b) in
-          rw c (⊎-elim (λ d. omega (arith, d, s)) (λ d. absurd (omega (arith, d, s, h .early i z p, h .later k x (is-left m k b), w k x)))
-          (h .valid .apart i k m z x other u (and-right (not (P .placed k)) _ b)))
+          ⊎-elim (λ d. omega (arith, d, s)) (λ d. absurd (omega (arith, d, s, h .on .early i z p, h .on .later k x (is-left m k b), w k x)))
+          (h .valid .apart i k m z x other u (and-right (not (P .placed k)) _ b))
 
   -- ---- the modules as lanes
 
@@ -80,10 +78,6 @@ module _ (S : Sheet) (w : Lasting S) (P : PartPlan) (l : ℕ) (Q : Plan) (h : Go
   minutes-from : (a : ℕ) → count T (λ t. leb a t) ≡ T - a
   minutes-from a = sum-same T _ (λ t. only (inside a T t) 1) below ∙ sum-inside T a T 1 ∙ omega arith
     where
-      and-true : (b : Bool) → (b && true) ≡ b
-      and-true true = refl
-      and-true false = refl
-
       below : (t : ℕ) → t < T → only (leb a t) 1 ≡ only (inside a T t) 1
       below t x = rw (lt-ltb t T x) (ap (λ (b : Bool). only b 1) (sym (and-true (leb a t))))
 
@@ -135,16 +129,12 @@ module _ (S : Sheet) (P : PartPlan) (s : Sound S P) (l : ℕ) (from : P .last �
       → sum (S .modules) (λ m. only (occupies S P l k && P .plan .uses k m) (rest-of k)) ≡ only (occupies S P l k) (S .need k * rest-of k)
   held k x = go (occupies S P l k) refl
     where
-      two : (b : Bool) → only b (rest-of k) ≡ only b 1 * rest-of k
-      two true = omega arith
-      two false = omega arith
-
       go : (b : Bool) → occupies S P l k ≡ b
           → sum (S .modules) (λ m. only (occupies S P l k && P .plan .uses k m) (rest-of k)) ≡ only (occupies S P l k)
           (S .need k * rest-of k)
       go true q =
           rw q
-          (sum-same (S .modules) _ _ (λ m z. two (P .plan .uses k m)) ∙ sum-mul (S .modules) (λ m. only (P .plan .uses k m) 1) (rest-of k)
+          (sum-alike (S .modules) (P .plan .uses k) (rest-of k)
           ∙ ap (λ (c : ℕ). c * rest-of k) (s .enough k x (and-left (P .placed k) _ q)))
       go false q = rw q (sum-zero (S .modules))
 
@@ -159,11 +149,5 @@ module _ (S : Sheet) (P : PartPlan) (s : Sound S P) (l : ℕ) (from : P .last �
       let swap = sum-swap (S .jobs) (S .modules) busy in
       let jobs = sum-same (S .jobs) _ (λ k. only (occupies S P l k) (S .need k * rest-of k)) held in
       let frees : sum (S .modules) (λ m. only (free S P l m) (Z (T - l))) ≡ (S .modules - occupied S P l) * Z (T - l) =
-      sum-same (S .modules) _ (λ m. only (free S P l m) 1 * Z (T - l)) (λ m x. two (free S P l m))
-      ∙ sum-mul (S .modules) (λ m. only (free S P l m) 1) (Z (T - l))
-      ∙ ap (λ (c : ℕ). c * Z (T - l)) (omega (arith, free-count S P s l from)) in
+      sum-alike (S .modules) (free S P l) (Z (T - l)) ∙ ap (λ (c : ℕ). c * Z (T - l)) (omega (arith, free-count S P s l from)) in
       omega (arith, each, split, swap, jobs, frees)
-    where
-      two : (b : Bool) → only b (Z (T - l)) ≡ only b 1 * Z (T - l)
-      two true = omega arith
-      two false = omega arith

@@ -1,10 +1,10 @@
 -- Jobs that must overlap: one that starts from minute l on and ends by minute T runs at every minute from T less its minutes up to l and
 -- its minutes, and all that run at a minute have to find room beside each other.
-use mathlib.Core.Bool.{Bool, true, not, _&&_}
+use mathlib.Core.Bool.{true, not, _&&_}
 use Prim.Native.Nat.{ℕ, _+_, _≤_, _<_}
 use mathlib.Core.Path.{_≡_}
 use native.Mathlib.Omega.{arith}
-use lib.Dec.{leb, ltb}
+use lib.Dec.{leb}
 use borrow.Author.Tests.{ltb-true, leb-true, lt-ltb, le-leb, not-true}
 use Rattle.counting.specs.Counting.{only, sum}
 use Rattle.counting.proofs.Tests.{and-left, and-right, and-both, only-mono}
@@ -12,11 +12,8 @@ use Rattle.counting.proofs.Sums.{sum-le}
 use Rattle.counting.proofs.Ranges.{le-largest}
 use Rattle.schedule.specs.Plan.{Sheet, Plan, finish, planEnd}
 use Rattle.schedule.specs.ListPlan.{PartPlan, occupied}
+use Rattle.schedule.specs.Bounds.{mustRun}
 use Rattle.schedule.proofs.Weights.{GoesOn, left, beside}
-
--- a job of so many minutes, which starts from minute l on and ends by minute T, runs at minute m
-abbrev pub mustRun : ℕ → ℕ → ℕ → ℕ → Bool
-mustRun l T m minutes = leb T (m + minutes) && ltb m (l + minutes)
 
 module _ (S : Sheet) (P : PartPlan) (l : ℕ) (Q : Plan) (h : GoesOn S P l Q) (T : ℕ) (e : planEnd S Q ≤ T) (m : ℕ) (on : l ≤ m) where
   runs-then : (k : ℕ) → k < S .jobs → (not (P .placed k) && mustRun l T m (S .minutes k)) ≡ true → left S P l Q h T e m k ≡ true

@@ -7,33 +7,21 @@ use native.Mathlib.Omega.{arith}
 use native.Mathlib.Nat.{le-refl}
 use lib.Dec.{leb, ltb}
 use borrow.Author.Tests.{ltb-true, leb-true, lt-ltb, le-leb}
-use Rattle.counting.specs.Counting.{only, sum, count}
-use Rattle.counting.proofs.Tests.{and-left, and-right, and-both}
-use Rattle.counting.proofs.Sums.{sum-same, sum-swap, sum-mul, sum-zero, sum-const, sum-first}
+use Rattle.counting.specs.Counting.{only, sum, count, Rises, Holds}
+use Rattle.counting.proofs.Tests.{and-left, and-right, and-both, only-mul}
+use Rattle.counting.proofs.Sums.{sum-same, sum-swap, sum-zero, sum-const, sum-first}
 use Rattle.counting.proofs.Intervals.{inside, sum-inside}
 use Rattle.counting.proofs.Ranges.{le-largest}
-use Rattle.counting.proofs.Counts.{count-same}
+use Rattle.counting.proofs.Counts.{count-same, sum-alike}
 use Rattle.schedule.specs.Plan.{Sheet, Plan, finish, planEnd, Lasting}
 use Rattle.schedule.specs.ListPlan.{PartPlan, occupied}
+use Rattle.schedule.specs.Bounds.{gain}
 use Rattle.schedule.proofs.Occupied.{occupied-falls}
 use Rattle.schedule.proofs.Lanes.{StaysOpen, lanes-bound}
 use Rattle.schedule.proofs.Filling.{put-on-lanes}
-use Rattle.schedule.proofs.Weights.{Holds, GoesOn, minute-weight}
-
--- no set of jobs that last x minutes together, T at most, has more value than Z x
-abbrev pub LastsTo : Sheet → ℕ → (ℕ → ℕ) → (ℕ → ℕ) → Type 0
-LastsTo S T y Z = (X : ℕ → Bool) (x : ℕ) → x ≤ T
-    → sum (S .jobs) (λ k. only (X k) (S .minutes k)) ≤ x → sum (S .jobs) (λ k. only (X k) (y k)) ≤ Z x
-
--- up to n, a larger number has no smaller value
-abbrev pub Rises : ℕ → (ℕ → ℕ) → Type 0
-Rises n f = (a b : ℕ) → a ≤ b → b ≤ n → f a ≤ f b
+use Rattle.schedule.proofs.Weights.{GoesOn, minute-weight}
 
 -- ---- the reach of a lane, minute by minute
-
--- what the minute t adds to the reach of a lane that is open up to minute T
-abbrev pub gain : (ℕ → ℕ) → ℕ → ℕ → ℕ
-gain Z T t = Z (T - t) - Z (T - suc t)
 
 module _ (Z : ℕ → ℕ) (none : Z 0 ≡ 0) where
   gain-next : (T t : ℕ) → gain Z (suc T) (suc t) ≡ gain Z T t
@@ -43,7 +31,7 @@ module _ (Z : ℕ → ℕ) (none : Z 0 ≡ 0) where
       rw (a, b) refl
 
   module _ (T : ℕ) (p : ℕ → Bool) (stays : (t u : ℕ) → t ≤ u → p t ≡ true → p u ≡ true)
-      (rises : (a b : ℕ) → a ≤ b → b ≤ suc T → Z a ≤ Z b)
+      (rises : Rises (suc T) Z)
       (rec : Z (count T (λ t. p (suc t))) ≡ sum T (λ t. only (p (suc t)) (gain Z T t))) where
     one-more : sum (suc T) (λ t. only (p t) (gain Z (suc T) t)) ≡ only (p 0) (gain Z (suc T) 0) + Z (count T (λ t. p (suc t)))
     one-more =
@@ -67,7 +55,7 @@ module _ (Z : ℕ → ℕ) (none : Z 0 ≡ 0) where
         ap Z less ∙ omega (arith, sums)
 
   -- a lane that is open from some minute on
-  pub by-gains : (T : ℕ) (p : ℕ → Bool) → ((t u : ℕ) → t ≤ u → p t ≡ true → p u ≡ true) → ((a b : ℕ) → a ≤ b → b ≤ T → Z a ≤ Z b)
+  pub by-gains : (T : ℕ) (p : ℕ → Bool) → ((t u : ℕ) → t ≤ u → p t ≡ true → p u ≡ true) → Rises T Z
       → Z (count T p) ≡ sum T (λ t. only (p t) (gain Z T t))
   unfolding sum
   by-gains zero p stays rises = none
@@ -82,12 +70,9 @@ count-below n g l =
     sum-same n (λ m. only (ltb m g) 1) (λ m. only (inside 0 g m) 1) (λ m x. rw (le-leb 0 m zero-le) refl)
     ∙ sum-inside n 0 g 1 ∙ omega arith
 
-times-only : (b : Bool) (x c : ℕ) → only b x * c ≡ only b (x * c)
-times-only true x c = refl
-times-only false x c = omega arith
-
 module _ (S : Sheet) (lasting : Lasting S) (P : PartPlan) (l : ℕ) (Q : Plan) (h : GoesOn S P l Q) (T : ℕ) (e : planEnd S Q ≤ T)
-    (w y K Z : ℕ → ℕ) (most : Holds S w K) (more : Rises (S .modules) K) (lasts : LastsTo S T y Z) (none : Z 0 ≡ 0) (rises : Rises T Z) where
+    (w y K Z : ℕ → ℕ) (most : Holds (S .need) (S .jobs) (S .modules) w K) (more : Rises (S .modules) K)
+    (lasts : Holds (S .minutes) (S .jobs) T y Z) (none : Z 0 ≡ 0) (rises : Rises T Z) where
   -- the lanes that are open at minute t
   width : ℕ → ℕ
   width t = K (S .modules - occupied S P t)
@@ -128,13 +113,8 @@ module _ (S : Sheet) (lasting : Lasting S) (P : PartPlan) (l : ℕ) (Q : Plan) (
       (λ t. only (leb l t) (K (S .modules - occupied S P t) * gain Z T t)) (λ t x. minute t) in
       omega (arith, bound, gains, swap, each)
     where
-      one : (b : Bool) (c : ℕ) → only b c ≡ only b 1 * c
-      one true c = omega arith
-      one false c = omega arith
-
       minute : (t : ℕ) → sum (K (S .modules)) (λ m. only (isOpen m t) (gain Z T t))
           ≡ only (leb l t) (K (S .modules - occupied S P t) * gain Z T t)
       minute t =
-          sum-same (K (S .modules)) _ (λ m. only (isOpen m t) 1 * gain Z T t) (λ m x. one (isOpen m t) (gain Z T t))
-          ∙ sum-mul (K (S .modules)) (λ m. only (isOpen m t) 1) (gain Z T t)
-          ∙ ap (λ (x : ℕ). x * gain Z T t) (open-at t) ∙ times-only (leb l t) (width t) (gain Z T t)
+          sum-alike (K (S .modules)) (λ m. isOpen m t) (gain Z T t) ∙ ap (λ (x : ℕ). x * gain Z T t) (open-at t)
+          ∙ only-mul (leb l t) (width t) (gain Z T t)

@@ -2,13 +2,13 @@
 use mathlib.Core.Path.{_≡_, refl, ap, _∙_}
 use mathlib.Core.Logic.{_⊎_, inl, inr, _≢_}
 use mathlib.Core.Bool.{Bool, true, false, not, _&&_, _||_}
-use Prim.Native.Nat.{ℕ, zero, suc, _+_, _*_, _≤_, _<_, zero-le}
+use Prim.Native.Nat.{ℕ, zero, suc, _+_, _*_, _≤_, _<_}
 use native.Mathlib.Omega.{arith}
 use native.Mathlib.Nat.{le-refl}
 use lib.Dec.{ltb, leb}
 use borrow.Author.Tests.{ltb-true, leb-true, lt-ltb, le-leb, not-true}
 use Rattle.counting.specs.Counting.{only, largest, every, count}
-use Rattle.counting.proofs.Tests.{true-or-false, clash, and-left, and-right, and-both, not-of-false, implied, implication}
+use Rattle.counting.proofs.Tests.{true-or-false, clash, and-left, and-right, and-both, not-of-false, implied, implication, only-within}
 use Rattle.counting.proofs.Ranges.{le-largest, largest-le, every-at, every-intro, none-any}
 use Rattle.counting.proofs.Sums.{sum-const, sum-same}
 use Rattle.schedule.specs.Plan.{Sheet, finish}
@@ -104,11 +104,7 @@ module _ (S : Sheet) (P : PartPlan) (j : ℕ) where
   pub not-before-le : (t : ℕ) → P .last ≤ t → S .arrival j ≤ t
       → ((i : ℕ) → i < S .jobs → S .before i j ≡ true → finish S (P .plan) i ≤ t) → notBefore S P j ≤ t
   unfolding waits
-  not-before-le t a b f = omega (arith, largest-le (S .jobs) waits t (λ i l. one i l (true-or-false (S .before i j))))
-    where
-      one : (i : ℕ) → i < S .jobs → (S .before i j ≡ true) ⊎ (S .before i j ≡ false) → waits i ≤ t
-      one i l (inl e) = rw e (f i l e)
-      one i l (inr e) = rw e zero-le
+  not-before-le t a b f = omega (arith, largest-le (S .jobs) waits t (λ i l. only-within (S .before i j) _ t (f i l)))
 
   -- no job starts after the first minute at which it may
   pub start-le : (t : ℕ) → MayStart S P j t → startOf S P j ≤ t

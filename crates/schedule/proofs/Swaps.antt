@@ -1,17 +1,15 @@
 -- A next job that would start as soon as a placed job of its width has ended: where it was settled in that job's place, and every job that
 -- waits for that one waits for it too, the two may as well come the other way round.
-use mathlib.Core.Path.{_≡_, refl, ap, _∙_}
+use mathlib.Core.Path.{_≡_, ap, _∙_}
 use mathlib.Core.Logic.{_⊎_, inl, inr, _≢_}
-use mathlib.Core.Bool.{Bool, true, false}
+use mathlib.Core.Bool.{true, false}
 use mathlib.Core.List.{List, [], _∷_, _++_}
 use Prim.Native.Nat.{ℕ, _+_, _≤_, _<_, zero-le}
 use native.Mathlib.Omega.{arith}
 use native.Mathlib.Nat.{le-refl, le-trans}
-use lib.Dec.{eqb}
-use borrow.Author.Tests.{eqb-true, eqb-false}
 use Rattle.counting.specs.Counting.{only}
 use Rattle.counting.proofs.Tests.{true-or-false, clash, less-or-not}
-use Rattle.counting.proofs.Ranges.{le-largest, largest-le}
+use Rattle.counting.proofs.Ranges.{le-largest}
 use Rattle.schedule.specs.Plan.{Sheet, Plan, finish, planEnd, Narrow, Lasting}
 use Rattle.schedule.specs.ListPlan.{PartPlan, noJobs, ready, Follows, startOf, partOf}
 use Rattle.schedule.proofs.Starts.{Ready, ready-says, start-may}
@@ -19,7 +17,7 @@ use Rattle.schedule.proofs.Timed.{runs, runs-on, runs-not-yet, runs-no-
 use Rattle.schedule.proofs.Places.{CannotBeat}
 use Rattle.schedule.proofs.Branch.{branch-follows, branch-kept, branch-placed, branch-start, branch-behind}
 use Rattle.schedule.proofs.Settled.{StartsNext, settled-next, Completion, by-plans}
-use Rattle.schedule.proofs.Exchange.{exchanged, start-one, start-two, start-other, exchange-room}
+use Rattle.schedule.proofs.Exchange.{of-each, exchanged, start-one, start-two, start-other, exchange-timed, exchange-ends}
 
 -- one job behind the other on the same modules: at each minute, one of them runs whichever comes first
 module _ (S : Sheet) (Q R : Plan) (i j t : ℕ) (qi : Q .start i ≡ t) (qj : Q .start j ≡ t + S .minutes i + S .rest)
@@ -118,67 +116,35 @@ module _ (S : Sheet) (w : Lasting S) (n : Narrow S) (u : List ℕ) (i : ℕ) (q 
         let k = kept a l (Rj .after a l e) in
         omega (arith, k, soon, start-may S P j (n j (Rj .job)) .after a l e)
 
-    after : (a b : ℕ) → a < S .jobs → b < S .jobs → S .before a b ≡ true → (x y x′ y′ : Bool)
-        → eqb b i ≡ x → eqb b j ≡ y → eqb a i ≡ x′ → eqb a j ≡ y′ → finish S R a ≤ R .start b
-    after a b l m e true y x′ y′ p s p′ s′ =
-        let z = eqb-true b i p in
-        rw z (omega (arith, at-i, before-i a l (rw (← z) e)))
-    after a b l m e false true x′ y′ p s p′ s′ =
-        let z = eqb-true b j s in
-        rw z (omega (arith, at-j, before-j a l (rw (← z) e)))
-    after a b l m e false false true y′ p s p′ s′ =
-        let z = eqb-true a i p′ in
-        let o = other b (eqb-false b i p) (eqb-false b j s) in
-        let g : S .before i b ≡ true = rw (← z) e in
-        rw z (omega (arith, at-i, o, q-j, c .timed .after j b (Rj .job) m (waits b m g)))
-    after a b l m e false false false true p s p′ s′ =
-        let z = eqb-true a j s′ in
-        let o = other b (eqb-false b i p) (eqb-false b j s) in
-        let g : S .before j b ≡ true = rw (← z) e in
-        rw z (omega (arith, at-j, o, q-j, c .timed .after j b (Rj .job) m g))
-    after a b l m e false false false false p s p′ s′ =
-        let o = other b (eqb-false b i p) (eqb-false b j s) in
-        let h = other a (eqb-false a i p′) (eqb-false a j s′) in
-        omega (arith, o, h, c .timed .after a b l m e)
-
-    arrived : (k : ℕ) → k < S .jobs → (x y : Bool) → eqb k i ≡ x → eqb k j ≡ y → S .arrival k ≤ R .start k
-    arrived k l true y p s = rw (eqb-true k i p) (omega (arith, at-i, q-i, c .timed .arrived i (Ri .job)))
-    arrived k l false true p s =
-        rw (eqb-true k j s) (omega (arith, at-j, soon, start-may S P j (n j (Rj .job)) .arrived))
-    arrived k l false false p s = omega (arith, other k (eqb-false k i p) (eqb-false k j s), c .timed .arrived k l)
-
     timed : Timed S R
-    timed = record {
-      room = exchange-room Q i (t + S .minutes j + S .rest) j t apart S (c .timed) (Ri .job) (Rj .job) need
-          (turned-round S Q R i j t q-i q-j at-j at-i (S .need i));
-      after = λ a b l m e. after a b l m e (eqb b i) (eqb b j) (eqb a i) (eqb a j) refl refl refl refl;
-      arrived = λ k l. arrived k l (eqb k i) (eqb k j) refl refl;
-    }
+    timed =
+        exchange-timed Q i (t + S .minutes j + S .rest) j t apart S (c .timed) (Ri .job) (Rj .job) need
+        (turned-round S Q R i j t q-i q-j at-j at-i (S .need i)) (λ a l e. omega (arith, before-i a l e)) before-j
+        (λ b l e. omega (arith, q-j, c .timed .after j b (Rj .job) l (waits b l e)))
+        (λ b l e. omega (arith, q-j, c .timed .after j b (Rj .job) l e)) (omega (arith, q-i, c .timed .arrived i (Ri .job)))
+        (omega (arith, soon, start-may S P j (n j (Rj .job)) .arrived))
 
-    first : (k : ℕ) → k < S .jobs → P .placed k ≡ false → (x y : Bool) → eqb k i ≡ x → eqb k j ≡ y
-        → (A .placed k ≡ true) ⊎ (A .placed k ≡ false) → R .start j ≤ R .start k
-    first k l p true y a b z = rw (eqb-true k i a) (omega (arith, at-i, at-j))
-    first k l p false true a b z = rw (eqb-true k j b) (le-refl _)
-    first k l p false false a b (inl z) =
-        omega (arith, at-j, other k (eqb-false k i a) (eqb-false k j b), c .kept k l z, branch-behind S n u i q f k p z)
-    first k l p false false a b (inr z) = omega (arith, at-j, other k (eqb-false k i a) (eqb-false k j b), c .first k l z, q-j)
+    first : (k : ℕ) → k < S .jobs → P .placed k ≡ false → R .start j ≤ R .start k
+    first = of-each {C = λ k. k < S .jobs → P .placed k ≡ false → R .start j ≤ R .start k} i j (λ l p. omega (arith, at-i, at-j))
+        (λ l p. le-refl _) (λ k x y l p. omega (arith, at-j, other k x y, from k l p (true-or-false (A .placed k))))
+      where
+        from : (k : ℕ) → k < S .jobs → P .placed k ≡ false → (A .placed k ≡ true) ⊎ (A .placed k ≡ false) → t ≤ Q .start k
+        from k l p (inl z) = omega (arith, c .kept k l z, branch-behind S n u i q f k p z)
+        from k l p (inr z) = omega (arith, c .first k l z, q-j)
 
     next : StartsNext S w n u (branch-follows S n u i q f .0) j r R
     next = record {
       timed = timed;
       kept = kept;
       reached = omega (arith, at-j, soon);
-      first = λ k l p. first k l p (eqb k i) (eqb k j) refl refl (true-or-false (A .placed k));
+      first = first;
     }
 
     ends : planEnd S R ≤ planEnd S Q
-    ends = largest-le (S .jobs) (finish S R) (planEnd S Q) (λ k l. one k l (eqb k i) (eqb k j) refl refl)
-      where
-        one : (k : ℕ) → k < S .jobs → (x y : Bool) → eqb k i ≡ x → eqb k j ≡ y → finish S R k ≤ planEnd S Q
-        one k l true y p s = rw (eqb-true k i p) (omega (arith, at-i, q-j, le-largest (S .jobs) (finish S Q) j (Rj .job)))
-        one k l false true p s = rw (eqb-true k j s) (omega (arith, at-j, q-j, le-largest (S .jobs) (finish S Q) j (Rj .job)))
-        one k l false false p s =
-            omega (arith, other k (eqb-false k i p) (eqb-false k j s), le-largest (S .jobs) (finish S Q) k l)
+    ends =
+        exchange-ends Q i (t + S .minutes j + S .rest) j t apart S (c .timed) (Ri .job) (Rj .job)
+        (omega (arith, q-j, le-largest (S .jobs) (finish S Q) j (Rj .job)))
+        (omega (arith, q-j, le-largest (S .jobs) (finish S Q) j (Rj .job)))
 
   pub swap-cut : (e : ℕ) → CannotBeat S e (u ++ (j ∷ [])) → CannotBeat S e ((u ++ (i ∷ q)) ++ (j ∷ []))
   swap-cut e cut =

@@ -7,7 +7,7 @@ use Prim.Native.Nat.{ℕ, _+_, _-_, _*_, _≤_, _<_, zero-le, min}
 use native.Mathlib.Omega.{arith}
 use lib.Dec.{leb, ltb}
 use borrow.Author.Tests.{ltb-true, lt-ltb, le-leb, lt-leb}
-use Rattle.counting.specs.Counting.{only, sum}
+use Rattle.counting.specs.Counting.{only, sum, Holds}
 use Rattle.counting.proofs.Tests.{true-or-false, less-or-not, and-left, and-right, and-both, only-mono}
 use Rattle.counting.proofs.Sums.{sum-le, sum-same, sum-add, sum-swap, sum-zero}
 use Rattle.counting.proofs.Intervals.{inside, sum-inside}
@@ -15,11 +15,6 @@ use Rattle.counting.proofs.Ranges.{le-largest}
 use Rattle.schedule.specs.Plan.{Sheet, Plan, finish, planEnd}
 use Rattle.schedule.specs.ListPlan.{PartPlan, occupies, occupied}
 use Rattle.schedule.proofs.Timed.{runs, Timed}
-
--- no set of jobs that fits on x modules of the cabinet weighs more than K x
-abbrev pub Holds : Sheet → (ℕ → ℕ) → (ℕ → ℕ) → Type 0
-Holds S y K = (X : ℕ → Bool) (x : ℕ) → x ≤ S .modules → sum (S .jobs) (λ k. only (X k) (S .need k)) ≤ x
-    → sum (S .jobs) (λ k. only (X k) (y k)) ≤ K x
 
 -- Q goes on from P: it keeps the placed jobs and starts the others from minute l on
 pub record GoesOn (S : Sheet) (P : PartPlan) (l : ℕ) (Q : Plan) : Type 0 where
@@ -68,7 +63,7 @@ module _ (S : Sheet) (P : PartPlan) (l : ℕ) (Q : Plan) (h : GoesOn S P l Q) (T
           rw p (omega (arith, on))
 
   -- what is left at a minute weighs no more than the free modules hold
-  pub minute-weight : (y K : ℕ → ℕ) → Holds S y K → (t : ℕ)
+  pub minute-weight : (y K : ℕ → ℕ) → Holds (S .need) (S .jobs) (S .modules) y K → (t : ℕ)
       → sum (S .jobs) (λ k. only (left t k) (y k)) ≤ only (leb l t) (K (S .modules - occupied S P t))
   minute-weight y K most t = one (less-or-not t l)
     where
@@ -84,7 +79,7 @@ module _ (S : Sheet) (P : PartPlan) (l : ℕ) (Q : Plan) (h : GoesOn S P l Q) (T
           rw none zero-le
 
   -- The jobs that are left weigh no more than the free modules hold.
-  pub weights-bound : (y K : ℕ → ℕ) → Holds S y K
+  pub weights-bound : (y K : ℕ → ℕ) → Holds (S .need) (S .jobs) (S .modules) y K
       → sum (S .jobs) (λ k. only (not (P .placed k)) (S .minutes k * y k)) ≤ sum T (λ t. only (leb l t) (K (S .modules - occupied S P t)))
   weights-bound y K most =
       let all = sum-same (S .jobs) _ (λ k. sum T (λ t. only (left t k) (y k))) (over-minutes y)

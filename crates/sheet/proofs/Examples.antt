@@ -13,7 +13,8 @@ use Rattle.counting.proofs.Tests.{less-or-not}
 use Rattle.counting.proofs.Ranges.{any-none}
 use Rattle.checking.specs.Checking.{firstFailing}
 use Rattle.sheet_format.specs.declared.Job.{Job}
-use Rattle.sheet_format.specs.Format.{byteAt, u16At, u32At, recordAt, recordBytes, trailerBytes, sheetBytes, jobsIn}
+use Rattle.words.specs.Words.{byteAt, u16At, u32At}
+use Rattle.sheet_format.specs.Format.{recordAt, recordBytes, trailerBytes, sheetBytes, jobsIn}
 use Rattle.sheet_format.specs.Format.{places}
 use Rattle.sheet_format.specs.Checks.{outside, faulty}
 use Rattle.sheet.specs.declared.Reading.{Reading}

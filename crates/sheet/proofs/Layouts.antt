@@ -10,7 +10,8 @@ use Rattle.counting.specs.Counting.{joined}
 use Rattle.counting.proofs.Joins.{joined-split}
 use Rattle.sheet_format.specs.declared.Job.{Job}
 use Rattle.sheet_format.specs.Figures.{recordSize}
-use Rattle.sheet_format.specs.Format.{u16At, u32At, recordAt, recordBytes, trailerBytes, sheetBytes}
+use Rattle.words.specs.Words.{u16At, u32At}
+use Rattle.sheet_format.specs.Format.{recordAt, recordBytes, trailerBytes, sheetBytes}
 use Rattle.sheet_format.specs.Format.{trailerAt, offsetOf, countOf, modulesOf, jobOf, labelsOf}
 use Rattle.sheet_format.proofs.Parts.{length-records}
 use Rattle.sheet_format.proofs.Digits.{record-read, trailer-read, u16-behind, u32-behind, record-behind}

@@ -14,7 +14,8 @@ use Rattle.counting.proofs.Joins.{joined-same}
 use Rattle.checking.proofs.Order.{none-failing}
 use Rattle.sheet_format.specs.declared.Job.{Job}
 use Rattle.sheet_format.specs.Figures.{mostJobs, mostModules, recordSize, trailerSize}
-use Rattle.sheet_format.specs.Format.{byteAt, recordBytes, trailerBytes, labelLength, labelLengths, sheetBytes}
+use Rattle.words.specs.Words.{byteAt}
+use Rattle.sheet_format.specs.Format.{recordBytes, trailerBytes, labelLength, labelLengths, sheetBytes}
 use Rattle.sheet_format.specs.Format.{jobsIn, places, trailerAt, offsetOf, countOf, modulesOf, jobOf, labelsOf}
 use Rattle.sheet_format.specs.Checks.{faulty}
 use Rattle.sheet_format.proofs.Bounds.{not-outside}

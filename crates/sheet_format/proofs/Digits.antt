@@ -9,7 +9,8 @@ use lib.Seq.{getD-append-add}
 use Rattle.counting.specs.Counting.{joined}
 use Rattle.sheet_format.specs.declared.Job.{Job}
 use Rattle.sheet_format.specs.Figures.{recordSize, trailerSize}
-use Rattle.sheet_format.specs.Format.{byteAt, u16At, u32At, u16Bytes, u32Bytes}
+use Rattle.words.specs.Words.{byteAt, u16At, u32At}
+use Rattle.sheet_format.specs.Format.{u16Bytes, u32Bytes}
 use Rattle.sheet_format.specs.Format.{recordAt, recordBytes, trailerBytes}
 use Rattle.sheet_format.proofs.Lists.{segment}
 

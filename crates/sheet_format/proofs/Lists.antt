@@ -10,7 +10,8 @@ use Rattle.counting.specs.Counting.{joined}
 use Rattle.counting.proofs.Joins.{joined-length, joined-same, joined-split}
 use Rattle.sheet_format.specs.declared.Job.{Job}
 use Rattle.sheet_format.specs.Figures.{mostJobs}
-use Rattle.sheet_format.specs.Format.{byteAt, noJob, jobsIn, places}
+use Rattle.words.specs.Words.{byteAt}
+use Rattle.sheet_format.specs.Format.{noJob, jobsIn, places}
 
 -- one job more in its place
 pub place-more : (n : ℕ) (jobs : ℕ → Job) → n < mostJobs → set (places n jobs) n (jobs n) ≡ places (n + 1) jobs

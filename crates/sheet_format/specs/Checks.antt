@@ -9,7 +9,8 @@ use Rattle.checking.specs.Checking.{Check}
 use Rattle.sheet_format.specs.declared.Job.{Job}
 use Rattle.sheet_format.specs.Figures.{mostJobs, mostModules, longestSheet, recordSize, trailerSize, longestLabel}
 use Rattle.sheet_format.specs.Figures.{firstLabelByte, lastLabelByte, widestJob, mostMinutes, lastDeparture}
-use Rattle.sheet_format.specs.Format.{byteAt, labelLength, labelLengths, offsetOf, countOf, modulesOf}
+use Rattle.words.specs.Words.{byteAt}
+use Rattle.sheet_format.specs.Format.{labelLength, labelLengths, offsetOf, countOf, modulesOf}
 
 -- x is not one of low to high
 unfoldable pub outside : ℕ → ℕ → ℕ → Bool

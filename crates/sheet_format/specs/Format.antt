@@ -3,19 +3,11 @@ use mathlib.Core.List.{List, [], _∷_, _++_}
 use Prim.Native.Nat.{ℕ, _+_, _-_, _*_, _/_, _%_}
 use lib.ListN.{length, getD, take, replicate}
 use Rattle.counting.specs.Counting.{sum, joined}
+use Rattle.words.specs.Words.{byteAt, u16At, u32At}
 use Rattle.sheet_format.specs.declared.Job.{Job}
 use Rattle.sheet_format.specs.Figures.{mostJobs, recordSize, trailerSize}
 
 -- ---- numbers of several bytes, little-endian
-
-abbrev pub byteAt : List ℕ → ℕ → ℕ
-byteAt s i = getD s i 0
-
-unfoldable pub u16At : List ℕ → ℕ → ℕ
-u16At s i = byteAt s i + byteAt s (i + 1) * 256
-
-unfoldable pub u32At : List ℕ → ℕ → ℕ
-u32At s i = u16At s i + u16At s (i + 2) * 65536
 
 abbrev pub u16Bytes : ℕ → List ℕ
 u16Bytes x = x % 256 ∷ x / 256 ∷ []

@@ -1,7 +1,6 @@
-// The parts of a job sheet: numbers, records, the trailer, and the checks on them. The calls on whole sheets are in `sheet`.
+// The parts of a job sheet: records, the trailer, and the checks on them. The calls on whole sheets are in `sheet`.
 pub mod checks;
 pub mod figures;
-pub mod numbers;
 pub mod records;
 pub mod trailer;
 

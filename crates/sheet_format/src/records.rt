@@ -12,8 +12,8 @@ use super::checks::either;
 use super::checks::faulty;
 use super::figures::MOST_JOBS;
 use super::figures::RECORD_SIZE;
-use super::numbers::read16;
-use super::numbers::read32;
+use words::read16;
+use words::read32;
 
 // What one pass over the records finds: the jobs, the sum of the label lengths, and whether check 5 fails.
 pub struct Records {

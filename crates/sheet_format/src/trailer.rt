@@ -12,8 +12,8 @@ use super::figures::MOST_JOBS;
 use super::figures::MOST_MODULES;
 use super::figures::RECORD_SIZE;
 use super::figures::TRAILER_SIZE;
-use super::numbers::read16;
-use super::numbers::read32;
+use words::read16;
+use words::read32;
 
 // The offset of the first record.
 pub fn offset(sheet: &[u8]) -> u32

@@ -1,2 +1,3 @@
 -- What writing depends on.
 pub mod Same
+pub mod Machine

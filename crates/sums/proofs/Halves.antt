@@ -8,12 +8,12 @@ use lib.Dec.{leb}
 use lib.ListN.{getD}
 use borrow.Author.Tests.{leb-true, le-leb, not-true}
 use Rattle.counting.specs.Counting.{only, every, largest}
-use Rattle.counting.proofs.Tests.{and-right}
+use Rattle.counting.proofs.Tests.{and-right, only-within}
 use Rattle.counting.proofs.Sums.{sum-same, sum-add}
 use Rattle.counting.proofs.Ranges.{le-largest, largest-le, every-at}
 use Rattle.bits.specs.Bits.{bit}
 use Rattle.sums.specs.Sums.{together, SumsOf, longest, longestPair, Rounded}
-use Rattle.sums.proofs.Longest.{only-within, longest-le, longest-bounds}
+use Rattle.sums.proofs.Longest.{longest-le, longest-bounds}
 
 in-one : ℕ → Bool
 in-one k = cond (bit 1023 k) (not (bit 1047552 k)) (bit 1047552 k)

@@ -1,20 +1,16 @@
 -- Laws of the largest sum that fits.
-use mathlib.Core.Path.{_≡_, refl}
-use mathlib.Core.Bool.{Bool, true, false}
+use mathlib.Core.Path.{_≡_}
+use mathlib.Core.Bool.{Bool}
 use mathlib.Core.List.{List}
-use Prim.Native.Nat.{ℕ, _≤_, _<_, zero-le}
+use Prim.Native.Nat.{ℕ, _≤_, _<_}
 use native.Mathlib.Omega.{arith}
 use lib.Dec.{leb}
 use lib.ListN.{getD}
 use borrow.Author.Tests.{leb-true, le-leb}
-use Rattle.counting.specs.Counting.{only, largest}
+use Rattle.counting.specs.Counting.{only}
+use Rattle.counting.proofs.Tests.{only-within}
 use Rattle.counting.proofs.Ranges.{le-largest, largest-le}
 use Rattle.sums.specs.Sums.{together, Within, SumsOf, longest}
-
--- what passes the test is within the bound
-pub only-within : (b : Bool) (x y : ℕ) → (b ≡ true → x ≤ y) → only b x ≤ y
-only-within true x y h = h refl
-only-within false x y h = zero-le
 
 module _ (sums : List ℕ) (count : ℕ) where
   pub longest-le : (x : ℕ) → longest sums count x ≤ x

@@ -1,12 +1,18 @@
--- Bounds on the figures of tables that fit.
+-- Tables of zeros, and bounds on the figures of tables that fit.
+use mathlib.Core.Path.{_≡_, refl}
 use mathlib.Core.List.{List}
-use Prim.Native.Nat.{ℕ, _*_, _≤_, _<_}
+use Prim.Native.Nat.{ℕ, zero, suc, _*_, _≤_, _<_}
 use native.Mathlib.Omega.{arith}
 use native.Mathlib.Nat.{le-trans, mul-le-mul-left, mul-le-mul-right}
-use lib.ListN.{getD}
+use lib.ListN.{getD, replicate}
 use Rattle.counting.specs.Counting.{sum}
 use Rattle.counting.proofs.Sums.{sum-most}
 use Rattle.tables.specs.Tables.{Fit}
+
+pub zeros : (n i : ℕ) → _≡_ {A = ℕ} (getD (replicate n 0) i 0) 0
+zeros zero i = refl
+zeros (suc n) zero = refl
+zeros (suc n) (suc i) = zeros n i
 
 module _ (need minutes : List ℕ) (jobs modules : ℕ) (fit : Fit need minutes jobs modules) where
   -- the module-minutes of one job

@@ -11,8 +11,8 @@ use Rattle.counting.specs.Counting.{only, sum}
 use Rattle.counting.proofs.Tests.{same-or-not, less-or-not}
 use Rattle.counting.proofs.Sums.{sum-same}
 use Rattle.tables.specs.Tables.{Fit}
+use Rattle.tables.proofs.Laws.{zeros}
 use Rattle.weights.specs.Weights.{weightIn, mostWith, Put, Weighs, MostOf}
-use Rattle.weights.proofs.Puts.{zeros}
 use Rattle.weights.proofs.Knapsack.{weight-light, most-with-narrow, most-with-wide, knapsack-none, knapsack-more}
 use Rattle.values.specs.Values.{Narrow, Chosen, Valued, Reached, Joined, Laned}
 

@@ -1,7 +1,7 @@
 // Values of jobs, and the lanes that they fill: the tables of the bound by lanes.
 ghost use mathlib.Core.Path.{_≡_};
 ghost use mathlib.Core.Logic.{_⊎_};
-ghost use Prim.Native.Nat.{ℕ, _+_, _*_, _/_, _<_, _≤_, max};
+ghost use Prim.Native.Nat.{ℕ, _+_, _*_, _/_, _<_, _≤_};
 ghost use lib.ListN.{length, getD, replicate};
 ghost use Rattle.tables.specs.Tables.{Fit};
 ghost use Rattle.weights.specs.Weights.{weightIn, mostWith, Put};
@@ -180,22 +180,15 @@ fn chosen(need: &[u16; 20], minutes: &[u16; 20], jobs: usize, modules: u16) -> W
 
 // ---- the reach of a lane
 
-// The larger of two numbers.
-fn larger(a: u16, b: u16) -> u16
-    ensures { λ r. ⌜ r ≡ max a b ⌝ }
-{
-    if a < b {
-        return b;
-    }
-    a
-}
-
-// How many whole steps a job lasts.
-fn steps(minutes: u16, step: u16) -> usize
+// So many minutes in whole steps.
+pub fn steps(minutes: u16, step: u32) -> usize
     requires { ⌜ 0 < step ⌝ }
     ensures { λ r. ⌜ r ≡ minutes / step ⌝ }
 {
-    (minutes / step) as usize
+    if step == 1 {
+        return minutes as usize;
+    }
+    ((minutes as u32) / step) as usize
 }
 
 // The most value in each number of steps, with one job more.
@@ -206,7 +199,7 @@ fn with_value(old: &[u16; 1024], width: usize, value: u16) -> Reach
     let mut next = *old;
     let mut x = width;
     while x < 1024 {
-        next[x] = larger(old[x], value + old[x - width]);
+        next[x] = placement::later(old[x], value + old[x - width]);
         x += 1;
     }
     Reach { at: next }
@@ -220,7 +213,7 @@ fn reach_of(minutes: &[u16; 20], value: &[u16; 20], jobs: usize, step: u16) -> R
     let mut reach = Reach { at: [0u16; 1024] };
     let mut k: usize = 0;
     while k < jobs {
-        let lasts = steps(minutes[k], step);
+        let lasts = steps(minutes[k], step as u32);
         reach = with_value(&reach.at, lasts, value[k]);
         k += 1;
     }
@@ -259,7 +252,7 @@ fn serve(minutes: &[u16; 20], value: &[u16; 20], jobs: usize, step: u16, t: usiz
     let mut sets = Sets { at: [0u32; 1024] };
     let mut k: usize = 0;
     while k < jobs {
-        let width = steps(minutes[k], step);
+        let width = steps(minutes[k], step as u32);
         sets = with_set(&reach.at, &sets.at, width, value[k], 1u32 << k);
         reach = with_value(&reach.at, width, value[k]);
         k += 1;

@@ -10,11 +10,11 @@ use native.Mathlib.Numerals.{add-one}
 use lib.Dec.{eqb, leb}
 use borrow.Author.Tests.{le-leb, lt-leb}
 use lib.ListN.{getD, replicate, length-replicate}
-use Rattle.counting.specs.Counting.{only, sum}
+use Rattle.counting.specs.Counting.{only, sum, Holds}
 use Rattle.counting.proofs.Tests.{true-or-false, less-or-not, last-or-below}
 use Rattle.tables.specs.Tables.{Fit}
-use Rattle.weights.specs.Weights.{Holds, weightIn, mostWith, Put, Knapsack, MostOf, Weighting, WeightedTo}
-use Rattle.weights.proofs.Puts.{zeros}
+use Rattle.tables.proofs.Laws.{zeros}
+use Rattle.weights.specs.Weights.{weightIn, mostWith, Put, Knapsack, MostOf, Weighting, WeightedTo}
 
 -- ---- the weight of one job
 

@@ -1,5 +1,4 @@
 -- The laws of weights.
 pub mod Puts
 pub mod Knapsack
-pub mod Members
 pub mod Walks

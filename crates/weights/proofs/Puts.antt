@@ -4,18 +4,11 @@ use mathlib.Core.Logic.{_⊎_, inl, inr, _≢_}
 use mathlib.Core.List.{List}
 use Prim.Native.Nat.{ℕ, _+_, _≤_, _<_}
 use native.Mathlib.Omega.{arith}
-use native.Mathlib.Nat.{le-of-eq, not-suc-le-zero}
-use lib.ListN.{length, getD, set, length-set, replicate, length-replicate, getD-replicate, List·getD-eq-default}
+use native.Mathlib.Nat.{not-suc-le-zero}
+use lib.ListN.{length, getD, set, length-set, List·getD-eq-default}
 use lib.Seq.{getD-set-same, getD-set-other}
 use Rattle.counting.proofs.Tests.{less-or-not, same-or-not, last-or-below}
 use Rattle.weights.specs.Weights.{Put}
-
-pub zeros : (n p : ℕ) → getD {A = ℕ} (replicate n 0) p 0 ≤ 0
-zeros n p = go (less-or-not p n)
-  where
-    go : (p < n) ⊎ (n ≤ p) → getD {A = ℕ} (replicate n 0) p 0 ≤ 0
-    go (inl l) = le-of-eq (getD-replicate {A = ℕ} n p 0 0 l)
-    go (inr l) = le-of-eq (List·getD-eq-default {A = ℕ} (replicate n 0) 0 (omega (arith, length-replicate {A = ℕ} n 0)))
 
 pub put-none : (place : ℕ → ℕ) (l : List ℕ) (value : ℕ → ℕ) → Put place l l 0 value
 put-none place l value = record {

@@ -1,42 +1,19 @@
 -- What can stand on the free modules, walked from one end of a placed job to the next.
-use mathlib.Core.Path.{_≡_, refl, ap, _∙_}
+use mathlib.Core.Path.{_≡_, ap}
 use mathlib.Core.Logic.{_⊎_, inl, inr}
 use mathlib.Core.List.{List}
 use Prim.Native.Nat.{ℕ, _+_, _-_, _*_, _≤_, _<_, min, max}
 use native.Mathlib.Omega.{arith}
-use native.Mathlib.Nat.{mul-comm, mul-le-mul-right, le-refl}
-use lib.Dec.{leb}
+use native.Mathlib.Nat.{mul-le-mul-right, le-refl}
 use lib.ListN.{getD}
-use borrow.Author.Tests.{le-leb, lt-leb, lt-ltb, le-ltb}
 use Rattle.counting.specs.Counting.{only, sum}
-use Rattle.counting.proofs.Tests.{less-or-not, last-or-below}
-use Rattle.counting.proofs.Sums.{sum-same, sum-add, sum-zero}
-use Rattle.counting.proofs.Intervals.{inside, sum-inside}
+use Rattle.counting.proofs.Tests.{last-or-below}
+use Rattle.counting.proofs.Sums.{sum-same}
+use Rattle.counting.proofs.Intervals.{sum-from, sum-past}
 use Rattle.placement.specs.Profile.{heldAt, heldFrom, Sorted, Profile}
 use Rattle.placement.proofs.Profiles.{held-from-step, held-at-le, held-from-le}
 use Rattle.bits.specs.Bits.{bit}
 use Rattle.weights.specs.Weights.{Weighting, roomFor, Outweighed}
-
--- a sum over the numbers from a on, of which those below b have the same value
-pub sum-from : (T a b c : ℕ) (g : ℕ → ℕ) → a ≤ b → b ≤ T → ((t : ℕ) → a ≤ t → t < b → g t ≡ c)
-    → sum T (λ t. only (leb a t) (g t)) ≡ c * (b - a) + sum T (λ t. only (leb b t) (g t))
-sum-from T a b c g l m h =
-    let all = sum-same T (λ t. only (leb a t) (g t)) (λ t. only (inside a b t) c + only (leb b t) (g t))
-    (λ t x. one t (less-or-not t a) (less-or-not t b))
-    ∙ sum-add T (λ t. only (inside a b t) c) (λ t. only (leb b t) (g t)) in
-    let e : min T b - a ≡ b - a = omega arith in
-    let low : sum T (λ t. only (inside a b t) c) ≡ c * (b - a) =
-    sum-inside T a b c ∙ ap (λ (n : ℕ). n * c) e ∙ mul-comm (b - a) c in
-    omega arith
-  where
-    one : (t : ℕ) → (t < a) ⊎ (a ≤ t) → (t < b) ⊎ (b ≤ t) → only (leb a t) (g t) ≡ only (inside a b t) c + only (leb b t) (g t)
-    one t (inl x) z = rw (lt-leb a t x, lt-leb b t (omega arith)) refl
-    one t (inr x) (inl z) = rw (le-leb a t x, lt-leb b t z, lt-ltb t b z) (omega (arith, h t x z))
-    one t (inr x) (inr z) = rw (le-leb a t x, le-leb b t z, le-ltb t b z) (omega arith)
-
--- over no numbers
-pub sum-past : (T : ℕ) (g : ℕ → ℕ) → sum T (λ t. only (leb T t) (g t)) ≡ 0
-sum-past T g = sum-same T _ (λ t. 0) (λ t l. ap (λ b. only b (g t)) (lt-leb T t l)) ∙ sum-zero T
 
 -- ---- from one end to the next
 
@@ -68,7 +45,7 @@ pub record Room (most : ℕ → ℕ) (until held : List ℕ) (placed modules l T
   pub low : room ≤ 720 * at
   pub all : room + roomFor most until held modules placed at T ≡ roomFor most until held modules placed l T
 
-pub room-start : {most : ℕ → ℕ} {until held : List ℕ} {placed modules l T room : ℕ} → ((x : ℕ) → most x ≤ 720) → room ≤ 0
+pub room-start : {most : ℕ → ℕ} {until held : List ℕ} {placed modules l T room : ℕ} → ((x : ℕ) → most x ≤ 720) → room ≡ 0
     → Room most until held placed modules l T room l
 room-start small none = record { small = small; low = omega arith; all = omega arith }
 

@@ -1,18 +1,14 @@
 -- Weights of jobs, and the most that can stand on so many modules.
 use mathlib.Core.Path.{_≡_}
 use mathlib.Core.Logic.{_≢_}
-use mathlib.Core.Bool.{Bool, cond}
+use mathlib.Core.Bool.{cond}
 use mathlib.Core.List.{List}
 use Prim.Native.Nat.{ℕ, _+_, _-_, _*_, _/_, _%_, _≤_, _<_, max}
 use lib.Dec.{leb, eqb}
 use lib.ListN.{length, getD}
-use Rattle.counting.specs.Counting.{only, sum}
+use Rattle.counting.specs.Counting.{only, sum, Rises, Holds}
 use Rattle.bits.specs.Bits.{bit}
 use Rattle.placement.specs.Profile.{heldAt}
-
--- no set of the first n jobs that is at most x wide, where x is at most `top`, is worth more than K x
-abbrev pub Holds : (ℕ → ℕ) → ℕ → ℕ → (ℕ → ℕ) → (ℕ → ℕ) → Type 0
-Holds width n top y K = (X : ℕ → Bool) (x : ℕ) → x ≤ top → sum n (λ k. only (X k) (width k)) ≤ x → sum n (λ k. only (X k) (y k)) ≤ K x
 
 -- no set of jobs that fits on x modules weighs more than K x
 abbrev pub Weighs : List ℕ → ℕ → ℕ → (ℕ → ℕ) → (ℕ → ℕ) → Type 0
@@ -37,7 +33,7 @@ pub record Put (place : ℕ → ℕ) (old new : List ℕ) (n : ℕ) (value : ℕ
 -- a table of the most that the first n jobs are worth, none of them more than `each`, in each width up to `top`
 pub record Knapsack (width : ℕ → ℕ) (n top each : ℕ) (y : ℕ → ℕ) (table : List ℕ) : Type 0 where
   pub holds : Holds width n top y (λ x. getD table x 0)
-  pub rises : (a b : ℕ) → a ≤ b → b ≤ top → getD table a 0 ≤ getD table b 0
+  pub rises : Rises top (λ x. getD table x 0)
   pub small : (p : ℕ) → getD table p 0 ≤ each * n
 
 -- the most of the first n jobs that can stand on each number of modules, in weighting q

@@ -185,10 +185,7 @@ fn set_worth(worth: &[u32; 100], set: u32, jobs: usize) -> Totals
 pub fn next_end(at: u16, until: u16, target: u16) -> u16
     ensures { λ r. ⌜ r ≡ max at (min until target) ⌝ }
 {
-    if until <= target {
-        return placement::later(at, until);
-    }
-    placement::later(at, target)
+    placement::later(at, placement::sooner(until, target))
 }
 
 // The room in each weighting, with what can stand on x modules for so many minutes more.

@@ -56,6 +56,7 @@ use Rattle.lent.proofs.show as show
 use Rattle.lent.proofs.show.Symbol as show-symbol
 use Rattle.lent.proofs.show.Symbol.{name as #lent·show}
 use Rattle.lent.proofs.show.Met as show-met
+use Rattle.firmware.proofs.Machine.{deskV}
 use Rattle.firmware.proofs.depot_desk_look as thin
 use Rattle.firmware.proofs.depot_desk_look.Key.{name as #firmware·depot-desk-look}
 use Rattle.firmware.proofs.depot_desk_look.Statement.{statement}
@@ -69,10 +70,6 @@ stayed = (
     (gave-ref (1 ∷ []) tt (plain (λ _. u32)), tt),
   ),
 )
-
--- the machine value of a desk
-abbrev deskV : Desk → Val
-deskV = LL.val D.the-type D′.the-laws
 
 -- the contracts of the two callees
 module _ {M : Type 1} (𝓤 : URA M) (H : Heap 𝓤) (A : Atoms 𝓤) (memory : Memory → SProp 𝓤) (run : Routine → Fun 𝓤) where

@@ -54,6 +54,7 @@ use Rattle.lent.proofs.opened_over as by-value
 use Rattle.lent.proofs.opened_over.Symbol as by-value-symbol
 use Rattle.lent.proofs.opened_over.Symbol.{name as #lent·opened-over}
 use Rattle.lent.proofs.opened_over.Met as by-value-met
+use Rattle.firmware.proofs.Machine.{deskV, number-fits, desk-is}
 use Rattle.firmware.proofs.depot_desk_open as thin
 use Rattle.firmware.proofs.depot_desk_open.Key.{name as #firmware·depot-desk-open}
 use Rattle.firmware.proofs.depot_desk_open.Statement.{statement}
@@ -70,10 +71,6 @@ stayed = (
     ),
   ),
 )
-
--- the machine value of a desk
-abbrev deskV : Desk → Val
-deskV = LL.val D.the-type D′.the-laws
 
 -- the contract of the call by value
 abbrev ByValue : {M : Type 1} (𝓤 : URA M) (H : Heap 𝓤) (A : Atoms 𝓤) → (Memory → SProp 𝓤) → (Routine → Fun 𝓤) → Contract 𝓤
@@ -143,13 +140,6 @@ module _ {M : Type 1} (𝓤 : URA M) (H : Heap 𝓤) (A : Atoms 𝓤) (W : Given
       → ent 𝓤 (ensured 𝓤 H A by-value.ended (by-value.clauses 𝓤 H A memory run) (κ₁, (κ₂, tt)) (d, (n, (s, (t, tt)))) tt r)
       (fact 𝓤 (r ≡ result))
   answered r = exE 𝓤 _ (λ ws. snd∗ 𝓤 (sem 𝓤 H A (lasts by-value.ended (κ₁, (κ₂, tt)) (d, (n, (s, (t, tt)))) ws)) (fact 𝓤 (r ≡ result)))
-
-  -- what whoever holds an answer knows of its number and of its desk
-  number-fits : (r : Booked) (vs : List Val) → Is B.the-row r vs → r .refusal < 2 ^ 32
-  number-fits r vs is = LL.owed B.the-type B′.the-laws r vs is .0 .1
-
-  desk-is : (r : Booked) (vs : List Val) → Is B.the-row r vs → Is D.the-row (r .desk) (deskV (r .desk) ∷ [])
-  desk-is r vs is = LL.owed B.the-type B′.the-laws r vs is .1 .0
 
   module _ (C : Calls 𝓤 H) (Λ : Loops 𝓤 H) (fm : FmC 𝓤 H (W .laws) C)
       (known : Triple 𝓤 (C #lent·opened-over) (ByValue 𝓤 H A memory run)) where

@@ -1,9 +1,10 @@
 -- `overlaps::all_hold` meets its contract.
+use mathlib.Core.Path.{refl}
 use native.Mathlib.Omega.{arith}
-use native.Mathlib.Nat.{pos-of-ne-zero, le-refl}
+use native.Mathlib.Nat.{pos-of-ne-zero}
 use lib.Count.{ones}
 use Rattle.bits.proofs.Walks.{Walk, walk-first, walk-next, walk-less}
-use Rattle.weights.proofs.Members.{Weighed, weighed-none, weighed-more, weighed-small, weighed-all}
+use Rattle.bits.proofs.Weighing.{Weighed, weighed-none, weighed-more, weighed-small, weighed-all}
 use Rattle.overlaps.specs.Overlaps.{mustHold}
 use Rattle.overlaps.proofs.Laws.{hold-small}
 use borrow.Author.Needs.{needs}
@@ -23,7 +24,7 @@ below32-requires c κs = omega (arith, c .pre .few)
 loop-holds : tie.Need-loop-holds Inv-loop μ-loop
 loop-holds c =
     let args = c .before .args in
-    rw (c .below32 .ensures) (walk-first (args .jobs) (args .set), weighed-none (args .set) (args .jobs) _ 0 (le-refl 0))
+    rw (c .below32 .ensures) (walk-first (args .jobs) (args .set), weighed-none (args .set) (args .jobs) _ 0 refl)
 
 lowest32-requires : tie.Need-lowest32-requires Inv-loop μ-loop
 lowest32-requires c κs = search needs

@@ -21,6 +21,7 @@ use Rattle.sheet_list.specs.declared.Jobs.{Jobs}
 use Rattle.sheet_list.specs.Gather.{listed, placed, gathered}
 use Rattle.sheet_list.proofs.Jobs as TL
 use Rattle.sheet_list.proofs.Jobs.Laws as TL′
+use Rattle.sheet_list.proofs.Machine.{listV, list-is}
 use Rattle.sheet_list.proofs.at_most as most
 use Rattle.sheet_list.proofs.at_most.Symbol as most-def
 use Rattle.sheet_list.proofs.at_most.Symbol.{name as #at-most}
@@ -82,12 +83,9 @@ use denote.Triple.Walked.{says, Stays, stay-none-slice, walkOf, Walks, ends-at, 
 abbrev stayed : Stays (f.ended .signature .params) (f.ended .kept)
 stayed = (stay-none-slice (0 ∷ []) tt (plain (λ _. T.the-row)) yes, tt)
 
--- the machine values of a record and of a list
+-- the machine value of a record
 abbrev jobV : Job → Val
 jobV = LL.val T.the-type T′.the-laws
-
-abbrev listV : Jobs → Val
-listV = LL.val TL.the-type TL′.the-laws
 
 -- the code: a local's type, the turn of the loop, and what follows the loop
 abbrev tyAt : List Local → ℕ → Ty
@@ -230,9 +228,6 @@ module _ {M : Type 1} (𝓤 : URA M) (H : Heap 𝓤) (A : Atoms 𝓤) (W : Given
       with-of r = exE 𝓤 _ (λ ws. snd∗ 𝓤 (sem 𝓤 H A (lasts with-job.ended tt (d, (i, (j, tt))) ws)) (fact 𝓤 (r ≡ placed d i j)))
 
   -- a value is at its own machine value
-  list-is : (d : Jobs) (vs : List Val) → Is TL.the-row d vs → Is TL.the-row d (listV d ∷ [])
-  list-is d vs is = LL.owes TL.the-type TL′.the-laws d (LL.owed TL.the-type TL′.the-laws d vs is)
-
   job-is : (d : Job) (vs : List Val) → Is T.the-row d vs → Is T.the-row d (jobV d ∷ [])
   job-is d vs is = LL.owes T.the-type T′.the-laws d (LL.owed T.the-type T′.the-laws d vs is)
 

@@ -16,6 +16,7 @@ use Rattle.sheet.proofs.Written.Laws as TW′
 use Rattle.sheet_list.proofs.Same.{gathered-answer, gathered-leaves}
 use Rattle.sheet_list.proofs.Jobs as TL
 use Rattle.sheet_list.proofs.Jobs.Laws as TL′
+use Rattle.sheet_list.proofs.Machine.{listV, list-is}
 use Rattle.sheet_list.proofs.gather as gather
 use Rattle.sheet_list.proofs.gather.Symbol as gather-def
 use Rattle.sheet_list.proofs.gather.Symbol.{name as #gather}
@@ -73,9 +74,6 @@ stayed = (
     (stay-none (λ _. u16) yes, (gave-slice (2 ∷ []) tt (plain (λ _. u8)), tt)),
   ),
 )
-
-abbrev listV : Jobs → Val
-listV = LL.val TL.the-type TL′.the-laws
 
 -- the contracts that the proof cites
 module _ {M : Type 1} (𝓤 : URA M) (H : Heap 𝓤) (A : Atoms 𝓤) (mem : Memory → SProp 𝓤) (run : Routine → Fun 𝓤) where
@@ -183,9 +181,6 @@ module _ {M : Type 1} (𝓤 : URA M) (H : Heap 𝓤) (A : Atoms 𝓤) (W : Given
       move ! (2 ∷ 0 ∷ []) $ fjoin ! $ owned ! usize (Is usize) (uint-makes 𝓤 H A W w64) (length js) _ (refl, g₀ .0) $ fjoin ! $
       owned ! TL.the-row (Is TL.the-row) (LL.makes TL.the-type TL′.the-plain 𝓤 H A) d _ is $ fjoin ! $ move ! (1 ∷ 0 ∷ []) $
       join ! $ frame ! $ done !
-
-  list-is : (d : Jobs) (vs : List Val) → Is TL.the-row d vs → Is TL.the-row d (listV d ∷ [])
-  list-is d vs is = LL.owes TL.the-type TL′.the-laws d (LL.owed TL.the-type TL′.the-laws d vs is)
 
   module _ (C : Calls 𝓤 H) (Λ : Loops 𝓤 H) (fm : FmC 𝓤 H (W .laws) C) (known-gather : Triple 𝓤 (C #gather) (Gather 𝓤 H A mem run))
       (known-write : Triple 𝓤 (C #write-gathered) (Write 𝓤 H A mem run)) where

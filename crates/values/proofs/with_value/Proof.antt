@@ -19,30 +19,30 @@ abbrev μ-loop : tie.MeasureT-loop
 loop-holds : tie.Need-loop-holds Inv-loop μ-loop
 loop-holds c = (search needs, put-narrow _ _ _)
 
-mul-larger : tie.Need-mul-larger Inv-loop μ-loop
-mul-larger c = search needs
+mul-later : tie.Need-mul-later Inv-loop μ-loop
+mul-later c = search needs
 
-element-copy-out-larger : tie.Need-element-copy-out-larger Inv-loop μ-loop
-element-copy-out-larger c = search needs
+element-copy-out-later : tie.Need-element-copy-out-later Inv-loop μ-loop
+element-copy-out-later c = search needs
 
-sub-larger : tie.Need-sub-larger Inv-loop μ-loop
-sub-larger c = search needs
+sub-later : tie.Need-sub-later Inv-loop μ-loop
+sub-later c = search needs
 
-mul-larger-2 : tie.Need-mul-larger-2 Inv-loop μ-loop
-mul-larger-2 c = search needs
+mul-later-2 : tie.Need-mul-later-2 Inv-loop μ-loop
+mul-later-2 c = search needs
 
-element-copy-out-larger-2 : tie.Need-element-copy-out-larger-2 Inv-loop μ-loop
-element-copy-out-larger-2 c = search needs
+element-copy-out-later-2 : tie.Need-element-copy-out-later-2 Inv-loop μ-loop
+element-copy-out-later-2 c = search needs
 
-add-larger : tie.Need-add-larger Inv-loop μ-loop
-add-larger c =
+add-later : tie.Need-add-later Inv-loop μ-loop
+add-later c =
     let pre = c .before .before .before .before .before .pre in
     let loop = c .before .before .before .loop in
     let args = c .before .before .before .before .before .args in
     record { fits = omega (arith, pre .1 .0 (loop .x - args .width)) }
 
-larger-requires : tie.Need-larger-requires Inv-loop μ-loop
-larger-requires c κs = search needs
+later-requires : tie.Need-later-requires Inv-loop μ-loop
+later-requires c κs = search needs
 
 mul-next : tie.Need-mul-next Inv-loop μ-loop
 mul-next c = search needs
@@ -59,12 +59,12 @@ loop-less c = search needs
 loop-again : tie.Need-loop-again Inv-loop μ-loop
 loop-again c =
     let loop = c .before .before .before .before .loop in
-    let larger = c .larger in
+    let later = c .later in
     let args = c .before .before .before .before .before .before .args in
     let pre = c .before .before .before .before .before .before .pre in
     let loop-test = c .before .before .before .loop-test in
     let x = loop .x in
-    let value = larger .ensures ∙ sym (most-with-wide (args .old .now) (args .width) (args .value) x (loop .inv .0)) in
+    let value = later .ensures ∙ sym (most-with-wide (args .old .now) (args .width) (args .value) x (loop .inv .0)) in
     (search needs, put-more (loop .inv .1) _ (λ i m e. omega arith) (omega (arith, pre .0, loop-test .taken)) value)
 
 returns : tie.Need-returns Inv-loop μ-loop
@@ -81,13 +81,13 @@ with-value-spec =
     Inv-loop
     μ-loop
     loop-holds
-    mul-larger
-    element-copy-out-larger
-    sub-larger
-    mul-larger-2
-    element-copy-out-larger-2
-    add-larger
-    larger-requires
+    mul-later
+    element-copy-out-later
+    sub-later
+    mul-later-2
+    element-copy-out-later-2
+    add-later
+    later-requires
     mul-next
     array-write-next
     add-x

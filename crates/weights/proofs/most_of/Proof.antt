@@ -4,8 +4,8 @@ use borrow.Author.Needs.{needs}
 use mathlib.Core.Path.{_≡_, subst}
 use Prim.Native.Nat.{ℕ, _-_, _≤_}
 use lib.ListN.{getD}
+use Rattle.tables.proofs.Laws.{zeros}
 use Rattle.weights.specs.Weights.{MostOf}
-use Rattle.weights.proofs.Puts.{zeros}
 use Rattle.weights.proofs.Knapsack.{weight-light, knapsack-none, knapsack-more}
 use Rattle.weights.proofs.most_of.Statement.{statement}
 use Rattle.weights.proofs.most_of.Tie as tie

@@ -3,7 +3,7 @@ use native.Mathlib.Omega.{arith}
 use mathlib.Core.Path.{_∙_}
 use Prim.Native.Nat.{ℕ, _+_, _*_, _-_, _≤_, _<_}
 use lib.ListN.{getD}
-use Rattle.weights.proofs.Puts.{zeros}
+use Rattle.tables.proofs.Laws.{zeros}
 use Rattle.weights.proofs.Walks.{Walk, Room, walk-start, walk-fits, walk-step, room-start, room-low, room-step, room-done}
 use borrow.Author.Needs.{needs}
 use Rattle.weights.proofs.room_for.Statement.{statement}

@@ -5,9 +5,9 @@ use Prim.Native.Nat.{ℕ, _+_, _*_, _<_}
 use lib.Count.{ones}
 use lib.ListN.{getD}
 use Rattle.bits.proofs.Walks.{Walk, walk-first, walk-next, walk-less}
-use Rattle.weights.proofs.Puts.{zeros}
-use Rattle.weights.proofs.Members.{Weighed, weighed-none, weighed-more, weighed-small, weighed-all}
+use Rattle.bits.proofs.Weighing.{Weighed, weighed-none, weighed-more, weighed-small, weighed-all}
 use borrow.Author.Needs.{needs}
+use Rattle.tables.proofs.Laws.{zeros}
 use Rattle.weights.proofs.set_worth.Statement.{statement}
 use Rattle.weights.proofs.set_worth.Tie as tie
 

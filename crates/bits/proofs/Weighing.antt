@@ -1,4 +1,4 @@
--- What the jobs of a set weigh, one member after another.
+-- What the members of a set weigh, one after another.
 use mathlib.Core.Path.{_≡_, sym, ap, _∙_}
 use mathlib.Core.Bool.{true, _||_}
 use Prim.Native.Nat.{ℕ, _+_, _*_, _≤_, _<_}
@@ -27,7 +27,7 @@ sum-without n x j g l e =
 pub record Weighed (set n : ℕ) (worth : ℕ → ℕ) (rest weight : ℕ) : Type 0 where
   pub all : weight + sum n (λ k. only (bit rest k) (worth k)) ≡ sum n (λ k. only (bit set k) (worth k))
 
-pub weighed-none : (set n : ℕ) (worth : ℕ → ℕ) (weight : ℕ) → weight ≤ 0 → Weighed set n worth (setOf n (bit set)) weight
+pub weighed-none : (set n : ℕ) (worth : ℕ → ℕ) (weight : ℕ) → weight ≡ 0 → Weighed set n worth (setOf n (bit set)) weight
 weighed-none set n worth weight l = record {
   all = omega (
     arith,
