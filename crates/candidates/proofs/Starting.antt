@@ -16,7 +16,7 @@ use Rattle.bits.proofs.Walks.{Walk, walk-first, walk-none, walk-next, walk-gone
 use Rattle.schedule.specs.Plan.{Sheet}
 use Rattle.schedule.specs.ListPlan.{PartPlan, ready}
 use Rattle.tables.specs.Tables.{sheetOf}
-use Rattle.schedule.proofs.Starts.{ready-says, start-may}
+use Rattle.schedule.proofs.Starts.{ready-says}
 use Rattle.schedule.proofs.Cuts.{NoneBefore}
 use Rattle.placement.specs.declared.Part.{Part}
 use Rattle.placement.specs.Part.{wordOf, isReady}

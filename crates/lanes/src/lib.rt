@@ -6,7 +6,7 @@ ghost use Rattle.counting.specs.Counting.{only, sum};
 ghost use Rattle.bits.specs.Bits.{bit};
 ghost use Rattle.tables.specs.Tables.{Fit};
 ghost use Rattle.placement.specs.Profile.{Profile};
-ghost use Rattle.values.specs.Values.{reachAt, mostAt, worthAt, stepOf, Laned};
+ghost use Rattle.values.specs.Values.{mostAt, worthAt, stepOf, Laned};
 ghost use Rattle.lanes.specs.Lanes.{reachIn, servedOn, Serving, Overfull};
 
 // The most value that a lane can serve from minute t up to the target.

@@ -1,14 +1,13 @@
 -- An entry that is written leaves the others; a memory that is all zero has no entry with a set.
-use mathlib.Core.Path.{_≡_, refl, sym, ap, _∙_, subst}
-use mathlib.Core.Bool.{true, false}
+use mathlib.Core.Path.{_≡_, refl, sym, ap, _∙_}
 use mathlib.Core.Logic.{_⊎_, inl, inr}
 use mathlib.Core.List.{List, _++_, append-assoc}
-use Prim.Native.Nat.{ℕ, suc, _+_, _-_, _*_, _/_, _%_, _^_, _≤_, _<_, max}
+use Prim.Native.Nat.{ℕ, suc, _+_, _-_, _*_, _/_, _%_, _^_, _≤_, _<_}
 use native.Mathlib.Omega.{arith}
 use native.Mathlib.Nat.{two-pow-succ}
 use lib.Count.{under, trailingZeros}
 use lib.ListN.{getD, length, take, drop, length-drop, length-append, take-append-drop, replicate, length-replicate, getD-replicate}
-use lib.Seq.{getD-take, getD-drop, take-at, drop-at, drop-drop, drop-append-le, take-append-le, length-take-le}
+use lib.Seq.{take-at, drop-at, drop-drop, drop-append-le, take-append-le, length-take-le}
 use borrow.Rule.Slice.PartMut.{putMid}
 use Rattle.counting.proofs.Tests.{less-or-not}
 use Rattle.words.specs.Words.{u16At, u32At}

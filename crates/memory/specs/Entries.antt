@@ -3,7 +3,7 @@
 use mathlib.Core.Path.{_≡_}
 use mathlib.Core.Logic.{_⊎_}
 use mathlib.Core.List.{List}
-use Prim.Native.Nat.{ℕ, _+_, _*_, _/_, _%_, _≤_, _<_, max}
+use Prim.Native.Nat.{ℕ, _*_, _/_, _%_, _<_}
 use lib.ListN.{length, getD, take, drop}
 pub use Rattle.entries.specs.Entry.{Entry, lastAt, endAt, EntryAhead}
 unfoldable pub use Rattle.entries.specs.Entry.{entryIn}

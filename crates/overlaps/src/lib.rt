@@ -2,7 +2,6 @@
 ghost use mathlib.Core.Path.{_≡_};
 ghost use mathlib.Core.Bool.{true};
 ghost use Prim.Native.Nat.{_+_, _<_, _≤_};
-ghost use lib.ListN.{getD};
 ghost use Rattle.counting.specs.Counting.{only, sum};
 ghost use Rattle.bits.specs.Bits.{bit};
 ghost use Rattle.tables.specs.Tables.{Fit};

@@ -1,14 +1,14 @@
 -- The jobs that may come next, tried one after another in the order of their starts.
 use mathlib.Core.Path.{_≡_, refl, sym, ap, _∙_}
 use mathlib.Core.Logic.{_⊎_, inl, inr}
-use mathlib.Core.Bool.{Bool, true, false, not, _&&_, _||_}
+use mathlib.Core.Bool.{Bool, true, false, not, _&&_, and-true}
 use mathlib.Core.List.{List, [], _∷_, _++_, append-assoc}
 use Prim.Native.Nat.{ℕ, suc, _+_, _≤_, _<_}
 use native.Mathlib.Omega.{arith}
 use lib.Dec.{eqb}
 use lib.Count.{ones}
 use lib.ListN.{getD, length-replicate}
-use borrow.Author.Tests.{eqb-true, eq-eqb}
+use borrow.Author.Tests.{eqb-true}
 use Rattle.counting.proofs.Tests.{true-or-false, clash, and-left, less-or-not}
 use Rattle.bits.specs.Bits.{bit, withBit, withoutBit}
 use Rattle.bits.proofs.Digits.{bit-none}
@@ -128,11 +128,7 @@ module _ {need minutes earlier : List ℕ} {jobs modules : ℕ} {part : Part} (k
       go j m a b true e r = rw (eqb-true j (c .job) e) f
       go j m a b false e r =
           let t : bit left j && true ≡ false = rw e at (sym (bit-without left (c .job) j) ∙ b) in
-          s .gone j m a (and-true (bit left j) t) r
-        where
-          and-true : (x : Bool) → x && true ≡ false → x ≡ false
-          and-true true y = y
-          and-true false y = refl
+          s .gone j m a (sym (and-true (bit left j)) ∙ t) r
 
   pub sweep-all : {target first left tried : ℕ} {c : Choice} → Now target first left tried c → c .start ≡ 65535
       → (j : ℕ) → j < jobs → bit first j ≡ true → ready S (P .placed) j ≡ true → Fails S target (w ++ (j ∷ []))

@@ -3,9 +3,9 @@ use mathlib.Core.Path.{_≡_, refl, sym, ap, _∙_}
 use mathlib.Core.Logic.{_⊎_, inl, inr}
 use mathlib.Core.Bool.{true, false}
 use mathlib.Core.List.{List, [], _++_}
-use Prim.Native.Nat.{ℕ, zero, suc, _+_, _-_, _≤_, _<_}
+use Prim.Native.Nat.{ℕ, suc, _+_, _-_, _≤_, _<_}
 use native.Mathlib.Omega.{arith}
-use lib.ListN.{getD, replicate, length-replicate}
+use lib.ListN.{replicate, length-replicate}
 use Rattle.counting.specs.Counting.{only}
 use Rattle.counting.proofs.Tests.{true-or-false, clash, less-or-not}
 use Rattle.bits.specs.Bits.{bit}
@@ -16,6 +16,7 @@ use Rattle.schedule.specs.TieRule.{endOf}
 use Rattle.schedule.proofs.Places.{CannotBeat}
 use Rattle.schedule.proofs.EndSums.{end-sum}
 use Rattle.tables.specs.Tables.{sheetOf, Fit}
+use Rattle.tables.proofs.Laws.{zeros}
 use Rattle.placement.specs.Part.{wordOf, firstPart}
 use Rattle.candidates.proofs.Children.{first-known}
 use Rattle.sums.specs.Sums.{Rounded}
@@ -26,11 +27,6 @@ use Rattle.search.specs.Search.{Remembered, Outcome, SettledSo, Searchin
 use Rattle.search.proofs.Recalls.{remembered-less}
 
 -- ---- nothing is settled
-
-zeros : (n i : ℕ) → _≡_ {A = ℕ} (getD (replicate n 0) i 0) 0
-zeros zero i = refl
-zeros (suc n) zero = refl
-zeros (suc n) (suc i) = zeros n i
 
 pub none-settled : (S : Sheet) (target : ℕ) (v : List ℕ) → SettledSo S target v (replicate 20 0) 0
 none-settled S target v = record {

@@ -1,7 +1,7 @@
 // Writing a sheet from a lent list of job records: the records are copied into a list of fixed length, which `sheet` writes.
 ghost use mathlib.Core.Path.{_≡_};
 ghost use Prim.Native.Nat.{_<_, min};
-ghost use lib.ListN.{length, set};
+ghost use lib.ListN.{length};
 ghost use Rattle.sheet_format.specs.Figures.{mostJobs};
 ghost use Rattle.sheet_format.specs.Format.{noJob, jobsIn};
 ghost use Rattle.sheet.specs.Write.{writeAnswer, writeLeaves};

@@ -5,7 +5,7 @@ use mathlib.Core.Bool.{Bool}
 use mathlib.Core.List.{List}
 use Prim.Native.Nat.{ℕ, _+_, _*_, _/_, _≤_, _<_}
 use lib.ListN.{length, getD}
-use Rattle.counting.specs.Counting.{only, sum}
+use Rattle.counting.specs.Counting.{only, sum, Rises}
 use Rattle.weights.specs.Weights.{Weighs, Knapsack}
 
 -- ---- the parts of the table
@@ -40,7 +40,7 @@ pub record Laned (need minutes : List ℕ) (jobs modules : ℕ) (lanes : List �
   pub value : ℕ → ℕ
   pub worth-is : (k : ℕ) → k < jobs → worthAt lanes k ≡ weight k * value k
   pub weighs : Weighs need jobs modules weight (mostAt lanes)
-  pub most-rises : (a b : ℕ) → a ≤ b → b ≤ modules → mostAt lanes a ≤ mostAt lanes b
+  pub most-rises : Rises modules (mostAt lanes)
   pub step-some : 0 < stepOf lanes
   pub serves : Serves minutes jobs (stepOf lanes) 1024 value (reachAt lanes)
   pub reach-rises : (a b : ℕ) → a ≤ b → b < 1024 → reachAt lanes a ≤ reachAt lanes b
@@ -58,7 +58,7 @@ Narrow need jobs modules = ((0 < modules) × (modules ≤ 64)) × (((j : ℕ) �
 -- a weight for each job, and the most weight that can stand on each number of modules
 pub record Chosen (need : List ℕ) (jobs modules : ℕ) (weight most : List ℕ) : Type 0 where
   pub weighs : Weighs need jobs modules (λ k. getD weight k 0) (λ x. getD most x 0)
-  pub rises : (a b : ℕ) → a ≤ b → b ≤ modules → getD most a 0 ≤ getD most b 0
+  pub rises : Rises modules (λ x. getD most x 0)
   pub light : (k : ℕ) → getD weight k 0 ≤ 64
   pub small : (x : ℕ) → getD most x 0 ≤ 720
 

@@ -2,7 +2,6 @@
 use mathlib.Core.Path.{sym, _∙_}
 use mathlib.Core.Logic.{inl, inr}
 use native.Mathlib.Omega.{arith}
-use borrow.Author.Needs.{needs}
 use Rattle.branching.proofs.passed_over.Statement.{statement}
 use Rattle.branching.proofs.passed_over.Tie as tie
 

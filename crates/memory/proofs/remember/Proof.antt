@@ -1,5 +1,4 @@
 -- `memory::remember` meets its contract.
-use native.Mathlib.Omega.{arith}
 use lib.ListN.{length}
 use Rattle.memory.specs.Entries.{groupOf}
 use Rattle.memory.proofs.Slots.{adds-none, adds-at}

@@ -1,7 +1,6 @@
 -- `memory::write_figures` meets its contract.
 use Prim.Native.Nat.{_-_}
 use mathlib.Core.Path.{sym, _∙_}
-use native.Mathlib.Omega.{arith}
 use Rattle.memory.proofs.Storing.{Storing, storing-last, storing-fits, storing-step, storing-all}
 use borrow.Author.Needs.{needs}
 use Rattle.memory.proofs.write_figures.Statement.{statement}

@@ -1,5 +1,4 @@
 -- `overlaps::must_hold` meets its contract.
-use native.Mathlib.Omega.{arith}
 use mathlib.Core.Path.{refl}
 use mathlib.Core.Bool.{and-false}
 use Prim.Native.Nat.{_+_}

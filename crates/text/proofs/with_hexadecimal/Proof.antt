@@ -1,7 +1,6 @@
 -- `text::with_hexadecimal` meets its contract.
 use mathlib.Core.Path.{_≡_, refl, ap}
-use mathlib.Core.List.{[], _∷_}
-use Prim.Native.Nat.{_-_, _*_, _/_, _%_, _^_, _≤_}
+use Prim.Native.Nat.{_-_, _≤_}
 use native.Mathlib.Omega.{arith}
 use Rattle.counting.specs.Counting.{joined}
 use Rattle.counting.proofs.Joins.{joined-more}

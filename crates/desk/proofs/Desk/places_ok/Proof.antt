@@ -1,9 +1,8 @@
 -- `desk::Desk::places_ok` meets its contract: each place that was passed is right.
 use mathlib.Core.Path.{_≡_, refl, sym, _∙_}
-use mathlib.Core.Bool.{true, false}
+use mathlib.Core.Bool.{true}
 use Prim.Native.Nat.{_≤_, _-_}
 use native.Mathlib.Omega.{arith}
-use borrow.Author.Needs.{needs}
 use borrow.Author.Tests.{not-true, not-false}
 use Rattle.counting.specs.Counting.{every}
 use Rattle.desk.specs.declared.Desk.{Desk}
