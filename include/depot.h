@@ -77,7 +77,7 @@ enum depot_refusal {
 #define DEPOT_MOST_CONTROLLERS 8
 #define DEPOT_MOST_LIMIT 4096 /* of a feeder, in modules */
 
-#define DEPOT_PLAN_STACK 53248
+#define DEPOT_PLAN_STACK 40960
 #define DEPOT_CALL_STACK 2048
 
 /* ---- planning ---------------------------------------------------------------------------------------------------------------- */

@@ -29,6 +29,10 @@ or-ends minutes at jobs j r l h = go (less-or-not r (getD at j 0 + getD minutes 
 
 -- ---- those that start early
 
+pub or-true : (x : Bool) {y : Bool} → y ≡ true → (x || y) ≡ true
+or-true true e = refl
+or-true false e = e
+
 -- r has those of them that are not still to come
 pub record Sifting (at : List ℕ) (end set jobs r rest : ℕ) : Type 0 where
   pub walk : Walk set jobs rest
@@ -45,10 +49,6 @@ module _ (at : List ℕ) (end set jobs : ℕ) where
       kept : (k : ℕ) (t : Bool) → bit r k ≡ true → bit (cond t (withBit r j) r) k ≡ true
       kept k false b = b
       kept k true b = bit-with r j k ∙ or-true (eqb k j) b
-        where
-          or-true : (x : Bool) {y : Bool} → y ≡ true → (x || y) ≡ true
-          or-true true e = refl
-          or-true false e = e
 
       go : (k : ℕ) → k < jobs → bit set k ≡ true → getD at k 0 < end → (k ≡ j) ⊎ (bit rest k ≡ false)
           → bit (cond (ltb (getD at j 0) end) (withBit r j) r) k ≡ true

@@ -28,10 +28,35 @@ abbrev pub Swapped : List ℕ → List ℕ → List ℕ → ℕ → ℕ → ℕ 
 Swapped related ends by unplaced start jobs j = (i : ℕ) × (i < jobs) × (bit (rowAt related j .turning) i ≡ true)
     × ((getD ends i 0 ≡ start) × ((bit unplaced i ≡ false) × (bit (getD by i 0) j ≡ true)))
 
--- a job that is alike was tried, or j was settled at the last start, where it would start, or it is swapped
-abbrev pub PassedOver : List ℕ → List ℕ → List ℕ → ℕ → ℕ → ℕ → ℕ → ℕ → ℕ → ℕ → Type 0
-PassedOver related ends by same unplaced tried last start jobs j =
-    AlikeTried related tried j ⊎ (((start ≡ last) × (bit same j ≡ true)) ⊎ Swapped related ends by unplaced start jobs j)
+-- r has the jobs that some job of the set waits for
+abbrev pub AllAwaited : List ℕ → ℕ → ℕ → ℕ → Type 0
+AllAwaited earlier set jobs r = (x : ℕ) → x < jobs → bit set x ≡ true → (k : ℕ) → bit (getD earlier x 0) k ≡ true → bit r k ≡ true
+
+-- of the first m placed jobs those from the `at`-th on are a block: what was placed before it has ended when it begins, job j was settled
+-- when its first job was chosen, and none of the awaited jobs is in it
+pub record BlockFrom (minutes ends order by : List ℕ) (awaited m j at : ℕ) : Type 0 where
+  pub inside : at < m
+  pub before : (k : ℕ) → k < at → getD ends (getD order k 0) 0 + getD minutes (getD order at 0) 0 ≤ getD ends (getD order at 0) 0
+  pub settled : bit (getD by (getD order at 0) 0) j ≡ true
+  pub unawaited : (k : ℕ) → at ≤ k → k < m → bit awaited (getD order k 0) ≡ false
+
+-- the last of the placed jobs are such a block, and all have ended by minute `start`
+pub record EndsInBlock (minutes ends order by : List ℕ) (awaited placed start j : ℕ) : Type 0 where
+  pub at : ℕ
+  pub block : BlockFrom minutes ends order by awaited placed j at
+  pub ended : (k : ℕ) → k < placed → getD ends (getD order k 0) 0 ≤ start
+
+-- the same where job j would start, and the awaited jobs are those for which some unplaced job waits
+abbrev pub Blocked : List ℕ → List ℕ → List ℕ → List ℕ → List ℕ → ℕ → ℕ → ℕ → ℕ → ℕ → Type 0
+Blocked earlier minutes ends order by unplaced placed start jobs j =
+    (awaited : ℕ) × AllAwaited earlier unplaced jobs awaited × EndsInBlock minutes ends order by awaited placed start j
+
+-- a job that is alike was tried, or j was settled at the last start, where it would start, or it is swapped, or it is behind a block
+abbrev pub PassedOver : List ℕ → List ℕ → List ℕ → List ℕ → List ℕ → List ℕ → ℕ → ℕ → ℕ → ℕ → ℕ → ℕ → ℕ → ℕ → Type 0
+PassedOver related minutes earlier ends order by same unplaced placed tried last start jobs j =
+    AlikeTried related tried j
+    ⊎ (((start ≡ last) × (bit same j ≡ true))
+    ⊎ (Swapped related ends by unplaced start jobs j ⊎ Blocked earlier minutes ends order by unplaced placed start jobs j))
 
 -- ---- the jobs to be tried
 

@@ -1,11 +1,12 @@
 // Which of the jobs that may come next need not be tried, and which are to be tried.
 ghost use mathlib.Core.Path.{_≡_};
+ghost use mathlib.Core.Logic.{_⊎_};
 ghost use mathlib.Core.Bool.{true, false, cond};
-ghost use Prim.Native.Nat.{_+_, _<_, _≤_, min};
+ghost use Prim.Native.Nat.{ℕ, _+_, _<_, _≤_, min};
 ghost use lib.Dec.{ltb};
 ghost use lib.ListN.{getD};
 ghost use Rattle.bits.specs.Bits.{bit, withBit};
-ghost use Rattle.branching.specs.Branching.{settledNow, AlikeTried, Swapped, PassedOver};
+ghost use Rattle.branching.specs.Branching.{settledNow, AlikeTried, Swapped, AllAwaited, EndsInBlock, Blocked, PassedOver};
 ghost use Rattle.branching.specs.Branching.{Alone, ToTry, Trying, EndOfOne, AllEarly};
 
 // ---- jobs that were settled
@@ -45,10 +46,10 @@ fn starts_behind(end: u16, by: u32, unplaced: u32, start: u16, i: usize, j: usiz
 }
 
 // Whether job j would start behind a placed job that may turn round with it and in whose place it was settled.
-fn swapped<'a>(
+fn swapped(
     related: &[u32; 60],
-    ends: &'a [u16; 20],
-    by: &'a [u32; 20],
+    ends: &[u16; 20],
+    by: &[u32; 20],
     unplaced: u32,
     start: u16,
     jobs: usize,
@@ -68,22 +69,120 @@ fn swapped<'a>(
     false
 }
 
+// The jobs that some job of the set waits for.
+fn awaited(earlier: &[u32; 20], set: u32, jobs: usize) -> u32
+    requires { ⌜ jobs ≤ 20 ⌝ }
+    ensures { λ r. ⌜ AllAwaited (now (earlier .entry)) set jobs r ⌝ }
+{
+    let mut r: u32 = 0;
+    let mut rest = bits::below32(set, jobs);
+    while rest != 0 {
+        let x = bits::lowest32(rest);
+        r = r | earlier[x];
+        rest = bits::without_lowest32(rest);
+    }
+    r
+}
+
+// Whether a block goes on with a job, or begins with it: it is not awaited, and for a first job all others have ended by its start and it
+// was chosen when another was settled.
+fn block_with(found: bool, waited: bool, settled: bool, latest: u16, end: u16, minutes: u16) -> bool
+    ensures { λ r. ⌜ (r ≡ true
+        → (waited ≡ false) × ((found ≡ true) ⊎ ((settled ≡ true) × (latest + minutes ≤ end)))) ⌝ }
+{
+    if waited {
+        return false;
+    }
+    if found {
+        return true;
+    }
+    if !settled {
+        return false;
+    }
+    (latest as u32) + (minutes as u32) <= (end as u32)
+}
+
+// Whether the last of the placed jobs are a block, and all have ended by minute `start`.
+fn ends_in_block<'a>(
+    minutes: &[u16; 20],
+    ends: &'a [u16; 20],
+    order: &'a [u8; 20],
+    by: &[u32; 20],
+    set: u32,
+    placed: usize,
+    start: u16,
+    j: usize,
+) -> bool
+    requires { ⌜ ((placed ≤ 20) × (j < 20)) × ((k : ℕ) → k < placed → getD (now order) k 0 < 20) ⌝ }
+    ensures { λ r. ⌜ (r ≡ true → EndsInBlock (now (minutes .entry)) (now (ends .entry)) (now (order .entry)) (now (by .entry)) set placed
+        start j) ⌝ }
+{
+    let mut found = false;
+    let mut latest: u16 = 0;
+    let mut m: usize = 0;
+    while m < placed {
+        let a = order[m] as usize;
+        let waited = bits::test32(set, a);
+        let settled = bits::test32(by[a], j);
+        found = block_with(found, waited, settled, latest, ends[a], minutes[a]);
+        latest = placement::later(latest, ends[a]);
+        m += 1;
+    }
+    if !found {
+        return false;
+    }
+    latest <= start
+}
+
+// Whether job j, which would start at `start`, would come behind a block at whose beginning it was settled.
+fn blocked<'a>(
+    minutes: &[u16; 20],
+    earlier: &[u32; 20],
+    ends: &'a [u16; 20],
+    until: &'a [u16; 20],
+    order: &'a [u8; 20],
+    by: &[u32; 20],
+    unplaced: u32,
+    placed: usize,
+    start: u16,
+    jobs: usize,
+    j: usize,
+) -> bool
+    requires { ⌜ ((jobs ≤ 20) × ((placed ≤ 20) × (j < 20))) × ((k : ℕ) → k < placed → getD (now order) k 0 < 20) ⌝ }
+    ensures { λ r. ⌜ (r ≡ true → Blocked (now (earlier .entry)) (now (minutes .entry)) (now (ends .entry)) (now (order .entry))
+        (now (by .entry)) unplaced placed start jobs j) ⌝ }
+{
+    if placed == 0 {
+        return false;
+    }
+    if start < until[placed - 1] {
+        return false;
+    }
+    let set = awaited(earlier, unplaced, jobs);
+    ends_in_block(minutes, ends, order, by, set, placed, start, j)
+}
+
 // Whether job j, which would start at `start`, need not be tried.
 pub fn passed_over<'a>(
     related: &[u32; 60],
+    minutes: &[u16; 20],
+    earlier: &[u32; 20],
     ends: &'a [u16; 20],
-    by: &'a [u32; 20],
+    until: &'a [u16; 20],
+    order: &'a [u8; 20],
+    by: &[u32; 20],
     same: u32,
     unplaced: u32,
+    placed: usize,
     tried: u32,
     last: u16,
     start: u16,
     jobs: usize,
     j: usize,
 ) -> bool
-    requires { ⌜ (jobs ≤ 20) × (j < 20) ⌝ }
-    ensures { λ r. ⌜ (r ≡ true → PassedOver (now (related .entry)) (now (ends .entry)) (now (by .entry)) same unplaced tried last start
-        jobs j) ⌝ }
+    requires { ⌜ ((jobs ≤ 20) × ((placed ≤ 20) × (j < 20))) × ((k : ℕ) → k < placed → getD (now order) k 0 < 20) ⌝ }
+    ensures { λ r. ⌜ (r ≡ true → PassedOver (now (related .entry)) (now (minutes .entry)) (now (earlier .entry)) (now (ends .entry))
+        (now (order .entry)) (now (by .entry)) same unplaced placed tried last start jobs j) ⌝ }
 {
     if alike_tried(related, tried, j) {
         return true;
@@ -93,7 +192,22 @@ pub fn passed_over<'a>(
             return true;
         }
     }
-    swapped(related, ends, by, unplaced, start, jobs, j)
+    if swapped(related, ends, by, unplaced, start, jobs, j) {
+        return true;
+    }
+    blocked(
+        minutes,
+        earlier,
+        ends,
+        until,
+        order,
+        by,
+        unplaced,
+        placed,
+        start,
+        jobs,
+        j,
+    )
 }
 
 // ---- the jobs to be tried

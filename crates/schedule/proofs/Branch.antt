@@ -2,11 +2,12 @@
 use mathlib.Core.Path.{_≡_, refl, sym, ap, ap₂, _∙_}
 use mathlib.Core.Logic.{_⊎_, inl, inr}
 use mathlib.Core.Bool.{Bool, true, false}
-use mathlib.Core.List.{List, [], _∷_, _++_}
-use Prim.Native.Nat.{ℕ, _+_, _≤_}
+use mathlib.Core.List.{List, [], _∷_, _++_, append-assoc}
+use Prim.Native.Nat.{ℕ, zero, suc, _+_, _≤_, _<_}
 use native.Mathlib.Omega.{arith}
 use lib.Dec.{eqb}
-use lib.ListN.{length, length-append}
+use lib.ListN.{length, getD, length-append}
+use lib.Seq.{getD-append-seam, getD-append-add}
 use borrow.Author.Tests.{eqb-true, eq-eqb}
 use Rattle.counting.proofs.Tests.{clash}
 use Rattle.schedule.specs.Plan.{Sheet, Narrow}
@@ -99,6 +100,47 @@ placed-splits S v i b = go (placed-within S emptyPart v i b)
         → (u : List ℕ) × (q : List ℕ) × (v ≡ u ++ (i ∷ q))
     go (inl p) = clash false p refl
     go (inr r) = r
+
+-- what stands at a place of an order, and what stands around it
+pub place-splits : (v : List ℕ) (t : ℕ) → t < length v → (u : List ℕ) × (q : List ℕ) × (v ≡ u ++ (getD v t 0 ∷ q)) × (length u ≡ t)
+place-splits [] t l = absurd (omega arith)
+place-splits (a ∷ v) zero l = ([], v, refl, refl)
+place-splits (a ∷ v) (suc t) l =
+    let z = place-splits v t (omega arith) in
+    (a ∷ z .0, z .1, ap (λ (x : List ℕ). a ∷ x) (z .2), ap suc (z .3))
+
+-- is a job of the sheet
+pub place-within : (S : Sheet) (d : ℕ → Bool) (v : List ℕ) → Follows S d v → (t : ℕ) → t < length v → getD v t 0 < S .jobs
+place-within S d [] f t l = absurd (omega arith)
+place-within S d (j ∷ v) f zero l = ready-says S d j (f .0) .job
+place-within S d (j ∷ v) f (suc t) l = place-within S _ v (f .1) t (omega arith)
+
+-- the place of a job that u has placed
+pub place-in : (S : Sheet) (u p : List ℕ) (k : ℕ) → partOf S u .placed k ≡ true → (t : ℕ) × (t < length u) × (getD (u ++ p) t 0 ≡ k)
+place-in S u p k h =
+    let z = placed-splits S u k h in (
+      length (z .0),
+      omega (arith, ap length (z .2), length-append (z .0) (k ∷ z .1)),
+      ap (λ (x : List ℕ). getD (x ++ p) (length (z .0)) 0) (z .2)
+          ∙ ap (λ (x : List ℕ). getD x (length (z .0)) 0) (append-assoc (z .0) (k ∷ z .1) p)
+          ∙ getD-append-seam (z .0) k (z .1 ++ p) 0,
+    )
+
+-- and of one that was placed behind u
+pub place-behind : (S : Sheet) (u p : List ℕ) (k : ℕ) → partOf S u .placed k ≡ false → partOf S (u ++ p) .placed k ≡ true
+    → (t : ℕ) × (length u ≤ t) × (t < length (u ++ p)) × (getD (u ++ p) t 0 ≡ k)
+place-behind S u p k new h =
+    go (placed-within S (partOf S u) p k (sym (ap (λ (X : PartPlan). X .placed k) (place-all-append S emptyPart u p)) ∙ h))
+  where
+    go : (partOf S u .placed k ≡ true) ⊎ ((v : List ℕ) × (q : List ℕ) × (p ≡ v ++ (k ∷ q)))
+        → (t : ℕ) × (length u ≤ t) × (t < length (u ++ p)) × (getD (u ++ p) t 0 ≡ k)
+    go (inl e) = clash (partOf S u .placed k) e new
+    go (inr (v, q, e)) = (
+      length u + length v,
+      omega arith,
+      omega (arith, length-append u p, ap length e, length-append v (k ∷ q)),
+      getD-append-add u p (length v) 0 ∙ ap (λ (x : List ℕ). getD x (length v) 0) e ∙ getD-append-seam v k q 0,
+    )
 
 -- where a longer list is split, the last one is the place or stands behind it
 pub split-last : (w : List ℕ) (j : ℕ) (u : List ℕ) (i : ℕ) (q : List ℕ) → w ++ (j ∷ []) ≡ u ++ (i ∷ q)

@@ -23,6 +23,7 @@ pub mod Alone
 pub mod Exchange
 pub mod Alike
 pub mod Swaps
+pub mod Blocks
 pub mod Weights
 pub mod Lanes
 pub mod Filling

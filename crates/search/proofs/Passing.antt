@@ -1,28 +1,30 @@
 -- Next jobs that are passed over, and what is settled when one is chosen.
 use mathlib.Core.Path.{_≡_, refl, sym, ap, _∙_, subst}
 use mathlib.Core.Logic.{_⊎_, inl, inr}
-use mathlib.Core.Bool.{Bool, true, false, cond, _||_}
-use mathlib.Core.List.{List, [], _∷_, _++_, append-assoc}
-use Prim.Native.Nat.{ℕ, suc, _+_, _<_}
+use mathlib.Core.Bool.{Bool, true, false, cond, not, _||_}
+use mathlib.Core.List.{List, [], _∷_, _++_, append-nil, append-assoc}
+use Prim.Native.Nat.{ℕ, suc, _+_, _≤_, _<_, zero-le}
 use native.Mathlib.Omega.{arith}
 use lib.Dec.{eqb}
 use lib.Bits.{bitOr}
 use lib.Count.{ones}
-use lib.ListN.{getD, set, length-set}
-use lib.Seq.{getD-set-same, getD-set-other}
+use lib.ListN.{length, getD, set, length-set}
+use lib.Seq.{getD-set-same, getD-set-other, getD-take}
 use borrow.Author.Tests.{eqb-true, eq-eqb, ne-eqb, not-false}
 use Rattle.counting.specs.Counting.{only}
-use Rattle.counting.proofs.Tests.{clash, same-or-not}
+use Rattle.counting.proofs.Tests.{true-or-false, clash, same-or-not}
 use Rattle.bits.specs.Bits.{bit}
 use Rattle.bits.proofs.Digits.{bit-or}
 use Rattle.schedule.specs.Plan.{Sheet, finish, Narrow, Lasting}
 use Rattle.schedule.specs.ListPlan.{PartPlan, noJobs, ready, Follows, startOf, partOf}
 use Rattle.schedule.proofs.Starts.{ready-says}
 use Rattle.schedule.proofs.Prefixes.{part-more}
-use Rattle.schedule.proofs.Branch.{branch-placed, branch-start, placed-splits, split-last}
+use Rattle.schedule.proofs.Branch.{branch-placed, branch-start, branch-kept, placed-splits, split-last}
+use Rattle.schedule.proofs.Branch.{place-splits, place-within, place-in, place-behind}
 use Rattle.schedule.proofs.SameMinute.{same-minute-cut}
 use Rattle.schedule.proofs.Alike.{alike-cut}
 use Rattle.schedule.proofs.Swaps.{swap-cut}
+use Rattle.schedule.proofs.Blocks.{Block, block-cut}
 use Rattle.tables.specs.Tables.{sheetOf}
 use Rattle.placement.specs.declared.Part.{Part}
 use Rattle.placement.specs.Part.{wordOf, Placeable, Placed}
@@ -30,8 +32,9 @@ use Rattle.relations.specs.Relations.{Alike, Turning}
 use Rattle.candidates.specs.Candidates.{JobStart, EachStart}
 use Rattle.candidates.proofs.Starting.{started}
 use Rattle.candidates.proofs.Children.{child-placeable, child-fewer, child-known, child-word}
-use Rattle.branching.specs.Branching.{settledNow, PassedOver}
+use Rattle.branching.specs.Branching.{settledNow, AllAwaited, EndsInBlock, PassedOver}
 use Rattle.search.specs.Search.{Fails, SettledAt, SameStart, SettledSo, Searching, TriedSo, Choosing}
+use Rattle.search.proofs.Placings.{word-length}
 
 module _ {need minutes earlier related tails worth most lanes : List ℕ} {jobs modules : ℕ} {part : Part} {by : List ℕ} {same target : ℕ}
     {memory at : List ℕ} {tried job : ℕ}
@@ -93,6 +96,9 @@ module _ {need minutes earlier related tails worth most lanes : List ℕ} {jobs 
 
   -- ---- a placed job
 
+  end-of : (k : ℕ) → k < jobs → P .placed k ≡ true → getD (part .ends) k 0 ≡ finish S (P .plan) k
+  end-of k m p = s .going .known .is .figures .ends k m ∙ ap (λ (x : Bool). only x (finish S (P .plan) k)) p
+
   -- one that starts in the same minute, of any word with it
   in-its-minute : (u : List ℕ) (i : ℕ) (q x : List ℕ) → x ≡ u ++ (i ∷ q) → Follows S noJobs x → SettledAt S target u i job
       → startOf S (partOf S x) job ≡ partOf S x .plan .start i → Fails S target (x ++ (job ∷ []))
@@ -122,18 +128,129 @@ module _ {need minutes earlier related tails worth most lanes : List ℕ} {jobs 
       placed : P .placed i ≡ true
       placed = not-false (P .placed i) (sym (s .going .known .is .figures .set i m) ∙ p)
 
-      end : getD (part .ends) i 0 ≡ finish S (P .plan) i
-      end = s .going .known .is .figures .ends i m ∙ ap (λ (x : Bool). only x (finish S (P .plan) i)) placed
-
       go : (u : List ℕ) × (q : List ℕ) × (w ≡ u ++ (i ∷ q)) → Fails S target (w ++ (job ∷ []))
       go (u, q, z) = behind u i q w z follows (s .settled .each u i q job z l b) (ready-says S (P .placed) job may-follow .new) t
-          (omega (arith, e, end, starts-at job l low))
+          (omega (arith, e, end-of i m placed, starts-at job l low))
 
-  pub passed-cut : PassedOver related (part .ends) by same (part .unplaced) tried (part .last) (getD at job 0) jobs job
+  -- a block
+
+  size : length w ≡ part .placed
+  size = word-length (s .going .known)
+
+  at-place : (t : ℕ) → t < part .placed → getD w t 0 ≡ getD (part .order) t 0
+  at-place t = getD-take (part .placed) (part .order) t 0
+
+  -- the placed jobs are numbers of jobs
+  pub placed-jobs : (t : ℕ) → t < part .placed → getD (part .order) t 0 < 20
+  placed-jobs t m =
+      omega (arith, at-place t m, place-within S noJobs w follows t (omega (arith, size)), s .going .known .fit .few)
+
+  behind-block : (u : List ℕ) (i : ℕ) (q x : List ℕ) → x ≡ u ++ (i ∷ q) → Follows S noJobs x → SettledAt S target u i job
+      → Block S u i x job → Fails S target (x ++ (job ∷ []))
+  behind-block u i q x e = subst (λ (x : List ℕ). Follows S noJobs x → SettledAt S target u i job → Block S u i x job
+      → Fails S target (x ++ (job ∷ []))) (sym e)
+      (λ f a k. block-cut S lasting narrow u i q f job (a .may-come) k (suc target) (a .fails))
+
+  module _ (awaited : ℕ) (all : AllAwaited earlier (part .unplaced) jobs awaited)
+      (b : EndsInBlock minutes (part .ends) (part .order) by awaited (part .placed) (getD at job 0) job) where
+    abbrev m : ℕ
+    m = b .at
+
+    inside : m < length w
+    inside = omega (arith, b .block .inside, size)
+
+    abbrev i : ℕ
+    i = getD w m 0
+
+    i-is : i ≡ getD (part .order) m 0
+    i-is = at-place m (b .block .inside)
+
+    parts : (u : List ℕ) × (q : List ℕ) × (w ≡ u ++ (i ∷ q)) × (length u ≡ m)
+    parts = place-splits w m inside
+
+    abbrev u : List ℕ
+    u = parts .0
+
+    abbrev q : List ℕ
+    q = parts .1
+
+    word : w ≡ u ++ (i ∷ q)
+    word = parts .2
+
+    onward : Follows S noJobs (u ++ (i ∷ q))
+    onward = subst (λ (v : List ℕ). Follows S noJobs v) word follows
+
+    settled-at : SettledAt S target u i job
+    settled-at = s .settled .each u i q job word l (rw i-is (b .block .settled))
+
+    i-in : i < jobs
+    i-in = place-within S noJobs w follows m inside
+
+    i-placed : P .placed i ≡ true
+    i-placed = subst (λ (v : List ℕ). partOf S v .placed i ≡ true) (sym word) (branch-placed S narrow u i q onward)
+
+    i-starts : P .plan .start i ≡ startOf S (partOf S u) i
+    i-starts = subst (λ (v : List ℕ). partOf S v .plan .start i ≡ startOf S (partOf S u) i) (sym word) (branch-start S narrow u i q onward)
+
+    kept : (k : ℕ) → partOf S u .placed k ≡ true → P .placed k ≡ true
+    kept k p = subst (λ (v : List ℕ). partOf S v .placed k ≡ true) (sym word) (branch-kept S narrow u i q onward k p .0)
+
+    before-it : (k : ℕ) → k < jobs → partOf S u .placed k ≡ true → finish S (P .plan) k + 0 ≤ P .plan .start i
+    before-it k x p =
+        let z = place-in S u (i ∷ q) k p in
+        let small : z .0 < m = omega (arith, z .1, parts .3) in
+        let is : getD (part .order) (z .0) 0 ≡ k =
+        sym (at-place (z .0) (omega (arith, b .block .inside))) ∙ ap (λ (v : List ℕ). getD v (z .0) 0) word ∙ z .2 in
+        let e = rw (is, sym i-is) at (b .block .before (z .0) small) in
+        omega (arith, e, end-of k x (kept k p), end-of i i-in i-placed)
+
+    all-ended : (k : ℕ) → k < jobs → P .placed k ≡ true → finish S (P .plan) k + 0 ≤ startOf S P job
+    all-ended k x p =
+        let z = place-in S w [] k p in
+        let small : z .0 < part .placed = omega (arith, z .1, size) in
+        let is : getD (part .order) (z .0) 0 ≡ k =
+        sym (at-place (z .0) small) ∙ ap (λ (v : List ℕ). getD v (z .0) 0) (sym (append-nil w)) ∙ z .2 in
+        let e = rw is at (b .ended (z .0) small) in
+        omega (arith, e, end-of k x p, starts-at job l low)
+
+    not-awaited : (k x : ℕ) → k < jobs → x < jobs → partOf S u .placed k ≡ false → P .placed k ≡ true → P .placed x ≡ false
+        → bit (getD earlier x 0) k ≡ false
+    not-awaited k x y v new p left = go (true-or-false (bit (getD earlier x 0) k))
+      where
+        z : (t : ℕ) × (length u ≤ t) × (t < length (u ++ (i ∷ q))) × (getD (u ++ (i ∷ q)) t 0 ≡ k)
+        z = place-behind S u (i ∷ q) k new (subst (λ (v : List ℕ). partOf S v .placed k ≡ true) word p)
+
+        small : z .0 < part .placed
+        small = omega (arith, z .2, ap length word, size)
+
+        is : getD (part .order) (z .0) 0 ≡ k
+        is = sym (at-place (z .0) small) ∙ ap (λ (v : List ℕ). getD v (z .0) 0) word ∙ z .3
+
+        free : bit awaited k ≡ false
+        free = rw is at (b .block .unawaited (z .0) (omega (arith, z .1, parts .3)) small)
+
+        go : (bit (getD earlier x 0) k ≡ true) ⊎ (bit (getD earlier x 0) k ≡ false) → bit (getD earlier x 0) k ≡ false
+        go (inr e) = e
+        go (inl e) = clash (bit awaited k) (all x v (s .going .known .is .figures .set x v ∙ ap not left) k e) free
+
+    blocked : Fails S target (w ++ (job ∷ []))
+    blocked = behind-block u i q w word follows settled-at (record {
+      new = ready-says S (P .placed) job may-follow .new;
+      within = i-in;
+      soon = omega (arith, settled-at .soon, i-starts);
+      before = before-it;
+      ended = all-ended;
+      unawaited = not-awaited;
+      here = λ k x p. zero-le;
+    })
+
+  pub passed-cut : PassedOver related minutes earlier (part .ends) (part .order) by same (part .unplaced) (part .placed) tried (part .last)
+      (getD at job 0) jobs job
       → Fails S target (w ++ (job ∷ []))
   passed-cut (inl (i, t, b)) = let pair = s .going .tabled .related-is job l .alike i b in come-first i (pair .0) t (pair .1)
   passed-cut (inr (inl (z, b))) = same-minute (sym z) (s .settled .same-start job l b)
-  passed-cut (inr (inr (i, m, b, (e, (p, x))))) = swapped i m (s .going .tabled .related-is job l .turning i b .1) e p x
+  passed-cut (inr (inr (inl (i, m, b, (e, (p, x)))))) = swapped i m (s .going .tabled .related-is job l .turning i b .1) e p x
+  passed-cut (inr (inr (inr (awaited, all, b)))) = blocked awaited all b
 
   -- ---- one job more
 

@@ -199,10 +199,15 @@ fn try_children<'a>(
     let start = at[job];
     if branching::passed_over(
         related,
+        minutes,
+        earlier,
         ends,
+        until,
+        order,
         settled,
         same,
         unplaced,
+        placed,
         tried,
         last,
         start,

@@ -6,22 +6,40 @@ use Rattle.branching.proofs.passed_over.Statement.{statement}
 use Rattle.branching.proofs.passed_over.Tie as tie
 
 alike-tried-requires : tie.Need-alike-tried-requires
-alike-tried-requires c κs = c .pre .1
+alike-tried-requires c κs = c .pre .0 .1 .1
 
 returns : tie.Need-returns
 returns c = λ e. inl (c .before .alike-tried .ensures (c .if1 .taken))
 
 test32-requires : tie.Need-test32-requires
-test32-requires c κs = omega (arith, c .before .before .before .pre .1)
+test32-requires c κs = omega (arith, c .before .before .before .pre .0 .1 .1)
 
 returns-2 : tie.Need-returns-2
 returns-2 c = λ e. inr (inl (c .before .before .if2 .taken, sym (c .before .test32 .ensures) ∙ c .if3 .taken))
 
 swapped-requires : tie.Need-swapped-requires
-swapped-requires c κs = c .before .before .before .pre
+swapped-requires c κs =
+    let pre = c .before .before .before .pre .0 in
+    (pre .0, pre .1 .1)
 
 returns-3 : tie.Need-returns-3
-returns-3 c = λ e. inr (inr (c .swapped .ensures e))
+returns-3 c = λ e. inr (inr (inl (c .before .swapped .ensures (c .if4 .taken))))
+
+blocked-requires : tie.Need-blocked-requires
+blocked-requires c κs = c .before .before .before .before .before .pre
+
+returns-4 : tie.Need-returns-4
+returns-4 c = λ e. inr (inr (inr (c .blocked .ensures e)))
 
 pub passed-over-spec : {M : Type 1} → statement M
-passed-over-spec = tie.close (tie.spec alike-tried-requires returns test32-requires returns-2 swapped-requires returns-3)
+passed-over-spec =
+    tie.close
+    (tie.spec
+    alike-tried-requires
+    returns
+    test32-requires
+    returns-2
+    swapped-requires
+    returns-3
+    blocked-requires
+    returns-4)

@@ -12,7 +12,7 @@ use Rattle.bounds.proofs.Cuts.{bounding, hopeless-cut}
 use Rattle.search.specs.Search.{SettledSo, Remembered}
 use Rattle.search.proofs.Turns.{visit-leaf, recall-cut, visit-all, visit-remember}
 use Rattle.relations.proofs.Steps.{one-less}
-use Rattle.search.proofs.Passing.{passed-cut, choice-placeable, choice-fewer, choice-word, choice-searching, settled-less}
+use Rattle.search.proofs.Passing.{placed-jobs, passed-cut, choice-placeable, choice-fewer, choice-word, choice-searching, settled-less}
 use Rattle.search.proofs.Sweeps.{none-outcome, found-below, Sweep, sweep-first, chosen-in, chosen-low, sweep-next, sweep-all, all-tried, trying}
 use borrow.Fn.Kinds.{In}
 use borrow.Fn.PlainCycle.{Measures, is, falls, and}
@@ -118,7 +118,8 @@ try-children-passed-over-requires : (t : ℕ)
     → try-children-lts.Need-passed-over-requires (try-children-claims t) (try-children-at t) try-children.Post
 try-children-passed-over-requires t c κs =
     let p = c .before .before .before .pre .1 in
-    (p .0 .going .known .fit .few, omega (arith, p .1 .inside, p .0 .going .known .fit .few))
+    let known = p .0 .going .known in
+    ((known .fit .few, (known .is .figures .profile .few, omega (arith, p .1 .inside, known .fit .few))), placed-jobs (p .0) (p .1))
 
 try-children-none-found-requires : (t : ℕ)
     → try-children-lts.Need-none-found-requires (try-children-claims t) (try-children-at t) try-children.Post
