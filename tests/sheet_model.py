@@ -120,7 +120,8 @@ use mathlib.Core.Path.{_≡_, refl}
 use mathlib.Core.List.{List, [], _∷_}
 use Rattle.counting.specs.Counting.{sum, any, joined}
 use Rattle.checking.specs.Checking.{firstFailing}
-use Rattle.sheet_format.specs.Format.{u16At, u32At, recordAt, places}
+use Rattle.words.specs.Words.{u16At, u32At}
+use Rattle.sheet_format.specs.Format.{recordAt, places}
 use Rattle.sheet_format.specs.Checks.{outside, faulty}
 use Rattle.sheet.specs.Read.{reading}
 use Rattle.sheet.specs.Label.{labelOf}
