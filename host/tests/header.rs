@@ -176,13 +176,14 @@ fn structs_agree() {
 #[test]
 fn numbers_agree() {
     let macros = macros();
-    let (figures, desk) = (source("crates/sheet_format/src/figures.rt"), source("crates/desk/src/lib.rt"));
+    let (figures, layout) = (source("crates/figures/src/lib.rt"), source("crates/sheet_format/src/layout.rt"));
+    let desk = source("crates/desk/src/lib.rt");
     for (name, number) in [
         ("DEPOT_MOST_JOBS", constant(&figures, "MOST_JOBS")),
         ("DEPOT_MOST_MODULES", constant(&figures, "MOST_MODULES")),
-        ("DEPOT_LONGEST_LABEL", constant(&figures, "LONGEST_LABEL")),
-        ("DEPOT_SHORTEST_SHEET", constant(&figures, "TRAILER_SIZE")),
-        ("DEPOT_LONGEST_SHEET", constant(&figures, "LONGEST_SHEET")),
+        ("DEPOT_LONGEST_LABEL", constant(&layout, "LONGEST_LABEL")),
+        ("DEPOT_SHORTEST_SHEET", constant(&layout, "TRAILER_SIZE")),
+        ("DEPOT_LONGEST_SHEET", constant(&layout, "LONGEST_SHEET")),
         ("DEPOT_LONGEST_CARD", depot_host::card_length(depot_host::MOST_JOBS)),
         ("DEPOT_FEWEST_CONTROLLERS", constant(&desk, "FEWEST_CONTROLLERS")),
         ("DEPOT_MOST_CONTROLLERS", constant(&desk, "MOST_CONTROLLERS")),

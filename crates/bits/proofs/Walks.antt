@@ -74,9 +74,9 @@ common-member n a b l h =
 -- ---- the walk
 
 -- the members that are still to come, of those below n
-pub record Walk (set n rest : ℕ) : Type 0 where
-  pub below : (i : ℕ) → bit rest i ≡ true → i < n
-  pub inside : (i : ℕ) → bit rest i ≡ true → bit set i ≡ true
+pub record Walk (set n todo : ℕ) : Type 0 where
+  pub below : (i : ℕ) → bit todo i ≡ true → i < n
+  pub inside : (i : ℕ) → bit todo i ≡ true → bit set i ≡ true
 
 pub walk-first : (n set : ℕ) → Walk set n (setOf n (bit set))
 walk-first n set = record { below = λ i b. below i b (less-or-not i n); inside = λ i b. inside i b (less-or-not i n) }
@@ -93,19 +93,19 @@ walk-first n set = record { below = λ i b. below i b (less-or-not i n); inside 
 pub walk-none : (n set i : ℕ) → i < n → bit (setOf n (bit set)) i ≡ false → bit set i ≡ false
 walk-none n set i l b = sym (bit-setOf n (bit set) i l) ∙ b
 
-pub walk-next : {set n rest : ℕ} (j : ℕ) → Walk set n rest → Walk set n (withoutBit rest j)
-walk-next {set} {n} {rest} j h = record { below = λ i b. h .below i (still i b); inside = λ i b. h .inside i (still i b) }
+pub walk-next : {set n todo : ℕ} (j : ℕ) → Walk set n todo → Walk set n (withoutBit todo j)
+walk-next {set} {n} {todo} j h = record { below = λ i b. h .below i (still i b); inside = λ i b. h .inside i (still i b) }
   where
-    still : (i : ℕ) → bit (withoutBit rest j) i ≡ true → bit rest i ≡ true
-    still i b = and-left (bit rest i) _ (sym (bit-without rest j i) ∙ b)
+    still : (i : ℕ) → bit (withoutBit todo j) i ≡ true → bit todo i ≡ true
+    still i b = and-left (bit todo i) _ (sym (bit-without todo j i) ∙ b)
 
 -- what no longer comes: the member taken out, or one that had come before
-pub walk-gone : (rest j i : ℕ) → bit (withoutBit rest j) i ≡ false → (i ≡ j) ⊎ (bit rest i ≡ false)
-walk-gone rest j i b = go (eqb i j) refl
+pub walk-gone : (todo j i : ℕ) → bit (withoutBit todo j) i ≡ false → (i ≡ j) ⊎ (bit todo i ≡ false)
+walk-gone todo j i b = go (eqb i j) refl
   where
-    go : (e : Bool) → eqb i j ≡ e → (i ≡ j) ⊎ (bit rest i ≡ false)
+    go : (e : Bool) → eqb i j ≡ e → (i ≡ j) ⊎ (bit todo i ≡ false)
     go true e = inl (eqb-true i j e)
-    go false e = inr (sym (and-true (bit rest i)) ∙ rw e at (sym (bit-without rest j i) ∙ b))
+    go false e = inr (sym (and-true (bit todo i)) ∙ rw e at (sym (bit-without todo j i) ∙ b))
 
-pub walk-less : (rest j : ℕ) → bit rest j ≡ true → ones (withoutBit rest j) < ones rest
-walk-less rest j b = omega (arith, ones-without rest j b)
+pub walk-less : (todo j : ℕ) → bit todo j ≡ true → ones (withoutBit todo j) < ones todo
+walk-less todo j b = omega (arith, ones-without todo j b)

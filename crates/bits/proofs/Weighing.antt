@@ -23,9 +23,9 @@ sum-without n x j g l e =
     back : (k : ℕ) → bit x k ≡ (eqb k j || bit (withoutBit x j) k)
     back k = ap (λ (y : ℕ). bit y k) (sym (with-without x j e)) ∙ bit-with (withoutBit x j) j k
 
--- so far: the weight of those members below n that are no longer in `rest`
-pub record Weighed (set n : ℕ) (worth : ℕ → ℕ) (rest weight : ℕ) : Type 0 where
-  pub all : weight + sum n (λ k. only (bit rest k) (worth k)) ≡ sum n (λ k. only (bit set k) (worth k))
+-- so far: the weight of those members below n that are no longer in `todo`
+pub record Weighed (set n : ℕ) (worth : ℕ → ℕ) (todo weight : ℕ) : Type 0 where
+  pub all : weight + sum n (λ k. only (bit todo k) (worth k)) ≡ sum n (λ k. only (bit set k) (worth k))
 
 pub weighed-none : (set n : ℕ) (worth : ℕ → ℕ) (weight : ℕ) → weight ≡ 0 → Weighed set n worth (setOf n (bit set)) weight
 weighed-none set n worth weight l = record {
@@ -36,20 +36,20 @@ weighed-none set n worth weight l = record {
   );
 }
 
-pub weighed-all : {set n : ℕ} {worth : ℕ → ℕ} {rest weight : ℕ} → Weighed set n worth rest weight → rest ≡ 0
+pub weighed-all : {set n : ℕ} {worth : ℕ → ℕ} {todo weight : ℕ} → Weighed set n worth todo weight → todo ≡ 0
     → weight ≡ sum n (λ k. only (bit set k) (worth k))
-weighed-all {set} {n} {worth} {rest} {weight} h e =
-    let none : sum n (λ k. only (bit rest k) (worth k)) ≡ 0 =
+weighed-all {set} {n} {worth} {todo} {weight} h e =
+    let none : sum n (λ k. only (bit todo k) (worth k)) ≡ 0 =
     rw e (sum-same n (λ k. only (bit 0 k) (worth k)) (λ k. 0) (λ k m. ap (λ b. only b (worth k)) (bit-none k)) ∙ sum-zero n) in
     omega (arith, h .all)
 
-module _ {set n : ℕ} {worth : ℕ → ℕ} {rest weight : ℕ} (h : Weighed set n worth rest weight) (j : ℕ) (l : j < n)
-    (e : bit rest j ≡ true) where
-  pub weighed-more : Weighed set n worth (withoutBit rest j) (weight + worth j)
-  weighed-more = record { all = omega (arith, h .all, sum-without n rest j worth l e) }
+module _ {set n : ℕ} {worth : ℕ → ℕ} {todo weight : ℕ} (h : Weighed set n worth todo weight) (j : ℕ) (l : j < n)
+    (e : bit todo j ≡ true) where
+  pub weighed-more : Weighed set n worth (withoutBit todo j) (weight + worth j)
+  weighed-more = record { all = omega (arith, h .all, sum-without n todo j worth l e) }
 
   pub weighed-small : (b : ℕ) → ((k : ℕ) → k < n → worth k ≤ b) → weight + worth j ≤ n * b
   weighed-small b small =
       let whole : sum n (λ k. only (bit set k) (worth k)) ≤ n * b =
       sum-most n (λ k. only (bit set k) (worth k)) b (λ k m. le-trans (only-le (bit set k) (worth k)) (small k m)) in
-      omega (arith, h .all, sum-without n rest j worth l e)
+      omega (arith, h .all, sum-without n todo j worth l e)

@@ -15,29 +15,32 @@ use Rattle.schedule.specs.ListPlan.{PartPlan}
 use Rattle.schedule.proofs.Area.{work, todo}
 use Rattle.schedule.proofs.Places.{CannotBeat}
 use Rattle.schedule.proofs.Cuts.{area-cut, chain-cut}
-use Rattle.tables.specs.Tables.{sheetOf}
-use Rattle.placement.specs.declared.Part.{Part}
-use Rattle.placement.specs.Profile.{heldAfter}
-use Rattle.placement.specs.Part.{wordOf}
+use Rattle.tables.specs.Tables.{sheetOf, countOf, modulesOf}
+use Rattle.tables.specs.Part.{Part, wordOf}
+use Rattle.placement.specs.Profile.{heldSince}
 use Rattle.placement.proofs.Profiles.{profile-later}
 use Rattle.placement.proofs.Parts.{after-is, after-small, left-small, left-count}
+use Rattle.relations.specs.Relations.{ChainsOf}
 use Rattle.candidates.specs.Candidates.{Known, theoryPart, JobStarts}
 use Rattle.candidates.proofs.Starting.{started, none-before}
-use Rattle.bounds.specs.Bounds.{Tails, SomeTooLong, Hopeless, Bounding}
+use Rattle.bounds.specs.Bounds.{SomeTooLong, Hopeless, Bounding}
 use Rattle.bounds.proofs.Shortages.{short-cut}
 
-module _ {need minutes earlier : List ℕ} {jobs modules : ℕ} {part : Part} (known : Known need minutes earlier jobs modules part)
-    {at : List ℕ} {least : ℕ} (starts : JobStarts need minutes earlier jobs modules part at least) where
+module _ {t : List ℕ} {part : Part} (known : Known t part)
+    {at : List ℕ} {least : ℕ} (starts : JobStarts t part at least) where
   abbrev S : Sheet
-  S = sheetOf need minutes earlier jobs modules
+  S = sheetOf t
+
+  abbrev jobs : ℕ
+  jobs = countOf t
 
   abbrev w : List ℕ
   w = wordOf part
 
   abbrev P : PartPlan
-  P = theoryPart need minutes earlier jobs modules part
+  P = theoryPart t part
 
-  work-is : work S P least ≡ modules * least + (heldAfter (part .until) (part .held) (part .placed) least + part .left)
+  work-is : work S P least ≡ modulesOf t * least + (heldSince part least + part .left)
   unfolding work
   work-is =
       let F = known .is .figures in
@@ -46,7 +49,7 @@ module _ {need minutes earlier : List ℕ} {jobs modules : ℕ} {part : Part} (k
       (λ i l. one i (true-or-false (P .placed i))) in
       let split = sum-add jobs (λ i. only (P .placed i) (S .need i * (finish S (P .plan) i - least)))
       (λ i. only (not (P .placed i)) (S .need i * S .minutes i)) in
-      omega (arith, after-is need minutes earlier jobs modules (known .fit) part w (known .is) least, F .left)
+      omega (arith, after-is t (known .fit) part w (known .is) least, F .left)
     where
       one : (i : ℕ) → (P .placed i ≡ true) ⊎ (P .placed i ≡ false) → todo S P least i
           ≡ only (P .placed i) (S .need i * (finish S (P .plan) i - least)) + only (not (P .placed i)) (S .need i * S .minutes i)
@@ -54,8 +57,7 @@ module _ {need minutes earlier : List ℕ} {jobs modules : ℕ} {part : Part} (k
       one i (inr e) = rw e (omega arith)
 
   -- what the bounds need of the figures
-  pub bounding : {T : ℕ} → T < 65535
-      → Bounding (part .until) (part .held) (part .placed) (part .gone) (part .free) modules (part .left) least T
+  pub bounding : {T : ℕ} → T < 65535 → Bounding t part least T
   bounding low =
       let q = known .is .figures .profile in
       let from : part .last ≤ least = omega (arith, known .is .figures .last, starts .low) in
@@ -64,27 +66,27 @@ module _ {need minutes earlier : List ℕ} {jobs modules : ℕ} {part : Part} (k
           few = q .few;
           inside = q .inside;
           ended = λ k l. omega (arith, q .ended k l);
-          small = after-small need minutes earlier jobs modules (known .fit) part w (known .is) least;
+          small = after-small t (known .fit) part w (known .is) least;
         };
         profile = profile-later least from q;
-        little = left-small need minutes earlier jobs modules (known .fit) part w (known .is);
+        little = left-small t (known .fit) part w (known .is);
         low = low;
       }
 
   crowded-cut : (T : ℕ) → 0 < ones (part .unplaced)
-      → modules * T < modules * least + (heldAfter (part .until) (part .held) (part .placed) least + part .left) → CannotBeat S (suc T) w
+      → modulesOf t * T < modulesOf t * least + (heldSince part least + part .left) → CannotBeat S (suc T) w
   crowded-cut T pos h =
-      let size = left-count need minutes earlier jobs modules (known .fit) part w (known .is) in
+      let size = left-count t (known .fit) part w (known .is) in
       area-cut S (known .fit .narrow) w (known .is .follows) least T (starts .low)
       (none-before known starts) (omega arith) (omega (arith, work-is))
 
-  long-cut : (tails : List ℕ) (e : ℕ) → Tails S tails → SomeTooLong at tails jobs e → CannotBeat S e w
+  long-cut : (tails : List ℕ) (e : ℕ) → ChainsOf t tails jobs → SomeTooLong at tails jobs e → CannotBeat S e w
   long-cut tails e chains (j, l, k, h) =
       let r = started (starts .each j l) k in
-      chain-cut S (known .fit .narrow) w (known .is .follows) jobs j e r (omega (arith, chains j l, starts .each j l .here r))
+      chain-cut S (known .fit .narrow) w (known .is .follows) jobs j e r (omega (arith, chains .each j l, starts .each j l .here r))
 
-  pub hopeless-cut : (tails : List ℕ) (T : ℕ) → Tails S tails → 0 < ones (part .unplaced) → Hopeless need minutes tails (part .until) (part .held) jobs modules
-      (part .placed) (part .unplaced) (part .left) at least T → CannotBeat S (suc T) w
+  pub hopeless-cut : (tails : List ℕ) (T : ℕ) → ChainsOf t tails jobs → 0 < ones (part .unplaced) → Hopeless t tails part at least T
+      → CannotBeat S (suc T) w
   hopeless-cut tails T chains pos (inl h) = crowded-cut T pos h
   hopeless-cut tails T chains pos (inr (inl h)) = long-cut tails (suc T) chains (rw add-one at h)
   hopeless-cut tails T chains pos (inr (inr h)) = short-cut known starts T h

@@ -18,82 +18,86 @@ use Rattle.schedule.specs.ListPlan.{PartPlan, occupies, occupied}
 use Rattle.schedule.specs.Bounds.{mustRun, gain}
 use Rattle.schedule.proofs.Places.{CannotBeat}
 use Rattle.schedule.proofs.Bounds.{overlap-cut, weights-cut, reach-cut, modules-cut}
-use Rattle.tables.specs.Tables.{sheetOf}
-use Rattle.placement.specs.declared.Part.{Part}
-use Rattle.placement.specs.Profile.{heldAt}
-use Rattle.placement.specs.Part.{wordOf, Figures}
+use Rattle.tables.specs.Tables.{sheetOf, minutesAt, countOf, modulesOf}
+use Rattle.tables.specs.Part.{Part, wordOf}
+use Rattle.placement.specs.Profile.{heldOf}
+use Rattle.placement.specs.Part.{Figures}
 use Rattle.placement.proofs.Parts.{occupied-is}
 use Rattle.weights.specs.Weights.{Outweighed}
 use Rattle.overlaps.specs.Overlaps.{mustHold, Overlapping}
 use Rattle.lanes.specs.Lanes.{servedOn, Overfull}
-use Rattle.sums.specs.Sums.{together, Unserved}
+use Rattle.sums.specs.Sums.{together}
+use Rattle.sums.specs.Serving.{Unserved}
 use Rattle.candidates.specs.Candidates.{Known, theoryPart, JobStarts}
 use Rattle.candidates.proofs.Starting.{none-before}
 use Rattle.bounds.specs.Bounds.{TooFew}
 
-module _ {need minutes earlier : List ℕ} {jobs modules : ℕ} {part : Part} (known : Known need minutes earlier jobs modules part)
-    {at : List ℕ} {least : ℕ} (starts : JobStarts need minutes earlier jobs modules part at least) (T : ℕ) where
+module _ {t : List ℕ} {part : Part} (known : Known t part)
+    {at : List ℕ} {least : ℕ} (starts : JobStarts t part at least) (T : ℕ) where
   abbrev S : Sheet
-  S = sheetOf need minutes earlier jobs modules
+  S = sheetOf t
+
+  abbrev jobs : ℕ
+  jobs = countOf t
 
   abbrev w : List ℕ
   w = wordOf part
 
   abbrev P : PartPlan
-  P = theoryPart need minutes earlier jobs modules part
+  P = theoryPart t part
 
   abbrev F : Figures S P part
   F = known .is .figures
 
-  held-is : (t : ℕ) → heldAt (part .until) (part .held) (part .placed) t ≡ occupied S P t
-  held-is = occupied-is need minutes earlier jobs modules (known .fit) part w (known .is)
+  held-is : (t : ℕ) → heldOf part t ≡ occupied S P t
+  held-is = occupied-is t (known .fit) part w (known .is)
 
   -- the jobs of the set are those that are left
   of-set : (f : ℕ → ℕ) → sum jobs (λ k. only (bit (part .unplaced) k) (f k)) ≡ sum jobs (λ k. only (not (P .placed k)) (f k))
   of-set f = sum-same jobs _ _ (λ k l. ap (λ b. only b (f k)) (F .set k l))
 
-  overlapping-cut : Overlapping need minutes (part .until) (part .held) jobs modules (part .placed) (part .unplaced) least T
+  overlapping-cut : Overlapping t part least T
       → CannotBeat S (suc T) w
   overlapping-cut o =
       let m = o .minute in
-      let same = sum-same jobs (λ k. only (not (P .placed k)) (mustHold need minutes least T m k))
+      let same = sum-same jobs (λ k. only (not (P .placed k)) (mustHold t least T m k))
       (λ k. only (not (P .placed k) && mustRun least T m (S .minutes k)) (S .need k)) (λ k l. both (not (P .placed k)) _ (S .need k)) in
       overlap-cut S (known .fit .lasting) (known .fit .narrow) w (known .is .follows) least (starts .low)
       (none-before known starts) T m (o .from)
-      (omega (arith, o .over, of-set (mustHold need minutes least T m), same, held-is m))
+      (omega (arith, o .over, of-set (mustHold t least T m), same, held-is m))
     where
       both : (a b : Bool) (x : ℕ) → only a (only b x) ≡ only (a && b) x
       both true b x = refl
       both false b x = refl
 
-  outweighed-cut : Outweighed need minutes (part .until) (part .held) jobs modules (part .placed) (part .unplaced) least T
+  outweighed-cut : Outweighed t part least T
       → CannotBeat S (suc T) w
   outweighed-cut o =
-      let free = sum-same T (λ t. only (leb least t) (o .most (modules - heldAt (part .until) (part .held) (part .placed) t)))
-      (λ t. only (leb least t) (o .most (modules - occupied S P t)))
-      (λ t l. ap (λ (x : ℕ). only (leb least t) (o .most (modules - x))) (held-is t)) in
+      let free = sum-same T (λ m. only (leb least m) (o .most (modulesOf t - heldOf part m)))
+      (λ m. only (leb least m) (o .most (modulesOf t - occupied S P m)))
+      (λ m l. ap (λ (x : ℕ). only (leb least m) (o .most (modulesOf t - x))) (held-is m)) in
       weights-cut S (known .fit .lasting) (known .fit .narrow) w (known .is .follows) least (starts .low)
       (none-before known starts) T (o .weight) (o .most) (o .weighs)
-      (omega (arith, free, of-set (λ k. getD minutes k 0 * o .weight k), o .over))
+      (omega (arith, free, of-set (λ k. minutesAt t k * o .weight k), o .over))
 
-  overfull-cut : Overfull need minutes (part .until) (part .held) jobs modules (part .placed) (part .unplaced) least T
+  overfull-cut : Overfull t part least T
       → CannotBeat S (suc T) w
   unfolding servedOn
   overfull-cut o =
-      let served : ℕ → ℕ → ℕ = λ x t. only (leb least t) (o .most (modules - x) * gain (o .reach) T t) in
-      let free = sum-same T (λ t. served (heldAt (part .until) (part .held) (part .placed) t) t) (λ t. served (occupied S P t) t)
-      (λ t l. ap (λ (x : ℕ). served x t) (held-is t)) in
+      let served : ℕ → ℕ → ℕ = λ x m. only (leb least m) (o .most (modulesOf t - x) * gain (o .reach) T m) in
+      let free = sum-same T (λ m. served (heldOf part m) m) (λ m. served (occupied S P m) m)
+      (λ m l. ap (λ (x : ℕ). served x m) (held-is m)) in
       reach-cut S (known .fit .lasting) (known .fit .narrow) w (known .is .follows) least (starts .low)
       (none-before known starts) T (o .weight) (o .value) (o .most) (o .reach)
       (o .weighs) (o .most-rises) (o .lasts) (o .reach-none) (o .reach-rises)
       (omega (arith, free, of-set (λ k. o .weight k * o .value k), o .over))
 
-  module _ (u : Unserved minutes (part .until) (part .held) jobs modules (part .placed) (part .unplaced) (part .left) least T) where
+  module _ (u : Unserved t part least T) where
     -- some of the jobs that are left
     reaches : (X : ℕ → Bool) (x : ℕ) → ((k : ℕ) → X k ≡ true → P .placed k ≡ false)
-        → together minutes jobs X ≤ x → together minutes jobs X ≤ u .reach x
+        → together t jobs X ≤ x → together t jobs X ≤ u .reach x
     reaches X x left short =
-        let same = sum-same jobs (λ k. only (X k) (getD minutes k 0)) (λ k. only (X k && ltb k jobs) (getD minutes k 0))
+        let same = sum-same jobs (λ k. only (X k) (minutesAt t k)) (λ k. only (X k && ltb k jobs) (minutesAt t k))
         (λ k l. inside k l (X k)) in
         omega (
           arith,
@@ -103,7 +107,7 @@ module _ {need minutes earlier : List ℕ} {jobs modules : ℕ} {part : Part} (k
               (omega (arith, same)),
         )
       where
-        inside : (k : ℕ) → k < jobs → (b : Bool) → only b (getD minutes k 0) ≡ only (b && ltb k jobs) (getD minutes k 0)
+        inside : (k : ℕ) → k < jobs → (b : Bool) → only b (minutesAt t k) ≡ only (b && ltb k jobs) (minutesAt t k)
         inside k l true = rw (lt-ltb k jobs l) refl
         inside k l false = refl
 
@@ -126,12 +130,12 @@ module _ {need minutes earlier : List ℕ} {jobs modules : ℕ} {part : Part} (k
 
     unserved-cut : CannotBeat S (suc T) w
     unserved-cut =
-        let free = ap (λ (x : ℕ). (modules - x) * u .reach (T - least)) (held-is least) in
+        let free = ap (λ (x : ℕ). (modulesOf t - x) * u .reach (T - least)) (held-is least) in
         modules-cut S (known .fit .lasting) (known .fit .narrow) w (known .is .follows) least (starts .low)
         (none-before known starts) T (S .minutes) (u .reach) reaches (u .rises)
         (omega (arith, behind, free, F .left, u .short))
 
-  pub short-cut : TooFew need minutes (part .until) (part .held) jobs modules (part .placed) (part .unplaced) (part .left) least T
+  pub short-cut : TooFew t part least T
       → CannotBeat S (suc T) w
   short-cut (inl o) = overlapping-cut o
   short-cut (inr (inl o)) = outweighed-cut o

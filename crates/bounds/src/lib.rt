@@ -2,11 +2,19 @@
 ghost use mathlib.Core.Path.{_≡_};
 ghost use mathlib.Core.Bool.{true};
 ghost use Prim.Native.Nat.{_+_, _-_, _*_, _<_, _≤_};
-ghost use Rattle.tables.specs.Tables.{Fit};
-ghost use Rattle.placement.specs.Profile.{heldAfter, Profile};
+ghost use Rattle.figures.specs.Figures.{mostJobs, mostModules, noMinute};
+ghost use Rattle.tables.specs.Tables.{modulesOf, countOf, Fit};
+ghost use Rattle.tables.specs.Part.{partIn};
+ghost use Rattle.tables.specs.Prepared.{tailsIn, worthIn, mostIn, lanesIn};
+ghost use Rattle.placement.specs.Profile.{heldSince, ProfileOf};
 ghost use Rattle.weights.specs.Weights.{Weighted};
 ghost use Rattle.values.specs.Values.{Laned};
-ghost use Rattle.bounds.specs.Bounds.{HeldAfter, SomeTooLong, TooFew, Hopeless, Bounding};
+ghost use Rattle.bounds.specs.Bounds.{mostLeft, HeldAfter, SomeTooLong, TooFew, Hopeless, Bounding};
+use figures::MOST_JOBS;
+use figures::NO_MINUTE;
+use tables::Jobs;
+use tables::Part;
+use tables::Prepared;
 
 // ---- the area
 
@@ -17,228 +25,114 @@ fn stretch(until: u16, held: u16, l: u16) -> u32
     if until <= l {
         return 0;
     }
-    (held as u32) * ((until - l) as u32)
+    counting::times(held, until - l)
 }
 
 // The module-minutes that are held from minute l on.
-fn held_after<'a>(
-    until: &'a [u16; 20],
-    held: &'a [u16; 20],
-    gone: usize,
-    count: usize,
-    l: u16,
-) -> u32
-    requires { ⌜ HeldAfter (now until) (now held) gone count l ⌝ }
-    ensures { λ r. ⌜ r ≡ heldAfter (now (until .entry)) (now (held .entry)) count l ⌝ }
+fn held_after(part: &Part, l: u16) -> u32
+    requires { ⌜ HeldAfter (partIn (now part)) l ⌝ }
+    ensures { λ r. ⌜ r ≡ heldSince (partIn (now (part .entry))) l ⌝ }
 {
+    let count = tables::placed(part);
     let mut total: u32 = 0;
-    let mut i = gone;
+    let mut i = tables::gone(part);
     while i < count {
-        total += stretch(until[i], held[i], l);
+        total += stretch(tables::until(part, i), tables::held(part, i), l);
         i += 1;
     }
     total
 }
 
 // Whether the modules cannot do by minute `target` what is gone at minute l, what is still held and what is left.
-fn crowded<'a>(
-    until: &'a [u16; 20],
-    held: &'a [u16; 20],
-    gone: usize,
-    count: usize,
-    left: u32,
-    modules: u16,
-    l: u16,
-    target: u16,
-) -> bool
-    requires { ⌜ (HeldAfter (now until) (now held) gone count l) × ((left ≤ 2000000) × (modules ≤ 64)) ⌝ }
-    ensures { λ r. ⌜ (r ≡ true → modules * target < modules * l + (heldAfter (now (until .entry)) (now (held .entry)) count l + left)) ⌝ }
+fn crowded(part: &Part, modules: u16, l: u16, target: u16) -> bool
+    requires { ⌜ (HeldAfter (partIn (now part)) l) × ((partIn (now part) .left ≤ mostLeft) × (modules ≤ mostModules)) ⌝ }
+    ensures { λ r. ⌜ (r ≡ true → modules * target
+        < modules * l + (heldSince (partIn (now (part .entry))) l + partIn (now (part .entry)) .left)) ⌝ }
 {
     let m = modules as u32;
-    m * (target as u32) < m * (l as u32) + (held_after(until, held, gone, count, l) + left)
+    m * (target as u32) < m * (l as u32) + (held_after(part, l) + tables::left(part))
 }
 
 // ---- chains
 
-// Whether a job that starts at `start` (65535: it may not come next), and the chain behind it, last until `end`.
-fn too_long(start: u16, tail: u16, end: u16) -> bool
-    ensures { λ r. ⌜ (r ≡ true → (start < 65535) × (end ≤ start + tail)) ⌝ }
+// Whether a job that starts at `start` (NO_MINUTE: it may not come next), and the chain behind it, last until `end`.
+fn too_long(start: u16, tail: u32, end: u16) -> bool
+    ensures { λ r. ⌜ (r ≡ true → (start < noMinute) × (end ≤ start + tail)) ⌝ }
 {
-    if start == 65535 {
+    if start == NO_MINUTE {
         return false;
     }
-    end as u32 <= (start as u32) + (tail as u32)
+    end as u64 <= (start as u64) + (tail as u64)
 }
 
 // Whether that is so of some job of the set.
-fn some_too_long<'a>(
-    at: &'a [u16; 20],
-    tails: &'a [u16; 20],
+fn some_too_long(
+    prepared: &Prepared,
+    at: &[u16; MOST_JOBS],
     set: u32,
-    jobs: usize,
+    count: usize,
     end: u16,
 ) -> bool
-    requires { ⌜ jobs ≤ 20 ⌝ }
-    ensures { λ r. ⌜ (r ≡ true → SomeTooLong (now (at .entry)) (now (tails .entry)) jobs end) ⌝ }
+    requires { ⌜ count ≤ mostJobs ⌝ }
+    ensures { λ r. ⌜ (r ≡ true → SomeTooLong (now (at .entry)) (tailsIn (now (prepared .entry))) count end) ⌝ }
 {
-    let mut rest = bits::below32(set, jobs);
-    while rest != 0 {
-        let j = bits::lowest32(rest);
-        if too_long(at[j], tails[j], end) {
+    let mut todo = bits::below32(set, count);
+    while todo != 0 {
+        let j = bits::lowest32(todo);
+        if too_long(at[j], tables::tail(prepared, j), end) {
             return true;
         }
-        rest = bits::without_lowest32(rest);
+        todo = bits::without_lowest32(todo);
     }
     false
 }
 
 // ---- the free modules
 
-// Whether the modules that come free from minute l on are too few for the jobs of the set by the target: where jobs must overlap, by
+// Whether the modules that come free from minute l on are too few for the unplaced jobs by the target: where jobs must overlap, by
 // weights, by lanes or one by one.
-fn too_few<'a>(
-    need: &[u16; 20],
-    minutes: &[u16; 20],
-    worth: &[u32; 100],
-    most: &[u16; 325],
-    lanes: &[u32; 1110],
-    until: &'a [u16; 20],
-    held: &'a [u16; 20],
-    placed: usize,
-    gone: usize,
-    free: u16,
-    modules: u16,
-    set: u32,
-    left: u32,
-    jobs: usize,
-    l: u16,
-    target: u16,
-) -> bool
-    requires { ⌜ ((Fit (now need) (now minutes) jobs modules) × ((Weighted (now need) (now minutes) jobs modules (now worth) (now most))
-        × (Laned (now need) (now minutes) jobs modules (now lanes)))) × (Profile (now until) (now held) placed gone free modules l) ⌝ }
-    ensures { λ r. ⌜ (r ≡ true → TooFew (now (need .entry)) (now (minutes .entry)) (now (until .entry)) (now (held .entry)) jobs modules
-        placed set left l target) ⌝ }
+fn too_few(jobs: &Jobs, prepared: &Prepared, part: &Part, l: u16, target: u16) -> bool
+    requires { ⌜ ((Fit (now jobs)) × ((Weighted (now jobs) (worthIn (now prepared)) (mostIn (now prepared))) × (Laned (now jobs) (lanesIn (now prepared)))))
+        × (ProfileOf (partIn (now part)) (partIn (now part) .gone) (partIn (now part) .free) (modulesOf (now jobs)) l) ⌝ }
+    ensures { λ r. ⌜ (r ≡ true → TooFew (now (jobs .entry)) (partIn (now (part .entry))) l target) ⌝ }
 {
-    let ended = placement::advance(until, held, placed, gone, free, modules, l);
-    let g = ended.gone;
-    let f = ended.free;
-    if overlaps::overlapping(
-        need,
-        minutes,
-        until,
-        held,
-        placed,
-        g,
-        f,
-        modules,
-        set,
-        jobs,
-        l,
-        target,
-    ) {
+    let ended = placement::ended_by(jobs, part, l);
+    let gone = ended.gone;
+    let free = ended.free;
+    if overlaps::overlapping(jobs, part, gone, free, l, target) {
         return true;
     }
-    if weights::outweighed(
-        need,
-        minutes,
-        worth,
-        most,
-        until,
-        held,
-        placed,
-        g,
-        f,
-        modules,
-        set,
-        jobs,
-        l,
-        target,
-    ) {
+    if weights::outweighed(jobs, prepared, part, gone, free, l, target) {
         return true;
     }
-    if lanes::overfull(
-        need,
-        minutes,
-        lanes,
-        until,
-        held,
-        placed,
-        g,
-        f,
-        modules,
-        set,
-        jobs,
-        l,
-        target,
-    ) {
+    if lanes::overfull(jobs, prepared, part, gone, free, l, target) {
         return true;
     }
-    sums::unserved(
-        minutes,
-        until,
-        held,
-        placed,
-        g,
-        f,
-        modules,
-        set,
-        left,
-        jobs,
-        l,
-        target,
-    )
+    sums::unserved(jobs, part, gone, free, l, target)
 }
 
 // ---- all bounds
 
 // Whether no order that goes on from here can end by the target: by the area, by a chain, or because the free modules are too few.
-pub fn hopeless<'a, 'b>(
-    need: &[u16; 20],
-    minutes: &[u16; 20],
-    tails: &'a [u16; 20],
-    worth: &[u32; 100],
-    most: &[u16; 325],
-    lanes: &[u32; 1110],
-    until: &'b [u16; 20],
-    held: &'b [u16; 20],
-    placed: usize,
-    gone: usize,
-    free: u16,
-    modules: u16,
-    unplaced: u32,
-    left: u32,
-    jobs: usize,
-    at: &'a [u16; 20],
+pub fn hopeless(
+    jobs: &Jobs,
+    prepared: &Prepared,
+    part: &Part,
+    at: &[u16; MOST_JOBS],
     least: u16,
     target: u16,
 ) -> bool
-    requires { ⌜ ((Fit (now need) (now minutes) jobs modules) × ((Weighted (now need) (now minutes) jobs modules (now worth) (now most))
-        × (Laned (now need) (now minutes) jobs modules (now lanes)))) × (Bounding (now until) (now held) placed gone free modules left least target) ⌝ }
-    ensures { λ r. ⌜ (r ≡ true → Hopeless (now (need .entry)) (now (minutes .entry)) (now (tails .entry)) (now (until .entry))
-        (now (held .entry)) jobs modules placed unplaced left (now (at .entry)) least target) ⌝ }
+    requires { ⌜ ((Fit (now jobs)) × ((Weighted (now jobs) (worthIn (now prepared)) (mostIn (now prepared))) × (Laned (now jobs) (lanesIn (now prepared)))))
+        × (Bounding (now jobs) (partIn (now part)) least target) ⌝ }
+    ensures { λ r. ⌜ (r ≡ true
+        → Hopeless (now (jobs .entry)) (tailsIn (now (prepared .entry))) (partIn (now (part .entry))) (now (at .entry)) least target) ⌝ }
 {
-    if crowded(until, held, gone, placed, left, modules, least, target) {
+    if crowded(part, tables::modules(jobs), least, target) {
         return true;
     }
-    if some_too_long(at, tails, unplaced, jobs, target + 1) {
+    let unplaced = tables::unplaced(part);
+    if some_too_long(prepared, at, unplaced, tables::count(jobs), target + 1) {
         return true;
     }
-    too_few(
-        need,
-        minutes,
-        worth,
-        most,
-        lanes,
-        until,
-        held,
-        placed,
-        gone,
-        free,
-        modules,
-        unplaced,
-        left,
-        jobs,
-        least,
-        target,
-    )
+    too_few(jobs, prepared, part, least, target)
 }

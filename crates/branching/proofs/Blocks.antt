@@ -7,89 +7,100 @@ use Prim.Native.Nat.{ℕ, _+_, _≤_, _<_, max}
 use native.Mathlib.Omega.{arith}
 use lib.Bits.{bitOr}
 use lib.ListN.{getD}
+use Rattle.figures.specs.Figures.{mostJobs}
 use Rattle.counting.proofs.Tests.{clash, last-or-below}
 use Rattle.bits.specs.Bits.{bit, withoutBit, setOf}
 use Rattle.bits.proofs.Digits.{bit-none, bit-or}
 use Rattle.bits.proofs.Walks.{Walk, walk-first, walk-none, walk-next, walk-gone}
-use Rattle.branching.specs.Branching.{AllAwaited, BlockFrom, EndsInBlock}
+use Rattle.tables.specs.Tables.{minutesAt, earlierAt, countOf}
+use Rattle.tables.specs.Part.{Part}
+use Rattle.branching.specs.Branching.{Passing, AllAwaited, BlockFrom, EndsInBlock}
 use Rattle.branching.proofs.Trying.{or-true}
 
 -- ---- the awaited jobs
 
 -- r has those of the jobs that are not still to come
-pub record Awaiting (earlier : List ℕ) (set jobs r rest : ℕ) : Type 0 where
-  pub walk : Walk set jobs rest
-  pub each : (x : ℕ) → x < jobs → bit set x ≡ true → bit rest x ≡ false → (k : ℕ) → bit (getD earlier x 0) k ≡ true → bit r k ≡ true
+pub record Awaiting (t : List ℕ) (set r todo : ℕ) : Type 0 where
+  pub walk : Walk set (countOf t) todo
+  pub each : (x : ℕ) → x < countOf t → bit set x ≡ true → bit todo x ≡ false → (k : ℕ) → bit (earlierAt t x) k ≡ true → bit r k ≡ true
 
-pub awaiting-none : (earlier : List ℕ) (set jobs : ℕ) → Awaiting earlier set jobs 0 (setOf jobs (bit set))
-awaiting-none earlier set jobs =
-    record { walk = walk-first jobs set; each = λ x l b g. clash (bit set x) b (walk-none jobs set x l g) }
+pub awaiting-none : (t : List ℕ) (set : ℕ) → Awaiting t set 0 (setOf (countOf t) (bit set))
+awaiting-none t set =
+    record { walk = walk-first (countOf t) set; each = λ x l b g. clash (bit set x) b (walk-none (countOf t) set x l g) }
 
-pub awaiting-step : {earlier : List ℕ} {set jobs r rest : ℕ} (j : ℕ) → Awaiting earlier set jobs r rest
-    → Awaiting earlier set jobs (bitOr r (getD earlier j 0)) (withoutBit rest j)
-awaiting-step {earlier} {set} {jobs} {r} {rest} j h =
-    record { walk = walk-next j (h .walk); each = λ x l b g k e. bit-or r (getD earlier j 0) k ∙ go x l b k e (walk-gone rest j x g) }
+pub awaiting-step : {t : List ℕ} {set r todo : ℕ} (j : ℕ) → Awaiting t set r todo
+    → Awaiting t set (bitOr r (earlierAt t j)) (withoutBit todo j)
+awaiting-step {t} {set} {r} {todo} j h =
+    record { walk = walk-next j (h .walk); each = λ x l b g k e. bit-or r (earlierAt t j) k ∙ go x l b k e (walk-gone todo j x g) }
   where
-    go : (x : ℕ) → x < jobs → bit set x ≡ true → (k : ℕ) → bit (getD earlier x 0) k ≡ true → (x ≡ j) ⊎ (bit rest x ≡ false)
-        → (bit r k || bit (getD earlier j 0) k) ≡ true
-    go x l b k e (inl z) = or-true (bit r k) (ap (λ (y : ℕ). bit (getD earlier y 0) k) (sym z) ∙ e)
+    go : (x : ℕ) → x < countOf t → bit set x ≡ true → (k : ℕ) → bit (earlierAt t x) k ≡ true → (x ≡ j) ⊎ (bit todo x ≡ false)
+        → (bit r k || bit (earlierAt t j) k) ≡ true
+    go x l b k e (inl z) = or-true (bit r k) (ap (λ (y : ℕ). bit (earlierAt t y) k) (sym z) ∙ e)
     go x l b k e (inr z) = rw (h .each x l b z k e) refl
 
-pub awaiting-all : {earlier : List ℕ} {set jobs r rest : ℕ} → Awaiting earlier set jobs r rest → rest ≡ 0 → AllAwaited earlier set jobs r
+pub awaiting-all : {t : List ℕ} {set r todo : ℕ} → Awaiting t set r todo → todo ≡ 0 → AllAwaited t set r
 awaiting-all h e x l b = h .each x l b (rw e (bit-none x))
 
 -- ---- the block
 
+-- the m-th placed job is the number of a job
+pub placed-job : {t : List ℕ} {p : Part} {j placed m a : ℕ} → Passing t p j → placed ≡ p .placed → m < placed → a ≡ getD (p .order) m 0
+    → a < mostJobs
+placed-job {m = m} h e l z = omega (arith, h .jobs m (omega arith))
+
 -- all of the first m placed jobs have ended by `latest`, and where a block was found, it reaches up to them
-pub record Growing (minutes ends order by : List ℕ) (set j : ℕ) (found : Bool) (latest m : ℕ) : Type 0 where
-  pub ended : (k : ℕ) → k < m → getD ends (getD order k 0) 0 ≤ latest
-  pub block : found ≡ true → (at : ℕ) × BlockFrom minutes ends order by set m j at
+pub record Growing (t : List ℕ) (p : Part) (settled : List ℕ) (set j : ℕ) (found : Bool) (latest m : ℕ) : Type 0 where
+  pub ended : (k : ℕ) → k < m → getD (p .ends) (getD (p .order) k 0) 0 ≤ latest
+  pub block : found ≡ true → (at : ℕ) × BlockFrom t p settled set m j at
 
-pub growing-none : (minutes ends order by : List ℕ) (set j : ℕ) → Growing minutes ends order by set j false 0 0
-growing-none minutes ends order by set j = record { ended = λ k l. absurd (omega arith); block = λ e. clash false e refl }
+module _ (t : List ℕ) (p : Part) (settled : List ℕ) (set j : ℕ) where
+  pub growing-none : Growing t p settled set j false 0 0
+  growing-none = record { ended = λ k l. absurd (omega arith); block = λ e. clash false e refl }
 
-pub growing-step : {minutes ends order by : List ℕ} {set j : ℕ} {found : Bool} {latest m : ℕ} (a : ℕ) (more : Bool) → a ≡ getD order m 0
-    → Growing minutes ends order by set j found latest m
-    → (more ≡ true → (bit set a ≡ false)
-    × ((found ≡ true) ⊎ ((bit (getD by a 0) j ≡ true) × (latest + getD minutes a 0 ≤ getD ends a 0))))
-    → Growing minutes ends order by set j more (max latest (getD ends a 0)) (m + 1)
-growing-step {minutes} {ends} {order} {by} {set} {j} {found} {latest} {m} a more z h says = record {
-  ended = λ k l. ended k (last-or-below m k (omega arith));
-  block = λ e. let s = says e in block (s .0) (s .1);
-}
-  where
-    ended : (k : ℕ) → (k ≡ m) ⊎ (k < m) → getD ends (getD order k 0) 0 ≤ max latest (getD ends a 0)
-    ended k (inl e) = rw (e, ← z) (omega arith)
-    ended k (inr l) = omega (arith, h .ended k l)
+  -- the next placed job, a, ends at `end`
+  pub growing-step : (found : Bool) (latest m a end : ℕ) (more : Bool) → a ≡ getD (p .order) m 0 → end ≡ getD (p .ends) a 0
+      → Growing t p settled set j found latest m
+      → (more ≡ true → (bit set a ≡ false)
+      × ((found ≡ true) ⊎ ((bit (getD settled a 0) j ≡ true) × (latest + minutesAt t a ≤ end))))
+      → Growing t p settled set j more (max latest end) (m + 1)
+  growing-step found latest m a end more z x h says = record {
+    ended = λ k l. ended k (last-or-below m k (omega arith));
+    block = λ e. let s = says e in block (s .0) (s .1);
+  }
+    where
+      ended : (k : ℕ) → (k ≡ m) ⊎ (k < m) → getD (p .ends) (getD (p .order) k 0) 0 ≤ max latest end
+      ended k (inl e) = rw (e, ← z) (omega arith)
+      ended k (inr l) = omega (arith, h .ended k l)
 
-    free : bit set a ≡ false → (k : ℕ) → (k ≡ m) ⊎ (k < m) → (k < m → bit set (getD order k 0) ≡ false) → bit set (getD order k 0) ≡ false
-    free b k (inl e) g = rw (e, ← z) b
-    free b k (inr l) g = g l
+      free : bit set a ≡ false → (k : ℕ) → (k ≡ m) ⊎ (k < m) → (k < m → bit set (getD (p .order) k 0) ≡ false)
+          → bit set (getD (p .order) k 0) ≡ false
+      free b k (inl e) g = rw (e, ← z) b
+      free b k (inr l) g = g l
 
-    block : bit set a ≡ false → (found ≡ true) ⊎ ((bit (getD by a 0) j ≡ true) × (latest + getD minutes a 0 ≤ getD ends a 0))
-        → (at : ℕ) × BlockFrom minutes ends order by set (m + 1) j at
-    block b (inl e) =
-        let old = h .block e in
-        let o = old .1 in (
-          old .0,
-          record {
-            inside = omega (arith, o .inside);
-            before = o .before;
-            settled = o .settled;
-            unawaited = λ k x y. free b k (last-or-below m k (omega arith)) (λ l. o .unawaited k x l);
-          },
-        )
-    block b (inr (e, l)) = (
-      m,
-      record {
-        inside = omega arith;
-        before = λ k x. rw (← z) (omega (arith, l, h .ended k x));
-        settled = rw (← z) e;
-        unawaited = λ k x y. free b k (last-or-below m k (omega arith)) (λ v. absurd (omega arith));
-      },
-    )
+      block : bit set a ≡ false → (found ≡ true) ⊎ ((bit (getD settled a 0) j ≡ true) × (latest + minutesAt t a ≤ end))
+          → (at : ℕ) × BlockFrom t p settled set (m + 1) j at
+      block b (inl e) =
+          let old = h .block e in
+          let o = old .1 in (
+            old .0,
+            record {
+              inside = omega (arith, o .inside);
+              before = o .before;
+              settled-then = o .settled-then;
+              unawaited = λ k x y. free b k (last-or-below m k (omega arith)) (λ l. o .unawaited k x l);
+            },
+          )
+      block b (inr (e, l)) = (
+        m,
+        record {
+          inside = omega arith;
+          before = λ k y. rw (← z) (omega (arith, l, x, h .ended k y));
+          settled-then = rw (← z) e;
+          unawaited = λ k x y. free b k (last-or-below m k (omega arith)) (λ v. absurd (omega arith));
+        },
+      )
 
-pub growing-all : {minutes ends order by : List ℕ} {set j : ℕ} {found : Bool} {latest placed start : ℕ}
-    → Growing minutes ends order by set j found latest placed → found ≡ true → latest ≤ start
-    → EndsInBlock minutes ends order by set placed start j
-growing-all h e l = let b = h .block e in record { at = b .0; block = b .1; ended = λ k x. omega (arith, h .ended k x) }
+  pub growing-all : (found : Bool) (latest start : ℕ) → Growing t p settled set j found latest (p .placed) → found ≡ true → latest ≤ start
+      → EndsInBlock t p settled set start j
+  growing-all found latest start h e l =
+      let b = h .block e in record { at = b .0; block = b .1; ended = λ k x. omega (arith, h .ended k x) }

@@ -7,7 +7,10 @@ use Prim.Native.Nat.{ℕ, _+_, _≤_, _<_}
 use lib.Dec.{eqb}
 use lib.Bits.{bitAnd, bitOr}
 use lib.ListN.{getD}
+use Rattle.figures.specs.Figures.{mostJobs, noMinute}
 use Rattle.bits.specs.Bits.{bit}
+use Rattle.tables.specs.Tables.{minutesAt, earlierAt, countOf}
+use Rattle.tables.specs.Part.{Part}
 use Rattle.relations.specs.Relations.{rowAt}
 
 -- ---- jobs that were settled
@@ -19,44 +22,50 @@ settledNow same tried start last = cond (eqb start last) (bitOr same tried) trie
 
 -- ---- jobs that need not be tried
 
+-- what is known where that is asked of job j: it is the number of a job, and so are those of the placed jobs
+pub record Passing (t : List ℕ) (p : Part) (j : ℕ) : Type 0 where
+  pub few : countOf t ≤ mostJobs
+  pub placed : p .placed ≤ mostJobs
+  pub job : j < mostJobs
+  pub jobs : (k : ℕ) → k < p .placed → getD (p .order) k 0 < mostJobs
+
 -- a job that was tried is alike
 abbrev pub AlikeTried : List ℕ → ℕ → ℕ → Type 0
 AlikeTried related tried j = (i : ℕ) × (bit tried i ≡ true) × (bit (rowAt related j .alike) i ≡ true)
 
--- job j, settled when some placed job was chosen that may turn round with it, would start as that one ends
-abbrev pub Swapped : List ℕ → List ℕ → List ℕ → ℕ → ℕ → ℕ → ℕ → Type 0
-Swapped related ends by unplaced start jobs j = (i : ℕ) × (i < jobs) × (bit (rowAt related j .turning) i ≡ true)
-    × ((getD ends i 0 ≡ start) × ((bit unplaced i ≡ false) × (bit (getD by i 0) j ≡ true)))
+-- job j, settled when some placed job was chosen that may be swapped with it, would start as that one ends
+abbrev pub Swapped : List ℕ → Part → List ℕ → ℕ → ℕ → ℕ → Type 0
+Swapped related p settled start n j = (i : ℕ) × (i < n) × (bit (rowAt related j .swapping) i ≡ true)
+    × ((getD (p .ends) i 0 ≡ start) × ((bit (p .unplaced) i ≡ false) × (bit (getD settled i 0) j ≡ true)))
 
 -- r has the jobs that some job of the set waits for
-abbrev pub AllAwaited : List ℕ → ℕ → ℕ → ℕ → Type 0
-AllAwaited earlier set jobs r = (x : ℕ) → x < jobs → bit set x ≡ true → (k : ℕ) → bit (getD earlier x 0) k ≡ true → bit r k ≡ true
+abbrev pub AllAwaited : List ℕ → ℕ → ℕ → Type 0
+AllAwaited t set r = (x : ℕ) → x < countOf t → bit set x ≡ true → (k : ℕ) → bit (earlierAt t x) k ≡ true → bit r k ≡ true
 
 -- of the first m placed jobs those from the `at`-th on are a block: what was placed before it has ended when it begins, job j was settled
 -- when its first job was chosen, and none of the awaited jobs is in it
-pub record BlockFrom (minutes ends order by : List ℕ) (awaited m j at : ℕ) : Type 0 where
+pub record BlockFrom (t : List ℕ) (p : Part) (settled : List ℕ) (awaited m j at : ℕ) : Type 0 where
   pub inside : at < m
-  pub before : (k : ℕ) → k < at → getD ends (getD order k 0) 0 + getD minutes (getD order at 0) 0 ≤ getD ends (getD order at 0) 0
-  pub settled : bit (getD by (getD order at 0) 0) j ≡ true
-  pub unawaited : (k : ℕ) → at ≤ k → k < m → bit awaited (getD order k 0) ≡ false
+  pub before : (k : ℕ) → k < at
+      → getD (p .ends) (getD (p .order) k 0) 0 + minutesAt t (getD (p .order) at 0) ≤ getD (p .ends) (getD (p .order) at 0) 0
+  pub settled-then : bit (getD settled (getD (p .order) at 0) 0) j ≡ true
+  pub unawaited : (k : ℕ) → at ≤ k → k < m → bit awaited (getD (p .order) k 0) ≡ false
 
 -- the last of the placed jobs are such a block, and all have ended by minute `start`
-pub record EndsInBlock (minutes ends order by : List ℕ) (awaited placed start j : ℕ) : Type 0 where
+pub record EndsInBlock (t : List ℕ) (p : Part) (settled : List ℕ) (awaited start j : ℕ) : Type 0 where
   pub at : ℕ
-  pub block : BlockFrom minutes ends order by awaited placed j at
-  pub ended : (k : ℕ) → k < placed → getD ends (getD order k 0) 0 ≤ start
+  pub block : BlockFrom t p settled awaited (p .placed) j at
+  pub ended : (k : ℕ) → k < p .placed → getD (p .ends) (getD (p .order) k 0) 0 ≤ start
 
 -- the same where job j would start, and the awaited jobs are those for which some unplaced job waits
-abbrev pub Blocked : List ℕ → List ℕ → List ℕ → List ℕ → List ℕ → ℕ → ℕ → ℕ → ℕ → ℕ → Type 0
-Blocked earlier minutes ends order by unplaced placed start jobs j =
-    (awaited : ℕ) × AllAwaited earlier unplaced jobs awaited × EndsInBlock minutes ends order by awaited placed start j
+abbrev pub Blocked : List ℕ → Part → List ℕ → ℕ → ℕ → Type 0
+Blocked t p settled start j = (awaited : ℕ) × AllAwaited t (p .unplaced) awaited × EndsInBlock t p settled awaited start j
 
 -- a job that is alike was tried, or j was settled at the last start, where it would start, or it is swapped, or it is behind a block
-abbrev pub PassedOver : List ℕ → List ℕ → List ℕ → List ℕ → List ℕ → List ℕ → ℕ → ℕ → ℕ → ℕ → ℕ → ℕ → ℕ → ℕ → Type 0
-PassedOver related minutes earlier ends order by same unplaced placed tried last start jobs j =
+abbrev pub PassedOver : List ℕ → List ℕ → Part → List ℕ → ℕ → ℕ → ℕ → ℕ → Type 0
+PassedOver t related p settled same tried start j =
     AlikeTried related tried j
-    ⊎ (((start ≡ last) × (bit same j ≡ true))
-    ⊎ (Swapped related ends by unplaced start jobs j ⊎ Blocked earlier minutes ends order by unplaced placed start jobs j))
+    ⊎ (((start ≡ p .last) × (bit same j ≡ true)) ⊎ (Swapped related p settled start (countOf t) j ⊎ Blocked t p settled start j))
 
 -- ---- the jobs to be tried
 
@@ -66,27 +75,31 @@ Alone related set i = bitAnd set (rowAt related i .beside) ≡ 0
 
 -- job i may as well come before job j: it can end before j starts, or it starts no later and can run beside no other
 abbrev pub ComesBefore : List ℕ → List ℕ → List ℕ → ℕ → ℕ → ℕ → Type 0
-ComesBefore minutes related at set i j =
-    (getD at i 0 + getD minutes i 0 ≤ getD at j 0) ⊎ ((getD at i 0 ≤ getD at j 0) × Alone related set i)
+ComesBefore t related at set i j =
+    (getD at i 0 + minutesAt t i ≤ getD at j 0) ⊎ ((getD at i 0 ≤ getD at j 0) × Alone related set i)
 
 -- each job of the set is to be tried, or may as well come behind one that is
-abbrev pub ToTry : List ℕ → List ℕ → List ℕ → ℕ → ℕ → ℕ → Type 0
-ToTry minutes related at set jobs r = (j : ℕ) → j < jobs → bit set j ≡ true
+abbrev pub ToTry : List ℕ → List ℕ → List ℕ → ℕ → ℕ → Type 0
+ToTry t related at set r = (j : ℕ) → j < countOf t → bit set j ≡ true
     → (bit r j ≡ true)
-    ⊎ ((i : ℕ) × (i < jobs) × ((bit r i ≡ true) × ((getD at i 0 < 65535) × ComesBefore minutes related at set i j)))
+    ⊎ ((i : ℕ) × (i < countOf t) × ((bit r i ≡ true) × ((getD at i 0 < noMinute) × ComesBefore t related at set i j)))
 
--- what is known of the starts: none before the least, 65535 outside the set, and no job of 0 minutes
-pub record Trying (minutes at : List ℕ) (least set jobs : ℕ) : Type 0 where
-  pub few : jobs ≤ 20
-  pub low : (j : ℕ) → j < jobs → least ≤ getD at j 0
-  pub top : (j : ℕ) → j < jobs → getD at j 0 ≤ 65535
-  pub inside : (j : ℕ) → j < jobs → getD at j 0 < 65535 → bit set j ≡ true
-  pub lasting : (j : ℕ) → j < jobs → 0 < getD minutes j 0
+-- what is known of the starts: none before the least, no minute outside the set, and no job of 0 minutes
+pub record Trying (t at : List ℕ) (least set : ℕ) : Type 0 where
+  pub few : countOf t ≤ mostJobs
+  pub low : (j : ℕ) → j < countOf t → least ≤ getD at j 0
+  pub top : (j : ℕ) → j < countOf t → getD at j 0 ≤ noMinute
+  pub inside : (j : ℕ) → j < countOf t → getD at j 0 < noMinute → bit set j ≡ true
+  pub lasting : (j : ℕ) → j < countOf t → 0 < minutesAt t j
 
--- r is a minute by which one of the jobs can have ended, or 131070
-abbrev pub EndOfOne : List ℕ → List ℕ → ℕ → ℕ → Type 0
-EndOfOne minutes at jobs r = (r ≡ 131070) ⊎ ((i : ℕ) × (i < jobs) × (r ≡ getD at i 0 + getD minutes i 0))
+-- no end: no job ends later
+abbrev pub noEnd : ℕ
+noEnd = 131070
+
+-- r is a minute by which one of the jobs can have ended, or no end
+abbrev pub EndOfOne : List ℕ → List ℕ → ℕ → Type 0
+EndOfOne t at r = (r ≡ noEnd) ⊎ ((i : ℕ) × (i < countOf t) × (r ≡ getD at i 0 + minutesAt t i))
 
 -- r has the jobs of the set that start before minute `end`
 abbrev pub AllEarly : List ℕ → ℕ → ℕ → ℕ → ℕ → Type 0
-AllEarly at end set jobs r = (j : ℕ) → j < jobs → bit set j ≡ true → getD at j 0 < end → bit r j ≡ true
+AllEarly at end set n r = (j : ℕ) → j < n → bit set j ≡ true → getD at j 0 < end → bit r j ≡ true

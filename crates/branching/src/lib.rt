@@ -5,9 +5,20 @@ ghost use mathlib.Core.Bool.{true, false, cond};
 ghost use Prim.Native.Nat.{ℕ, _+_, _<_, _≤_, min};
 ghost use lib.Dec.{ltb};
 ghost use lib.ListN.{getD};
+ghost use Rattle.figures.specs.Figures.{mostJobs};
 ghost use Rattle.bits.specs.Bits.{bit, withBit};
-ghost use Rattle.branching.specs.Branching.{settledNow, AlikeTried, Swapped, AllAwaited, EndsInBlock, Blocked, PassedOver};
+ghost use Rattle.tables.specs.Tables.{countOf};
+ghost use Rattle.tables.specs.Part.{partIn};
+ghost use Rattle.tables.specs.Prepared.{relatedIn};
+ghost use Rattle.relations.specs.Relations.{rowAt};
+ghost use Rattle.branching.specs.Branching.{settledNow, Passing, AlikeTried, Swapped, AllAwaited, EndsInBlock, Blocked, PassedOver};
 ghost use Rattle.branching.specs.Branching.{Alone, ToTry, Trying, EndOfOne, AllEarly};
+use figures::MOST_JOBS;
+use figures::NO_MINUTE;
+use relations::ROW;
+use tables::Jobs;
+use tables::Part;
+use tables::Prepared;
 
 // ---- jobs that were settled
 
@@ -24,17 +35,28 @@ pub fn settled_now(same: u32, tried: u32, start: u16, last: u16) -> u32
 // ---- jobs that need not be tried
 
 // Whether a job that is alike was tried.
-fn alike_tried(related: &[u32; 60], tried: u32, j: usize) -> bool
-    requires { ⌜ j < 20 ⌝ }
-    ensures { λ r. ⌜ (r ≡ true → AlikeTried (now (related .entry)) tried j) ⌝ }
+fn alike_tried(prepared: &Prepared, tried: u32, j: usize) -> bool
+    requires { ⌜ j < mostJobs ⌝ }
+    ensures { λ r. ⌜ (r ≡ true → AlikeTried (relatedIn (now (prepared .entry))) tried j) ⌝ }
 {
-    tried & related[j * 3] != 0
+    tried & tables::related(prepared, j * ROW) != 0
+}
+
+// All numbers below 32 as a set.
+const ALL: u32 = 4294967295;
+
+// The jobs that may be swapped with job j and are placed.
+fn to_swap(prepared: &Prepared, part: &Part, j: usize) -> u32
+    requires { ⌜ j < mostJobs ⌝ }
+    ensures { λ r. ⌜ ((i : ℕ) → bit r i ≡ true → bit (rowAt (relatedIn (now (prepared .entry))) j .swapping) i ≡ true) ⌝ }
+{
+    tables::related(prepared, j * ROW + 1) & (ALL - tables::unplaced(part))
 }
 
 // Whether job i, which ends at `end`, is placed, and job j, which would start at `start`, was settled when i was chosen and starts as i ends.
-fn starts_behind(end: u16, by: u32, unplaced: u32, start: u16, i: usize, j: usize) -> bool
-    requires { ⌜ (i < 20) × (j < 20) ⌝ }
-    ensures { λ r. ⌜ (r ≡ true → (end ≡ start) × ((bit unplaced i ≡ false) × (bit by j ≡ true))) ⌝ }
+fn starts_behind(end: u16, settled: u32, unplaced: u32, start: u16, i: usize, j: usize) -> bool
+    requires { ⌜ (i < mostJobs) × (j < mostJobs) ⌝ }
+    ensures { λ r. ⌜ (r ≡ true → (end ≡ start) × ((bit unplaced i ≡ false) × (bit settled j ≡ true))) ⌝ }
 {
     if end != start {
         return false;
@@ -42,44 +64,45 @@ fn starts_behind(end: u16, by: u32, unplaced: u32, start: u16, i: usize, j: usiz
     if bits::test32(unplaced, i) {
         return false;
     }
-    bits::test32(by, j)
+    bits::test32(settled, j)
 }
 
-// Whether job j would start behind a placed job that may turn round with it and in whose place it was settled.
+// Whether job j would start behind a placed job that may be swapped with it and in whose place it was settled.
 fn swapped(
-    related: &[u32; 60],
-    ends: &[u16; 20],
-    by: &[u32; 20],
-    unplaced: u32,
+    prepared: &Prepared,
+    part: &Part,
+    settled: &[u32; MOST_JOBS],
     start: u16,
-    jobs: usize,
+    count: usize,
     j: usize,
 ) -> bool
-    requires { ⌜ (jobs ≤ 20) × (j < 20) ⌝ }
-    ensures { λ r. ⌜ (r ≡ true → Swapped (now (related .entry)) (now (ends .entry)) (now (by .entry)) unplaced start jobs j) ⌝ }
+    requires { ⌜ (count ≤ mostJobs) × (j < mostJobs) ⌝ }
+    ensures { λ r. ⌜ (r ≡ true → Swapped (relatedIn (now (prepared .entry))) (partIn (now (part .entry))) (now (settled .entry)) start
+        count j) ⌝ }
 {
-    let mut rest = bits::below32(related[j * 3 + 1] & (4294967295 - unplaced), jobs);
-    while rest != 0 {
-        let i = bits::lowest32(rest);
-        if starts_behind(ends[i], by[i], unplaced, start, i, j) {
+    let unplaced = tables::unplaced(part);
+    let mut todo = bits::below32(to_swap(prepared, part, j), count);
+    while todo != 0 {
+        let i = bits::lowest32(todo);
+        if starts_behind(tables::end(part, i), settled[i], unplaced, start, i, j) {
             return true;
         }
-        rest = bits::without_lowest32(rest);
+        todo = bits::without_lowest32(todo);
     }
     false
 }
 
-// The jobs that some job of the set waits for.
-fn awaited(earlier: &[u32; 20], set: u32, jobs: usize) -> u32
-    requires { ⌜ jobs ≤ 20 ⌝ }
-    ensures { λ r. ⌜ AllAwaited (now (earlier .entry)) set jobs r ⌝ }
+// The jobs that some unplaced job waits for.
+fn awaited(jobs: &Jobs, part: &Part) -> u32
+    requires { ⌜ countOf (now jobs) ≤ mostJobs ⌝ }
+    ensures { λ r. ⌜ AllAwaited (now (jobs .entry)) (partIn (now (part .entry)) .unplaced) r ⌝ }
 {
     let mut r: u32 = 0;
-    let mut rest = bits::below32(set, jobs);
-    while rest != 0 {
-        let x = bits::lowest32(rest);
-        r = r | earlier[x];
-        rest = bits::without_lowest32(rest);
+    let mut todo = bits::below32(tables::unplaced(part), tables::count(jobs));
+    while todo != 0 {
+        let x = bits::lowest32(todo);
+        r = r | tables::earlier(jobs, x);
+        todo = bits::without_lowest32(todo);
     }
     r
 }
@@ -103,29 +126,35 @@ fn block_with(found: bool, waited: bool, settled: bool, latest: u16, end: u16, m
 }
 
 // Whether the last of the placed jobs are a block, and all have ended by minute `start`.
-fn ends_in_block<'a>(
-    minutes: &[u16; 20],
-    ends: &'a [u16; 20],
-    order: &'a [u8; 20],
-    by: &[u32; 20],
+fn ends_in_block(
+    jobs: &Jobs,
+    part: &Part,
+    settled: &[u32; MOST_JOBS],
     set: u32,
-    placed: usize,
     start: u16,
     j: usize,
 ) -> bool
-    requires { ⌜ ((placed ≤ 20) × (j < 20)) × ((k : ℕ) → k < placed → getD (now order) k 0 < 20) ⌝ }
-    ensures { λ r. ⌜ (r ≡ true → EndsInBlock (now (minutes .entry)) (now (ends .entry)) (now (order .entry)) (now (by .entry)) set placed
-        start j) ⌝ }
+    requires { ⌜ Passing (now jobs) (partIn (now part)) j ⌝ }
+    ensures { λ r. ⌜ (r ≡ true → EndsInBlock (now (jobs .entry)) (partIn (now (part .entry))) (now (settled .entry)) set start j) ⌝ }
 {
+    let placed = tables::placed(part);
     let mut found = false;
     let mut latest: u16 = 0;
     let mut m: usize = 0;
     while m < placed {
-        let a = order[m] as usize;
+        let a = tables::job_at(part, m);
+        let end = tables::end(part, a);
         let waited = bits::test32(set, a);
-        let settled = bits::test32(by[a], j);
-        found = block_with(found, waited, settled, latest, ends[a], minutes[a]);
-        latest = placement::later(latest, ends[a]);
+        let j_settled = bits::test32(settled[a], j);
+        found = block_with(
+            found,
+            waited,
+            j_settled,
+            latest,
+            end,
+            tables::minutes(jobs, a),
+        );
+        latest = counting::larger(latest, end);
         m += 1;
     }
     if !found {
@@ -135,108 +164,82 @@ fn ends_in_block<'a>(
 }
 
 // Whether job j, which would start at `start`, would come behind a block at whose beginning it was settled.
-fn blocked<'a>(
-    minutes: &[u16; 20],
-    earlier: &[u32; 20],
-    ends: &'a [u16; 20],
-    until: &'a [u16; 20],
-    order: &'a [u8; 20],
-    by: &[u32; 20],
-    unplaced: u32,
-    placed: usize,
-    start: u16,
-    jobs: usize,
-    j: usize,
-) -> bool
-    requires { ⌜ ((jobs ≤ 20) × ((placed ≤ 20) × (j < 20))) × ((k : ℕ) → k < placed → getD (now order) k 0 < 20) ⌝ }
-    ensures { λ r. ⌜ (r ≡ true → Blocked (now (earlier .entry)) (now (minutes .entry)) (now (ends .entry)) (now (order .entry))
-        (now (by .entry)) unplaced placed start jobs j) ⌝ }
+fn blocked(jobs: &Jobs, part: &Part, settled: &[u32; MOST_JOBS], start: u16, j: usize) -> bool
+    requires { ⌜ Passing (now jobs) (partIn (now part)) j ⌝ }
+    ensures { λ r. ⌜ (r ≡ true → Blocked (now (jobs .entry)) (partIn (now (part .entry))) (now (settled .entry)) start j) ⌝ }
 {
+    let placed = tables::placed(part);
     if placed == 0 {
         return false;
     }
-    if start < until[placed - 1] {
+    if start < tables::until(part, placed - 1) {
         return false;
     }
-    let set = awaited(earlier, unplaced, jobs);
-    ends_in_block(minutes, ends, order, by, set, placed, start, j)
+    ends_in_block(jobs, part, settled, awaited(jobs, part), start, j)
 }
 
 // Whether job j, which would start at `start`, need not be tried.
-pub fn passed_over<'a>(
-    related: &[u32; 60],
-    minutes: &[u16; 20],
-    earlier: &[u32; 20],
-    ends: &'a [u16; 20],
-    until: &'a [u16; 20],
-    order: &'a [u8; 20],
-    by: &[u32; 20],
+pub fn passed_over(
+    jobs: &Jobs,
+    prepared: &Prepared,
+    part: &Part,
+    settled: &[u32; MOST_JOBS],
     same: u32,
-    unplaced: u32,
-    placed: usize,
     tried: u32,
-    last: u16,
     start: u16,
-    jobs: usize,
     j: usize,
 ) -> bool
-    requires { ⌜ ((jobs ≤ 20) × ((placed ≤ 20) × (j < 20))) × ((k : ℕ) → k < placed → getD (now order) k 0 < 20) ⌝ }
-    ensures { λ r. ⌜ (r ≡ true → PassedOver (now (related .entry)) (now (minutes .entry)) (now (earlier .entry)) (now (ends .entry))
-        (now (order .entry)) (now (by .entry)) same unplaced placed tried last start jobs j) ⌝ }
+    requires { ⌜ Passing (now jobs) (partIn (now part)) j ⌝ }
+    ensures { λ r. ⌜ (r ≡ true → PassedOver (now (jobs .entry)) (relatedIn (now (prepared .entry))) (partIn (now (part .entry)))
+        (now (settled .entry)) same tried start j) ⌝ }
 {
-    if alike_tried(related, tried, j) {
+    if alike_tried(prepared, tried, j) {
         return true;
     }
-    if start == last {
+    if start == tables::last(part) {
         if bits::test32(same, j) {
             return true;
         }
     }
-    if swapped(related, ends, by, unplaced, start, jobs, j) {
+    if swapped(prepared, part, settled, start, tables::count(jobs), j) {
         return true;
     }
-    blocked(
-        minutes,
-        earlier,
-        ends,
-        until,
-        order,
-        by,
-        unplaced,
-        placed,
-        start,
-        jobs,
-        j,
-    )
+    blocked(jobs, part, settled, start, j)
 }
 
 // ---- the jobs to be tried
 
 // Whether job i, of the set, starts first and can run beside no other job of it.
-fn alone_at(related: &[u32; 60], start: u16, least: u16, set: u32, i: usize) -> bool
-    requires { ⌜ i < 20 ⌝ }
-    ensures { λ r. ⌜ (r ≡ true → (start ≡ least) × Alone (now (related .entry)) set i) ⌝ }
+fn alone_at(prepared: &Prepared, start: u16, least: u16, set: u32, i: usize) -> bool
+    requires { ⌜ i < mostJobs ⌝ }
+    ensures { λ r. ⌜ (r ≡ true → (start ≡ least) × Alone (relatedIn (now (prepared .entry))) set i) ⌝ }
 {
     if start != least {
         return false;
     }
-    set & related[i * 3 + 2] == 0
+    set & tables::related(prepared, i * ROW + 2) == 0
 }
 
-// A job of the set that starts first and can run beside no other, or `jobs` where there is none.
-fn first_alone(related: &[u32; 60], at: &[u16; 20], least: u16, set: u32, jobs: usize) -> usize
-    requires { ⌜ jobs ≤ 20 ⌝ }
-    ensures { λ r. ⌜ (r < jobs → (getD (now (at .entry)) r 0 ≡ least) × Alone (now (related .entry)) set r) ⌝ }
+// A job of the set that starts first and can run beside no other, or `count` where there is none.
+fn first_alone(
+    prepared: &Prepared,
+    at: &[u16; MOST_JOBS],
+    least: u16,
+    set: u32,
+    count: usize,
+) -> usize
+    requires { ⌜ count ≤ mostJobs ⌝ }
+    ensures { λ r. ⌜ (r < count → (getD (now (at .entry)) r 0 ≡ least) × Alone (relatedIn (now (prepared .entry))) set r) ⌝ }
 {
-    let mut rest = bits::below32(set, jobs);
-    while rest != 0 {
-        let i = bits::lowest32(rest);
-        if alone_at(related, at[i], least, set, i) {
+    let mut todo = bits::below32(set, count);
+    while todo != 0 {
+        let i = bits::lowest32(todo);
+        if alone_at(prepared, at[i], least, set, i) {
             return i;
         }
-        rest = bits::without_lowest32(rest);
+        todo = bits::without_lowest32(todo);
     }
-    jobs
+    count
 }
 
 // The earlier of a minute and the end of a job that starts at `start`.
@@ -247,24 +250,27 @@ fn or_ends(r: u32, start: u16, minutes: u16) -> u32
     if r <= end { r } else { end }
 }
 
+// No end: no job ends later.
+const NO_END: u32 = 131070;
+
 // The first minute by which one of the set's jobs can have ended.
-fn first_end(minutes: &[u16; 20], at: &[u16; 20], set: u32, jobs: usize) -> u32
-    requires { ⌜ jobs ≤ 20 ⌝ }
-    ensures { λ r. ⌜ EndOfOne (now (minutes .entry)) (now (at .entry)) jobs r ⌝ }
+fn first_end(jobs: &Jobs, at: &[u16; MOST_JOBS], set: u32) -> u32
+    requires { ⌜ countOf (now jobs) ≤ mostJobs ⌝ }
+    ensures { λ r. ⌜ EndOfOne (now (jobs .entry)) (now (at .entry)) r ⌝ }
 {
-    let mut r: u32 = 131070;
-    let mut rest = bits::below32(set, jobs);
-    while rest != 0 {
-        let j = bits::lowest32(rest);
-        r = or_ends(r, at[j], minutes[j]);
-        rest = bits::without_lowest32(rest);
+    let mut r: u32 = NO_END;
+    let mut todo = bits::below32(set, tables::count(jobs));
+    while todo != 0 {
+        let j = bits::lowest32(todo);
+        r = or_ends(r, at[j], tables::minutes(jobs, j));
+        todo = bits::without_lowest32(todo);
     }
     r
 }
 
 // The set r with job j, where it starts before minute `end`.
 fn with_early(r: u32, start: u16, end: u32, j: usize) -> u32
-    requires { ⌜ j < 20 ⌝ }
+    requires { ⌜ j < mostJobs ⌝ }
     ensures { λ n. ⌜ n ≡ cond (ltb start end) (withBit r j) r ⌝ }
 {
     if (start as u32) < end {
@@ -274,39 +280,33 @@ fn with_early(r: u32, start: u16, end: u32, j: usize) -> u32
 }
 
 // The jobs of the set that start before minute `end`.
-fn early(at: &[u16; 20], end: u32, set: u32, jobs: usize) -> u32
-    requires { ⌜ jobs ≤ 20 ⌝ }
-    ensures { λ r. ⌜ AllEarly (now (at .entry)) end set jobs r ⌝ }
+fn early(at: &[u16; MOST_JOBS], end: u32, set: u32, count: usize) -> u32
+    requires { ⌜ count ≤ mostJobs ⌝ }
+    ensures { λ r. ⌜ AllEarly (now (at .entry)) end set count r ⌝ }
 {
     let mut r: u32 = 0;
-    let mut rest = bits::below32(set, jobs);
-    while rest != 0 {
-        let j = bits::lowest32(rest);
+    let mut todo = bits::below32(set, count);
+    while todo != 0 {
+        let j = bits::lowest32(todo);
         r = with_early(r, at[j], end, j);
-        rest = bits::without_lowest32(rest);
+        todo = bits::without_lowest32(todo);
     }
     r
 }
 
 // The jobs to be tried: one of those that start first, where it can run beside no other; or all that start before the first minute by
 // which one can have ended.
-pub fn to_try(
-    minutes: &[u16; 20],
-    related: &[u32; 60],
-    at: &[u16; 20],
-    least: u16,
-    set: u32,
-    jobs: usize,
-) -> u32
-    requires { ⌜ Trying (now minutes) (now at) least set jobs ⌝ }
-    ensures { λ r. ⌜ ToTry (now (minutes .entry)) (now (related .entry)) (now (at .entry)) set jobs r ⌝ }
+pub fn to_try(jobs: &Jobs, prepared: &Prepared, at: &[u16; MOST_JOBS], least: u16, set: u32) -> u32
+    requires { ⌜ Trying (now jobs) (now at) least set ⌝ }
+    ensures { λ r. ⌜ ToTry (now (jobs .entry)) (relatedIn (now (prepared .entry))) (now (at .entry)) set r ⌝ }
 {
-    if least == 65535 {
+    if least == NO_MINUTE {
         return set;
     }
-    let i = first_alone(related, at, least, set, jobs);
-    if i < jobs {
+    let count = tables::count(jobs);
+    let i = first_alone(prepared, at, least, set, count);
+    if i < count {
         return bits::set32(0, i);
     }
-    early(at, first_end(minutes, at, set, jobs), set, jobs)
+    early(at, first_end(jobs, at, set), set, count)
 }

@@ -14,36 +14,36 @@ use Rattle.candidates.specs.declared.Choice.{Choice}
 use Rattle.candidates.specs.Candidates.{Chosen, ChoiceOf}
 
 -- the choice, by rank, among the jobs of the set that are not still to come
-pub record Choosing (at : List ℕ) (left jobs rest job rank : ℕ) : Type 0 where
-  pub walk : Walk left jobs rest
-  pub first : (k : ℕ) → k < jobs → bit left k ≡ true → bit rest k ≡ false → rank / 65536 ≤ getD at k 0
-  pub some : rank / 65536 < 65535 → (job < jobs) × ((bit left job ≡ true) × (getD at job 0 ≡ rank / 65536))
+pub record Choosing (at : List ℕ) (set jobs todo job rank : ℕ) : Type 0 where
+  pub walk : Walk set jobs todo
+  pub first : (k : ℕ) → k < jobs → bit set k ≡ true → bit todo k ≡ false → rank / 65536 ≤ getD at k 0
+  pub some : rank / 65536 < 65535 → (job < jobs) × ((bit set job ≡ true) × (getD at job 0 ≡ rank / 65536))
   pub low : rank / 65536 ≤ 65535
 
-module _ (at : List ℕ) (left jobs : ℕ) where
-  pub choosing-none : Choosing at left jobs (setOf jobs (bit left)) 0 4294901760
+module _ (at : List ℕ) (set jobs : ℕ) where
+  pub choosing-none : Choosing at set jobs (setOf jobs (bit set)) 0 4294901760
   choosing-none = record {
-    walk = walk-first jobs left;
-    first = λ k l b g. clash (bit left k) b (walk-none jobs left k l g);
+    walk = walk-first jobs set;
+    first = λ k l b g. clash (bit set k) b (walk-none jobs set k l g);
     some = λ h. absurd (omega arith);
     low = omega arith;
   }
 
-  pub choosing-step : (rest j weight c rank d least : ℕ) → getD at j 0 ≤ 65535 → Choosing at left jobs rest c rank → bit rest j ≡ true
-      → Chosen c rank j (getD at j 0 * 65536 + (65535 - weight)) d least → Choosing at left jobs (withoutBit rest j) d least
-  choosing-step rest j weight c rank d least top h t (inl (e, (f, m))) = record {
+  pub choosing-step : (todo j chain c rank d least : ℕ) → getD at j 0 ≤ 65535 → Choosing at set jobs todo c rank → bit todo j ≡ true
+      → Chosen c rank j (getD at j 0 * 65536 + (65535 - chain)) d least → Choosing at set jobs (withoutBit todo j) d least
+  choosing-step todo j chain c rank d least top h t (inl (e, (f, m))) = record {
     walk = walk-next j (h .walk);
-    first = λ k l x g. go k l x (walk-gone rest j k g);
+    first = λ k l x g. go k l x (walk-gone todo j k g);
     some = λ q. rw (e, f) (h .some (rw f at q));
     low = omega (arith, h .low);
   }
     where
-      go : (k : ℕ) → k < jobs → bit left k ≡ true → (k ≡ j) ⊎ (bit rest k ≡ false) → least / 65536 ≤ getD at k 0
+      go : (k : ℕ) → k < jobs → bit set k ≡ true → (k ≡ j) ⊎ (bit todo k ≡ false) → least / 65536 ≤ getD at k 0
       go k l x (inl z) = rw z (omega arith)
       go k l x (inr z) = omega (arith, h .first k l x z)
-  choosing-step rest j weight c rank d least top h t (inr (e, (f, m))) = record {
+  choosing-step todo j chain c rank d least top h t (inr (e, (f, m))) = record {
     walk = walk-next j (h .walk);
-    first = λ k l x g. go k l x (walk-gone rest j k g);
+    first = λ k l x g. go k l x (walk-gone todo j k g);
     some = λ q. rw e (h .walk .below j t, (h .walk .inside j t, here));
     low = omega arith;
   }
@@ -51,13 +51,13 @@ module _ (at : List ℕ) (left jobs : ℕ) where
       here : getD at j 0 ≡ least / 65536
       here = omega arith
 
-      go : (k : ℕ) → k < jobs → bit left k ≡ true → (k ≡ j) ⊎ (bit rest k ≡ false) → least / 65536 ≤ getD at k 0
+      go : (k : ℕ) → k < jobs → bit set k ≡ true → (k ≡ j) ⊎ (bit todo k ≡ false) → least / 65536 ≤ getD at k 0
       go k l x (inl z) = rw z (omega (arith, here))
       go k l x (inr z) = omega (arith, h .first k l x z)
 
-  pub choosing-all : (rest rank : ℕ) (c : Choice) → Choosing at left jobs rest (c .job) rank → rest ≡ 0 → c .start ≡ rank / 65536
-      → ChoiceOf at left jobs c
-  choosing-all rest rank c h e s = record {
+  pub choosing-all : (todo rank : ℕ) (c : Choice) → Choosing at set jobs todo (c .job) rank → todo ≡ 0 → c .start ≡ rank / 65536
+      → ChoiceOf at set jobs c
+  choosing-all todo rank c h e s = record {
     first = λ k l b. rw s (h .first k l b (rw e (bit-none k)));
     some = λ q. rw s (h .some (rw s at q));
     low = omega (arith, h .low);

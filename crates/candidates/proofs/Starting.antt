@@ -15,13 +15,13 @@ use Rattle.bits.proofs.Digits.{bit-none}
 use Rattle.bits.proofs.Walks.{Walk, walk-first, walk-none, walk-next, walk-gone}
 use Rattle.schedule.specs.Plan.{Sheet}
 use Rattle.schedule.specs.ListPlan.{PartPlan, ready}
-use Rattle.tables.specs.Tables.{sheetOf}
-use Rattle.schedule.proofs.Starts.{ready-says}
+use Rattle.tables.specs.Tables.{sheetOf, earlierAt, countOf}
+use Rattle.tables.specs.Part.{Part, wordOf}
+use Rattle.schedule.proofs.Starts.{ready-says, start-may}
 use Rattle.schedule.proofs.Cuts.{NoneBefore}
-use Rattle.placement.specs.declared.Part.{Part}
-use Rattle.placement.specs.Part.{wordOf, isReady}
+use Rattle.placement.specs.Part.{StartFor, isReady}
 use Rattle.placement.proofs.Parts.{ready-is, start-is, last-short}
-use Rattle.candidates.specs.Candidates.{StartOr, Known, theoryPart, NextStart, StartsAsked, NextStarts, JobStart, JobStarts}
+use Rattle.candidates.specs.Candidates.{StartOr, Known, theoryPart, JobStart, JobStarts}
 
 -- a job with a start may come next
 pub started : {S : Sheet} {P : PartPlan} {j s : ℕ} → StartOr S P j s → s < 65535 → ready S (P .placed) j ≡ true
@@ -31,110 +31,96 @@ started {S} {P} {j} h l = go (true-or-false (ready S (P .placed) j))
     go (inl e) = e
     go (inr e) = absurd (omega (arith, h .none e))
 
-module _ {need minutes earlier : List ℕ} {jobs modules : ℕ} {part : Part} (known : Known need minutes earlier jobs modules part) where
+module _ {t : List ℕ} {p : Part} (known : Known t p) where
   abbrev S : Sheet
-  S = sheetOf need minutes earlier jobs modules
+  S = sheetOf t
 
   abbrev P : PartPlan
-  P = theoryPart need minutes earlier jobs modules part
+  P = theoryPart t p
 
-  module _ {j : ℕ} (l : j < jobs) where
-    is-ready : isReady earlier (part .unplaced) j ≡ ready S (P .placed) j
-    is-ready = ready-is need minutes earlier jobs modules (known .fit) part (wordOf part) (known .is) j l
+  module _ {j : ℕ} (l : j < countOf t) where
+    is-ready : isReady t p j ≡ ready S (P .placed) j
+    is-ready = ready-is t (known .fit) p (wordOf p) (known .is) j l
 
-    pub job-start : {s : ℕ}
-        → NextStart need earlier (part .ends) (part .until) (part .held) (part .unplaced) (part .placed) modules (part .last) jobs j s
-        → JobStart need minutes earlier jobs modules part j s
-    job-start {s} (inl (e, f)) = record {
-      here = λ r. start-is need minutes earlier jobs modules (known .fit) part (wordOf part) (known .is) j r s f;
+    -- a job that may come next starts at the first minute from which on its modules are free
+    pub start-here : {s : ℕ} → isReady t p j ≡ true → StartFor t p j s → JobStart t p j s
+    start-here {s} e f = record {
+      here = λ r. start-is t (known .fit) p (wordOf p) (known .is) j r s f;
       none = λ r. clash (ready S (P .placed) j) (sym is-ready ∙ e) r;
     }
-    job-start (inr (e, f)) = record { here = λ r. clash (ready S (P .placed) j) r (sym is-ready ∙ e); none = λ r. f }
 
-  -- the starts by the figures are those of the part-plan
-  pub job-starts : {at : List ℕ} {least : ℕ}
-      → NextStarts need earlier (part .ends) (part .until) (part .held) (part .unplaced) (part .placed) modules (part .last) jobs at least
-      → JobStarts need minutes earlier jobs modules part at least
-  job-starts h = record {
-    each = λ j l. job-start l (h .each j l);
-    low = omega (arith, h .low, known .is .figures .last);
-    first = h .first;
-  }
+    pub start-none : isReady t p j ≡ false → JobStart t p j 65535
+    start-none e = record { here = λ r. clash (ready S (P .placed) j) r (sym is-ready ∙ e); none = λ r. refl }
 
-  pub starts-asked : StartsAsked need (part .until) (part .held) (part .placed) (part .gone) (part .free) modules (part .last) jobs
-  starts-asked = record {
-    profile = known .is .figures .profile;
-    narrow = known .fit .narrow;
-    few = known .fit .few;
-    short = omega (arith, last-short need minutes earlier jobs modules (known .fit) part (wordOf part) (known .is));
-  }
+    pub placed-none : bit (p .unplaced) j ≡ false → JobStart t p j 65535
+    placed-none b = start-none (ap (λ x. x && eqb (bitAnd (earlierAt t j) (p .unplaced)) 0) b)
+
+    -- a start lies at the last start or after it
+    pub start-from : {s : ℕ} → JobStart t p j s → p .last ≤ s
+    start-from {s} h = go (true-or-false (ready S (P .placed) j))
+      where
+        go : (ready S (P .placed) j ≡ true) ⊎ (ready S (P .placed) j ≡ false) → p .last ≤ s
+        go (inl r) =
+            let later = start-may S P j (known .fit .narrow j l) .later in
+            omega (arith, h .here r, known .is .figures .last)
+        go (inr r) = omega (arith, h .none r, last-short t (known .fit) p (wordOf p) (known .is))
 
   -- no job that can come next starts before the least
-  pub none-before : {at : List ℕ} {least : ℕ} → JobStarts need minutes earlier jobs modules part at least
-      → NoneBefore S (known .fit .narrow) (wordOf part) (known .is .follows) least
+  pub none-before : {at : List ℕ} {least : ℕ} → JobStarts t p at least
+      → NoneBefore S (known .fit .narrow) (wordOf p) (known .is .follows) least
   none-before starts j r =
       let l = ready-says S (P .placed) j r .job in
       omega (arith, starts .first j l, starts .each j l .here r)
 
--- ---- the walk over the unplaced jobs
-
-module _ (need earlier ends until held : List ℕ) (unplaced placed modules last jobs : ℕ) where
-  abbrev Is : ℕ → ℕ → Type 0
-  Is = NextStart need earlier ends until held unplaced placed modules last jobs
+  -- ---- the walk over the unplaced jobs
 
   -- the starts of the jobs that are not still to come
-  pub record Starting (at : List ℕ) (least rest : ℕ) : Type 0 where
-    pub walk : Walk unplaced jobs rest
+  pub record Starting (at : List ℕ) (least todo : ℕ) : Type 0 where
+    pub walk : Walk (p .unplaced) (countOf t) todo
     pub size : length at ≡ 20
-    pub each : (j : ℕ) → j < jobs → bit rest j ≡ false → Is j (getD at j 0)
-    pub low : last ≤ least
-    pub first : (j : ℕ) → j < jobs → bit rest j ≡ false → least ≤ getD at j 0
+    pub each : (j : ℕ) → j < countOf t → bit todo j ≡ false → JobStart t p j (getD at j 0)
+    pub low : p .last ≤ least
+    pub first : (j : ℕ) → j < countOf t → bit todo j ≡ false → least ≤ getD at j 0
 
-  pub starting-none : jobs ≤ 20 → last ≤ 65535 → Starting (replicate 20 65535) 65535 (setOf jobs (bit unplaced))
-  starting-none few short = record {
-    walk = walk-first jobs unplaced;
+  pub starting-none : Starting (replicate 20 65535) 65535 (setOf (countOf t) (bit (p .unplaced)))
+  starting-none = record {
+    walk = walk-first (countOf t) (p .unplaced);
     size = length-replicate {A = ℕ} 20 65535;
-    each = λ j l b. rw (none j l) (inr (ap (λ x. x && eqb (bitAnd (getD earlier j 0) unplaced) 0) (walk-none jobs unplaced j l b), refl));
-    low = short;
+    each = λ j l b. rw (none j l) (placed-none l (walk-none (countOf t) (p .unplaced) j l b));
+    low = omega (arith, last-short t (known .fit) p (wordOf p) (known .is));
     first = λ j l b. rw (none j l) (omega arith);
   }
     where
-      none : (j : ℕ) → j < jobs → _≡_ {A = ℕ} (getD (replicate 20 65535) j 0) 65535
-      none j l = getD-replicate 20 j 65535 0 (omega arith)
+      none : (j : ℕ) → j < countOf t → _≡_ {A = ℕ} (getD (replicate 20 65535) j 0) 65535
+      none j l = getD-replicate 20 j 65535 0 (omega (arith, known .fit .few))
 
-  -- a start lies at the last start or after it
-  start-from : last ≤ 65535 → (j s : ℕ) → Is j s → last ≤ s
-  start-from short j s (inl (e, f)) = omega (arith, f .from)
-  start-from short j s (inr (e, f)) = omega arith
-
-  pub starting-step : jobs ≤ 20 → last ≤ 65535 → (at : List ℕ) (least rest j s : ℕ) → Starting at least rest → bit rest j ≡ true → Is j s
-      → Starting (set at j s) (min least s) (withoutBit rest j)
-  starting-step few short at least rest j s h t b = record {
+  pub starting-step : (at : List ℕ) (least todo j s : ℕ) → Starting at least todo → bit todo j ≡ true → JobStart t p j s
+      → Starting (set at j s) (min least s) (withoutBit todo j)
+  starting-step at least todo j s h b is = record {
     walk = walk-next j (h .walk);
     size = length-set at j s ∙ h .size;
-    each = λ k l g. each k l (walk-gone rest j k g);
-    low = omega (arith, h .low, start-from short j s b);
-    first = λ k l g. first k l (walk-gone rest j k g);
+    each = λ k l g. each k l (walk-gone todo j k g);
+    low = omega (arith, h .low, start-from (h .walk .below j b) is);
+    first = λ k l g. first k l (walk-gone todo j k g);
   }
     where
       has-place : j < length at
-      has-place = omega (arith, h .walk .below j t, h .size)
+      has-place = omega (arith, h .walk .below j b, h .size, known .fit .few)
 
-      other : (k : ℕ) → bit rest k ≡ false → ¬ (k ≡ j)
-      other k g e = clash (bit rest k) (rw e t) g
+      other : (k : ℕ) → bit todo k ≡ false → ¬ (k ≡ j)
+      other k g e = clash (bit todo k) (rw e b) g
 
-      each : (k : ℕ) → k < jobs → (k ≡ j) ⊎ (bit rest k ≡ false) → Is k (getD (set at j s) k 0)
-      each k l (inl e) = rw (e, getD-set-same at j s 0 has-place) b
+      each : (k : ℕ) → k < countOf t → (k ≡ j) ⊎ (bit todo k ≡ false) → JobStart t p k (getD (set at j s) k 0)
+      each k l (inl e) = rw (e, getD-set-same at j s 0 has-place) is
       each k l (inr g) = rw (getD-set-other at j k s 0 (other k g)) (h .each k l g)
 
-      first : (k : ℕ) → k < jobs → (k ≡ j) ⊎ (bit rest k ≡ false) → min least s ≤ getD (set at j s) k 0
+      first : (k : ℕ) → k < countOf t → (k ≡ j) ⊎ (bit todo k ≡ false) → min least s ≤ getD (set at j s) k 0
       first k l (inl e) = rw (e, getD-set-same at j s 0 has-place) (omega arith)
       first k l (inr g) = rw (getD-set-other at j k s 0 (other k g)) (omega (arith, h .first k l g))
 
-  pub starting-all : (at : List ℕ) (least rest : ℕ) → Starting at least rest → rest ≡ 0
-      → NextStarts need earlier ends until held unplaced placed modules last jobs at least
-  starting-all at least rest h e = record {
+  pub starting-all : (at : List ℕ) (least todo : ℕ) → Starting at least todo → todo ≡ 0 → JobStarts t p at least
+  starting-all at least todo h e = record {
     each = λ j l. h .each j l (rw e (bit-none j));
-    low = h .low;
+    low = omega (arith, h .low, known .is .figures .last);
     first = λ j l. h .first j l (rw e (bit-none j));
   }

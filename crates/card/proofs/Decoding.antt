@@ -12,14 +12,16 @@ use Rattle.counting.specs.Counting.{joined}
 use Rattle.counting.proofs.Sums.{sum-same}
 use Rattle.counting.proofs.Ranges.{largest-le}
 use Rattle.counting.proofs.Joins.{joined-length}
+use Rattle.figures.specs.Figures.{mostModules}
 use Rattle.bits.proofs.Sets.{setOf-lt}
 use Rattle.schedule.specs.Plan.{Sheet, finish}
 use Rattle.schedule.specs.ListPlan.{Order, emptyPart, listPlan}
 use Rattle.schedule.specs.TieRule.{endOf}
 use Rattle.schedule.proofs.Sound.{completes-all, order-completes}
 use Rattle.schedule.proofs.Horizon.{ends-within}
-use Rattle.tables.specs.Tables.{sheetOf, Fit}
+use Rattle.tables.specs.Tables.{sheetOf, minutesAt, countOf, modulesOf, Fit}
 use Rattle.tables.proofs.Laws.{all-minutes}
+use Rattle.card.specs.Card.{rowSize, rowEnd, rowModules, trailerSize, trailerEnd, trailerCount, orderAt, trailerAt, cardSize}
 use Rattle.card.specs.Card.{bytesOf, rowBytes, trailerBytes, cardBytes, rowOf, cardOf}
 use Rattle.card.specs.Decoding.{numberAt, Decodes}
 use Rattle.card.proofs.Joins.{bytes-length, row-length, trailer-length}
@@ -32,54 +34,56 @@ module _ (start end modules : ℕ) where
   unfolding rowBytes
   row-start l = number-first 2 start (bytesOf 2 end ++ bytesOf 8 modules) l
 
-  row-end : end < 2 ^ 16 → numberAt (rowBytes start end modules) 2 2 ≡ end
+  row-end : end < 2 ^ 16 → numberAt (rowBytes start end modules) rowEnd 2 ≡ end
   unfolding rowBytes
   row-end l = number-next 2 2 end (bytesOf 2 start) (bytesOf 8 modules) (bytes-length 2 start) l
 
-  row-modules : modules < 2 ^ 64 → numberAt (rowBytes start end modules) 4 8 ≡ modules
+  row-modules : modules < 2 ^ 64 → numberAt (rowBytes start end modules) rowModules 8 ≡ modules
   unfolding rowBytes
   row-modules l =
       number-behind (bytesOf 2 start) (bytesOf 2 end ++ bytesOf 8 modules) 2 2 8 (bytes-length 2 start)
       ∙ number-last 2 8 modules (bytesOf 2 end) (bytes-length 2 end) l
 
 module _ (n end : ℕ) where
-  trailer-offset : 12 * n < 2 ^ 32 → numberAt (trailerBytes n end) 0 4 ≡ 12 * n
+  trailer-offset : orderAt n < 2 ^ 32 → numberAt (trailerBytes n end) 0 4 ≡ orderAt n
   unfolding trailerBytes
-  trailer-offset l = number-first 4 (12 * n) (bytesOf 2 end ++ bytesOf 2 n) l
+  trailer-offset l = number-first 4 (orderAt n) (bytesOf 2 end ++ bytesOf 2 n) l
 
-  trailer-end : end < 2 ^ 16 → numberAt (trailerBytes n end) 4 2 ≡ end
+  trailer-end : end < 2 ^ 16 → numberAt (trailerBytes n end) trailerEnd 2 ≡ end
   unfolding trailerBytes
-  trailer-end l = number-next 4 2 end (bytesOf 4 (12 * n)) (bytesOf 2 n) (bytes-length 4 (12 * n)) l
+  trailer-end l = number-next 4 2 end (bytesOf 4 (orderAt n)) (bytesOf 2 n) (bytes-length 4 (orderAt n)) l
 
-  trailer-count : n < 2 ^ 16 → numberAt (trailerBytes n end) 6 2 ≡ n
+  trailer-count : n < 2 ^ 16 → numberAt (trailerBytes n end) trailerCount 2 ≡ n
   unfolding trailerBytes
   trailer-count l =
-      number-behind (bytesOf 4 (12 * n)) (bytesOf 2 end ++ bytesOf 2 n) 4 2 2 (bytes-length 4 (12 * n))
+      number-behind (bytesOf 4 (orderAt n)) (bytesOf 2 end ++ bytesOf 2 n) 4 2 2 (bytes-length 4 (orderAt n))
       ∙ number-last 2 2 n (bytesOf 2 end) (bytes-length 2 end) l
 
 -- ---- the card
 
 -- "It has 13n + 8 bytes."
-pub card-length : (S : Sheet) (o : List ℕ) → Order S o → length (cardOf S o) ≡ 13 * S .jobs + 8
+pub card-length : (S : Sheet) (o : List ℕ) → Order S o → length (cardOf S o) ≡ cardSize (S .jobs)
 unfolding cardBytes
 card-length S o h =
     let n = S .jobs in
-    let rows = joined-length n 12 (rowOf S o) (λ j l. row-length _ _ _) in
+    let rows = joined-length n rowSize (rowOf S o) (λ j l. row-length _ _ _) in
     let tail = length-append o (trailerBytes n (endOf S o)) in
     length-append (joined n (rowOf S o)) (o ++ trailerBytes n (endOf S o)) ∙ omega (arith, h .all, trailer-length n (endOf S o))
 
-module _ (need minutes earlier : List ℕ) (jobs modules : ℕ) (fit : Fit need minutes jobs modules) (o : List ℕ)
-    (h : Order (sheetOf need minutes earlier jobs modules) o) (rest : List ℕ) where
+module _ (t : List ℕ) (fit : Fit t) (o : List ℕ) (h : Order (sheetOf t) o) (rest : List ℕ) where
   abbrev S : Sheet
-  S = sheetOf need minutes earlier jobs modules
+  S = sheetOf t
+
+  abbrev jobs : ℕ
+  jobs = countOf t
 
   -- no minute of a plan reaches 28,801
   pub end-short : (j : ℕ) → j < jobs → finish S (listPlan S o) j ≤ 28800
   end-short j l =
       let placed = completes-all S emptyPart o (order-completes S o h) j l in
       let within = ends-within S (fit .narrow) 0 (λ i k. zero-le) o (h .follows) j l placed in
-      let flat = sum-same jobs (λ i. getD minutes i 0 + 0) (λ i. getD minutes i 0) (λ i k. add-zero (getD minutes i 0)) in
-      omega (arith, all-minutes need minutes jobs modules fit)
+      let flat = sum-same jobs (λ i. minutesAt t i + 0) (λ i. minutesAt t i) (λ i k. add-zero (minutesAt t i)) in
+      omega (arith, all-minutes t fit)
 
   abbrev tail : List ℕ
   tail = trailerBytes jobs (endOf S o) ++ rest
@@ -93,20 +97,20 @@ module _ (need minutes earlier : List ℕ) (jobs modules : ℕ) (fit : Fit need 
       append-assoc (joined jobs (rowOf S o)) (o ++ trailerBytes jobs (endOf S o)) rest
       ∙ ap (λ (x : List ℕ). joined jobs (rowOf S o) ++ x) (append-assoc o (trailerBytes jobs (endOf S o)) rest)
 
-  rows-length : length (joined jobs (rowOf S o)) ≡ 12 * jobs
-  rows-length = joined-length jobs 12 (rowOf S o) (λ j l. row-length _ _ _)
+  rows-length : length (joined jobs (rowOf S o)) ≡ orderAt jobs
+  rows-length = joined-length jobs rowSize (rowOf S o) (λ j l. row-length _ _ _)
 
-  in-row : (j a k : ℕ) → j < jobs → a + k ≤ 12 → numberAt s (12 * j + a) k ≡ numberAt (rowOf S o j) a k
+  in-row : (j a k : ℕ) → j < jobs → a + k ≤ rowSize → numberAt s (rowSize * j + a) k ≡ numberAt (rowOf S o j) a k
   in-row j a k l m =
-      ap (λ (x : List ℕ). numberAt x (12 * j + a) k) rows-first
-      ∙ number-joined jobs 12 (rowOf S o) (λ i x. row-length _ _ _) (o ++ tail) j a k l m
+      ap (λ (x : List ℕ). numberAt x (rowSize * j + a) k) rows-first
+      ∙ number-joined jobs rowSize (rowOf S o) (λ i x. row-length _ _ _) (o ++ tail) j a k l m
 
-  in-trailer : (a k : ℕ) → a + k ≤ 8 → numberAt s (13 * jobs + a) k ≡ numberAt (trailerBytes jobs (endOf S o)) a k
+  in-trailer : (a k : ℕ) → a + k ≤ trailerSize → numberAt s (trailerAt jobs + a) k ≡ numberAt (trailerBytes jobs (endOf S o)) a k
   in-trailer a k m =
-      let at : 13 * jobs + a ≡ 12 * jobs + (jobs + a) = omega arith in
-      ap (λ (x : List ℕ). numberAt x (13 * jobs + a) k) rows-first
+      let at : trailerAt jobs + a ≡ orderAt jobs + (jobs + a) = omega arith in
+      ap (λ (x : List ℕ). numberAt x (trailerAt jobs + a) k) rows-first
       ∙ ap (λ (i : ℕ). numberAt (joined jobs (rowOf S o) ++ (o ++ tail)) i k) at
-      ∙ number-behind (joined jobs (rowOf S o)) (o ++ tail) (12 * jobs) (jobs + a) k rows-length
+      ∙ number-behind (joined jobs (rowOf S o)) (o ++ tail) (orderAt jobs) (jobs + a) k rows-length
       ∙ number-behind o tail jobs a k (h .all)
       ∙ number-front (trailerBytes jobs (endOf S o)) rest a k (omega (arith, trailer-length jobs (endOf S o)))
 
@@ -114,21 +118,21 @@ module _ (need minutes earlier : List ℕ) (jobs modules : ℕ) (fit : Fit need 
   pub card-decodes : Decodes S o (cardOf S o ++ rest)
   card-decodes = record {
     start = λ j l.
-        ap (λ (i : ℕ). numberAt s i 2) (sym (add-zero (12 * j))) ∙ in-row j 0 2 l (lit≤ tt)
+        ap (λ (i : ℕ). numberAt s i 2) (sym (add-zero (rowSize * j))) ∙ in-row j 0 2 l (lit≤ tt)
         ∙ row-start _ _ _ (omega (arith, end-short j l));
-    end = λ j l. in-row j 2 2 l (lit≤ tt) ∙ row-end _ _ _ (omega (arith, end-short j l));
+    end = λ j l. in-row j rowEnd 2 l (lit≤ tt) ∙ row-end _ _ _ (omega (arith, end-short j l));
     modules = λ j l.
-        in-row j 4 8 l (lit≤ tt)
-        ∙ row-modules _ _ _ (le-trans (setOf-lt modules (listPlan S o .uses j)) (pow-mono {i = modules} {j = 64} (fit .most)));
+        in-row j rowModules 8 l (lit≤ tt)
+        ∙ row-modules _ _ _ (le-trans (setOf-lt (modulesOf t) (listPlan S o .uses j)) (pow-mono {i = modulesOf t} {j = mostModules} (fit .most)));
     order = λ k l.
-        ap (λ (x : List ℕ). getD x (12 * jobs + k) 0) rows-first
+        ap (λ (x : List ℕ). getD x (orderAt jobs + k) 0) rows-first
         ∙ ap (λ (i : ℕ). getD (joined jobs (rowOf S o) ++ (o ++ tail)) (i + k) 0) (sym rows-length)
         ∙ getD-append-add (joined jobs (rowOf S o)) (o ++ tail) k 0 ∙ List·getD-append o tail 0 k (omega (arith, h .all));
     offset =
-        ap (λ (i : ℕ). numberAt s i 4) (sym (add-zero (13 * jobs))) ∙ in-trailer 0 4 (lit≤ tt)
+        ap (λ (i : ℕ). numberAt s i 4) (sym (add-zero (trailerAt jobs))) ∙ in-trailer 0 4 (lit≤ tt)
         ∙ trailer-offset jobs (endOf S o) (omega (arith, fit .few));
     last =
-        in-trailer 4 2 (lit≤ tt)
+        in-trailer trailerEnd 2 (lit≤ tt)
         ∙ trailer-end jobs (endOf S o) (omega (arith, largest-le jobs (finish S (listPlan S o)) 28800 end-short));
-    count = in-trailer 6 2 (lit≤ tt) ∙ trailer-count jobs (endOf S o) (omega (arith, fit .few));
+    count = in-trailer trailerCount 2 (lit≤ tt) ∙ trailer-count jobs (endOf S o) (omega (arith, fit .few));
   }

@@ -14,7 +14,7 @@ use mir.ValLaws.{toZ-pos, toZ-ofZ}
 use borrow.Author.Tests.{ltb-true}
 use Rattle.schedule.specs.Plan.{Sheet, finish}
 use Rattle.schedule.specs.ListPlan.{listPlan}
-use Rattle.tables.specs.Tables.{sheetOf, Fit}
+use Rattle.tables.specs.Tables.{sheetOf, countOf, Fit}
 use Rattle.card.specs.Card.{latenessOf}
 
 -- ---- in 32 bits
@@ -53,10 +53,10 @@ lateness-from end (suc d) l m = go (ltb end (suc d)) refl
     go false e = rw e (record { le = tt })
 
 -- So it is for every job of a list plan.
-module _ (need minutes earlier : List ℕ) (jobs modules : ℕ) (fit : Fit need minutes jobs modules) where
+module _ (t : List ℕ) (fit : Fit t) where
   abbrev S : Sheet
-  S = sheetOf need minutes earlier jobs modules
+  S = sheetOf t
 
-  pub plan-lateness : (o : List ℕ) (j departure : ℕ) → j < jobs → departure ≤ 2880
+  pub plan-lateness : (o : List ℕ) (j departure : ℕ) → j < countOf t → departure ≤ 2880
       → negsuc 2878 ≤ℤ latenessOf (finish S (listPlan S o) j) departure
   plan-lateness o j departure l m = lateness-from _ departure (omega (arith, fit .lasting j l)) m

@@ -6,22 +6,22 @@ use native.Mathlib.Omega.{arith}
 use lib.ListN.{length, length-append}
 use borrow.Rule.Slice.PartMut.{putMid}
 use Rattle.counting.proofs.Joins.{joined-length}
-use Rattle.card.specs.Card.{bytesOf, rowBytes, trailerBytes}
+use Rattle.card.specs.Card.{rowSize, trailerSize, orderAt, bytesOf, rowBytes, trailerBytes}
 use Rattle.card.proofs.Parts.{three-parts, whole}
 
 pub bytes-length : (k x : ℕ) → length (bytesOf k x) ≡ k
 bytes-length k x = joined-length k 1 (λ i. x / 2 ^ (8 * i) % 256 ∷ []) (λ i l. refl) ∙ omega arith
 
-pub row-length : (start end modules : ℕ) → length (rowBytes start end modules) ≡ 12
+pub row-length : (start end modules : ℕ) → length (rowBytes start end modules) ≡ rowSize
 unfolding rowBytes
 row-length start end modules =
     length-append (bytesOf 2 start) _ ∙ ap₂ _+_ (bytes-length 2 start)
     (length-append (bytesOf 2 end) _ ∙ ap₂ _+_ (bytes-length 2 end) (bytes-length 8 modules))
 
-pub trailer-length : (n end : ℕ) → length (trailerBytes n end) ≡ 8
+pub trailer-length : (n end : ℕ) → length (trailerBytes n end) ≡ trailerSize
 unfolding trailerBytes
 trailer-length n end =
-    length-append (bytesOf 4 (12 * n)) _ ∙ ap₂ _+_ (bytes-length 4 (12 * n))
+    length-append (bytesOf 4 (orderAt n)) _ ∙ ap₂ _+_ (bytes-length 4 (orderAt n))
     (length-append (bytesOf 2 end) _ ∙ ap₂ _+_ (bytes-length 2 end) (bytes-length 2 n))
 
 -- bytes of a length that is known by another number

@@ -3,7 +3,7 @@ use mathlib.Core.Path.{_≡_, sym, ap, _∙_}
 use mathlib.Core.Logic.{_⊎_, inl, inr}
 use mathlib.Core.Bool.{true, false}
 use mathlib.Core.List.{List}
-use Prim.Native.Nat.{ℕ, _+_, _*_, _≤_, _<_}
+use Prim.Native.Nat.{ℕ, _+_, _≤_, _<_}
 use native.Mathlib.Omega.{arith}
 use Rattle.counting.proofs.Tests.{true-or-false, less-or-not}
 use Rattle.counting.proofs.Ranges.{largest-same}
@@ -13,6 +13,7 @@ use Rattle.bits.proofs.Sets.{bit-setOf, bit-setOf-above}
 use Rattle.schedule.specs.Plan.{Sheet, Plan, Valid, finish, planEnd, Narrow}
 use Rattle.schedule.specs.ListPlan.{Order, listPlan}
 use Rattle.schedule.proofs.Sound.{list-plan-valid}
+use Rattle.card.specs.Card.{trailerEnd, trailerAt}
 use Rattle.card.specs.Decoding.{numberAt, planOn, Decodes}
 
 -- ---- two plans that say the same of the sheet's jobs
@@ -49,5 +50,5 @@ module _ (S : Sheet) (w : Narrow S) (o : List ℕ) (h : Order S o) (s : List ℕ
   card-valid = same-valid S (listPlan S o) (planOn s) (d .start) card-uses (list-plan-valid S w o h)
 
   -- The largest end on the card is the end in its trailer.
-  pub card-end : planEnd S (planOn s) ≡ numberAt s (13 * S .jobs + 4) 2
+  pub card-end : planEnd S (planOn s) ≡ numberAt s (trailerAt (S .jobs) + trailerEnd) 2
   card-end = same-end S (listPlan S o) (planOn s) (d .start) ∙ sym (d .last)

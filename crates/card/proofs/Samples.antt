@@ -4,26 +4,26 @@ use mathlib.Core.List.{List, [], _∷_, _++_}
 use Prim.Native.Nat.{ℕ}
 use lib.Dec.{ltb, leb, lit<, lit≤}
 use lib.IntN.{negsuc}
-use lib.ListN.{getD}
+use lib.ListN.{replicate}
 use borrow.Author.Tests.{ltb-true, leb-true}
 use Rattle.counting.specs.Counting.{sum, largest, every, any, joined}
 use Rattle.counting.proofs.Ranges.{every-at}
+use Rattle.figures.specs.Figures.{mostMinutes}
 use Rattle.bits.specs.Bits.{bit, setOf}
 use Rattle.schedule.specs.Plan.{Sheet}
 use Rattle.schedule.specs.ListPlan.{Order, ready, firstMinute, startOf, placeAll}
-use Rattle.tables.specs.Tables.{sheetOf, Fit}
+use Rattle.tables.specs.Tables.{sheetOf, needAt, minutesAt, earlierAt, Fit}
 use Rattle.card.specs.Card.{rowBytes, trailerBytes, cardBytes, cardOf, latenessOf}
 use Rattle.card.specs.Decoding.{Decodes}
 use Rattle.card.proofs.Decoding.{card-decodes}
 
-abbrev needs : List ℕ
-needs = 1 ∷ 2 ∷ 1 ∷ []
-
-abbrev lengths : List ℕ
-lengths = 10 ∷ 20 ∷ 10 ∷ []
+-- the job table of three jobs that wait for none: their modules, their minutes, how many they are, and how many modules there are
+abbrev table : List ℕ
+table =
+    (1 ∷ 2 ∷ 1 ∷ replicate 17 0) ++ ((10 ∷ 20 ∷ 10 ∷ replicate 17 0) ++ (replicate 60 0 ++ (3 ∷ 2 ∷ 0 ∷ [])))
 
 abbrev pub e1 : Sheet
-e1 = sheetOf needs lengths (0 ∷ 0 ∷ 0 ∷ []) 3 2
+e1 = sheetOf table
 
 -- E1: "Its order is 0, 2, 1, and its card has 47 bytes."
 abbrev pub order : List ℕ
@@ -38,11 +38,11 @@ bytes =
     ∷ 36 ∷ 0 ∷ 0 ∷ 0 ∷ 30 ∷ 0 ∷ 3 ∷ 0 ∷ []
 
 pub e1-card : cardOf e1 order ≡ bytes
-unfolding bit setOf sum largest any firstMinute startOf placeAll joined rowBytes trailerBytes cardBytes
+unfolding bit setOf earlierAt sum largest any firstMinute startOf placeAll joined rowBytes trailerBytes cardBytes
 e1-card = refl
 
 -- E2: "n = 0, N = 1: end 0, a card of 8 zero bytes."
-pub e2-card : cardOf (sheetOf [] [] [] 0 1) [] ≡ 0 ∷ 0 ∷ 0 ∷ 0 ∷ 0 ∷ 0 ∷ 0 ∷ 0 ∷ []
+pub e2-card : cardOf (sheetOf (replicate 100 0 ++ (0 ∷ 1 ∷ 0 ∷ []))) [] ≡ 0 ∷ 0 ∷ 0 ∷ 0 ∷ 0 ∷ 0 ∷ 0 ∷ 0 ∷ []
 unfolding sum largest joined rowBytes trailerBytes cardBytes
 e2-card = refl
 
@@ -52,20 +52,20 @@ lowest-lateness = refl
 
 -- ---- E1 meets what the theorem of decoding asks
 
-e1-fit : Fit needs lengths 3 2
+e1-fit : Fit table
 unfolding every
 e1-fit = record {
   few = lit≤ tt;
   some = lit< tt;
   most = lit≤ tt;
-  narrow = λ j l. leb-true (getD needs j 0) 2 (every-at 3 (λ j. leb (getD needs j 0) 2) refl j l);
-  lasting = λ j l. ltb-true 0 (getD lengths j 0) (every-at 3 (λ j. ltb 0 (getD lengths j 0)) refl j l);
-  short = λ j l. leb-true (getD lengths j 0) 1440 (every-at 3 (λ j. leb (getD lengths j 0) 1440) refl j l);
+  narrow = λ j l. leb-true (needAt table j) 2 (every-at 3 (λ j. leb (needAt table j) 2) refl j l);
+  lasting = λ j l. ltb-true 0 (minutesAt table j) (every-at 3 (λ j. ltb 0 (minutesAt table j)) refl j l);
+  short = λ j l. leb-true (minutesAt table j) mostMinutes (every-at 3 (λ j. leb (minutesAt table j) mostMinutes) refl j l);
 }
 
 e1-order : Order e1 order
-unfolding bit every ready
+unfolding bit earlierAt every ready
 e1-order = record { all = refl; follows = (refl, (refl, (refl, tt))) }
 
 pub e1-decodes : (rest : List ℕ) → Decodes e1 order (cardOf e1 order ++ rest)
-e1-decodes rest = card-decodes needs lengths (0 ∷ 0 ∷ 0 ∷ []) 3 2 e1-fit order e1-order rest
+e1-decodes rest = card-decodes table e1-fit order e1-order rest

@@ -4,12 +4,29 @@ ghost use mathlib.Core.List.{_++_};
 ghost use Prim.Native.Nat.{_+_, _*_, _≤_};
 ghost use lib.ListN.{length, take, drop};
 ghost use Rattle.counting.specs.Counting.{joined};
+ghost use Rattle.figures.specs.Figures.{mostJobs};
 ghost use Rattle.schedule.specs.ListPlan.{Order};
 ghost use Rattle.schedule.specs.TieRule.{endOf};
-ghost use Rattle.tables.specs.Tables.{sheetOf, Fit};
-ghost use Rattle.card.specs.Card.{bytesOf, rowBytes, trailerBytes, cardBytes, cardOf, latenessOf};
+ghost use Rattle.tables.specs.Tables.{sheetOf, countOf, Fit};
+ghost use Rattle.card.specs.Card.{rowSize, trailerSize, cardSize, bytesOf, rowBytes, trailerBytes, cardBytes, cardOf, latenessOf};
 ghost use Rattle.card.specs.Rows.{slotRow};
+use figures::MOST_JOBS;
 use replay::Slots;
+use tables::Jobs;
+
+// The bytes of a row: the job's start, at ROW_END its end, and at ROW_MODULES its module set.
+pub const ROW_SIZE: usize = 12;
+
+pub const ROW_END: usize = 2;
+
+pub const ROW_MODULES: usize = 4;
+
+// The bytes of the trailer: the offset of the order, at TRAILER_END the plan's end, and at TRAILER_COUNT the number of jobs.
+pub const TRAILER_SIZE: usize = 8;
+
+pub const TRAILER_END: usize = 4;
+
+pub const TRAILER_COUNT: usize = 6;
 
 // The number over the whole part, its lowest byte first.
 fn write_number(part: &mut [u8], x: u64)
@@ -25,23 +42,23 @@ fn write_number(part: &mut [u8], x: u64)
 
 // A row over the whole part.
 fn write_row(part: &mut [u8], start: u16, end: u16, modules: u64)
-    requires { ⌜ length (now part) ≡ 12 ⌝ }
+    requires { ⌜ length (now part) ≡ rowSize ⌝ }
     ensures { λ _. ⌜ now (part .exit) ≡ rowBytes start end modules ⌝ }
 {
-    write_number(&mut part[0..2], start as u64);
-    write_number(&mut part[2..4], end as u64);
-    write_number(&mut part[4..12], modules);
+    write_number(&mut part[0..ROW_END], start as u64);
+    write_number(&mut part[ROW_END..ROW_MODULES], end as u64);
+    write_number(&mut part[ROW_MODULES..ROW_SIZE], modules);
 }
 
 // The rows over the whole part, in job order.
-fn write_rows(part: &mut [u8], slots: Slots, jobs: usize)
-    requires { ⌜ (jobs ≤ 20) × (length (now part) ≡ 12 * jobs) ⌝ }
-    ensures { λ _. ⌜ now (part .exit) ≡ joined jobs (slotRow slots) ⌝ }
+fn write_rows(part: &mut [u8], slots: Slots, count: usize)
+    requires { ⌜ (count ≤ mostJobs) × (length (now part) ≡ rowSize * count) ⌝ }
+    ensures { λ _. ⌜ now (part .exit) ≡ joined count (slotRow slots) ⌝ }
 {
     let mut j: usize = 0;
-    while j < jobs {
-        let at = 12 * j;
-        let to = at + 12;
+    while j < count {
+        let at = ROW_SIZE * j;
+        let to = at + ROW_SIZE;
         write_row(
             &mut part[at..to],
             slots.start[j],
@@ -53,62 +70,51 @@ fn write_rows(part: &mut [u8], slots: Slots, jobs: usize)
 }
 
 // The order over the whole part, a byte per job.
-fn write_order(part: &mut [u8], order: &[u8; 20], jobs: usize)
-    requires { ⌜ (jobs ≤ 20) × ((jobs ≤ length (now order)) × (length (now part) ≡ jobs)) ⌝ }
-    ensures { λ _. ⌜ now (part .exit) ≡ take jobs (now (order .entry)) ⌝ }
+fn write_order(part: &mut [u8], order: &[u8; MOST_JOBS], count: usize)
+    requires { ⌜ (count ≤ mostJobs) × ((count ≤ length (now order)) × (length (now part) ≡ count)) ⌝ }
+    ensures { λ _. ⌜ now (part .exit) ≡ take count (now (order .entry)) ⌝ }
 {
     let mut k: usize = 0;
-    while k < jobs {
+    while k < count {
         part[k] = order[k];
         k += 1;
     }
 }
 
 // The trailer over the whole part.
-fn write_trailer(part: &mut [u8], jobs: usize, end: u16)
-    requires { ⌜ (jobs ≤ 20) × (length (now part) ≡ 8) ⌝ }
-    ensures { λ _. ⌜ now (part .exit) ≡ trailerBytes jobs end ⌝ }
+fn write_trailer(part: &mut [u8], count: usize, end: u16)
+    requires { ⌜ (count ≤ mostJobs) × (length (now part) ≡ trailerSize) ⌝ }
+    ensures { λ _. ⌜ now (part .exit) ≡ trailerBytes count end ⌝ }
 {
-    write_number(&mut part[0..4], (12 * jobs) as u64);
-    write_number(&mut part[4..6], end as u64);
-    write_number(&mut part[6..8], jobs as u64);
+    write_number(&mut part[0..TRAILER_END], (ROW_SIZE * count) as u64);
+    write_number(&mut part[TRAILER_END..TRAILER_COUNT], end as u64);
+    write_number(&mut part[TRAILER_COUNT..TRAILER_SIZE], count as u64);
 }
 
 // Writes the card at the front of the lent bytes, rows, order and trailer each into its own part; the bytes behind it stay.
-pub fn write_card(slots: Slots, order: &[u8; 20], jobs: usize, end: u16, card: &mut [u8])
-    requires { ⌜ (jobs ≤ 20) × ((jobs ≤ length (now order)) × (13 * jobs + 8 ≤ length (now card))) ⌝ }
+pub fn write_card(card: &mut [u8], slots: Slots, order: &[u8; MOST_JOBS], count: usize, end: u16)
+    requires { ⌜ (count ≤ mostJobs) × ((count ≤ length (now order)) × (cardSize count ≤ length (now card))) ⌝ }
     ensures { λ _. ⌜ now (card .exit)
-        ≡ cardBytes jobs (slotRow slots) (take jobs (now (order .entry))) end ++ drop (13 * jobs + 8) (now (card .entry)) ⌝ }
+        ≡ cardBytes count (slotRow slots) (take count (now (order .entry))) end ++ drop (cardSize count) (now (card .entry)) ⌝ }
 {
-    let rows = 12 * jobs;
-    let orders = 13 * jobs;
-    let all = orders + 8;
-    write_rows(&mut card[0..rows], slots, jobs);
-    write_order(&mut card[rows..orders], order, jobs);
-    write_trailer(&mut card[orders..all], jobs, end);
+    let rows = ROW_SIZE * count;
+    let orders = rows + count;
+    let all = orders + TRAILER_SIZE;
+    write_rows(&mut card[0..rows], slots, count);
+    write_order(&mut card[rows..orders], order, count);
+    write_trailer(&mut card[orders..all], count, end);
 }
 
 // Writes the card of the list plan of the order, which ends at `end`, at the front of the lent bytes; the bytes behind it stay.
-pub fn write_plan(
-    need: &[u16; 20],
-    minutes: &[u16; 20],
-    earlier: &[u32; 20],
-    jobs: usize,
-    modules: u16,
-    order: &[u8; 20],
-    end: u16,
-    card: &mut [u8],
-)
-    requires { ⌜ ((Fit (now need) (now minutes) jobs modules)
-        × (Order (sheetOf (now need) (now minutes) (now earlier) jobs modules) (take jobs (now order))))
-        × ((end ≡ endOf (sheetOf (now need) (now minutes) (now earlier) jobs modules) (take jobs (now order)))
-        × (13 * jobs + 8 ≤ length (now card))) ⌝ }
+pub fn write_plan(card: &mut [u8], jobs: &Jobs, order: &[u8; MOST_JOBS], end: u16)
+    requires { ⌜ ((Fit (now jobs)) × (Order (sheetOf (now jobs)) (take (countOf (now jobs)) (now order))))
+        × ((end ≡ endOf (sheetOf (now jobs)) (take (countOf (now jobs)) (now order))) × (cardSize (countOf (now jobs)) ≤ length (now card))) ⌝ }
     ensures { λ _. ⌜ now (card .exit)
-        ≡ cardOf (sheetOf (now (need .entry)) (now (minutes .entry)) (now (earlier .entry)) jobs modules) (take jobs (now (order .entry)))
-        ++ drop (13 * jobs + 8) (now (card .entry)) ⌝ }
+        ≡ cardOf (sheetOf (now (jobs .entry))) (take (countOf (now (jobs .entry))) (now (order .entry)))
+        ++ drop (cardSize (countOf (now (jobs .entry)))) (now (card .entry)) ⌝ }
 {
-    let slots = replay::replay(need, minutes, earlier, jobs, modules, order);
-    write_card(slots, order, jobs, end, card);
+    let slots = replay::replay(jobs, order);
+    write_card(card, slots, order, tables::count(jobs), end);
 }
 
 // A job's end minus its departure, which may be negative.

@@ -45,6 +45,11 @@ unfolding firstFailing
 none-failing [] p = refl
 none-failing (c ∷ cs) p = rw (p .0) (none-failing cs (p .1))
 
+-- a passed list is taken apart at its joint
+pub both-passed : (a b : List Check) → Passed (a ++ b) → Passed a × Passed b
+both-passed [] b p = (tt, p)
+both-passed (c ∷ cs) b p = let q = both-passed cs b (p .1) in ((p .0, q .0), q .1)
+
 -- a failing check in front decides, and passed ones in front do not count
 pub first-in-front : (a b : List Check) → (firstFailing a ≡ 0 → ⊥) → firstFailing (a ++ b) ≡ firstFailing a
 unfolding firstFailing

@@ -5,3 +5,4 @@ pub mod Intervals
 pub mod Ranges
 pub mod Counts
 pub mod Joins
+pub mod Loops

@@ -1,6 +1,6 @@
 // The edges of planning.
 use cases::print_case;
-use sheet::Job;
+use sheet_format::Job;
 
 // The lengths of the sheets of one job and of twenty jobs with labels of one byte.
 const ONE: usize = 19;

@@ -22,7 +22,8 @@ use Rattle.sheet_format.specs.Format.{recordAt, recordBytes, trailerBytes, shee
 use Rattle.sheet_format.specs.Format.{places as sheet-places}
 use Rattle.sheet_format.specs.Checks.{outside, faulty}
 use Rattle.sheet.specs.Read.{reading}
-use Rattle.planner.specs.Planning.{noOrder, planRefusal, bestCard, cardAfter}
+use Rattle.planable.specs.Planable.{noOrder}
+use Rattle.planner.specs.Planning.{planRefusal, bestCard, cardAfter}
 use Rattle.desk.specs.declared.Desk.{Desk}
 use Rattle.desk.specs.Checks.{wrongLengths, wrongFigures, sharesExceed, deskOk, notOfDesk}
 use Rattle.desk.specs.Calls.{Call, openRefusal, opened, claimRefusal, claimed, handBackRefusal, handedBack, lookRefusal, looked}

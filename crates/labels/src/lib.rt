@@ -3,7 +3,7 @@ ghost use mathlib.Core.Path.{_≡_};
 ghost use Prim.Native.Nat.{_+_};
 ghost use Rattle.sheet.specs.Label.{labelRefusal, labelOf, labelAt, labelPlace};
 use sheet::LabelPlace;
-use sheet_format::figures::RECORD_SIZE;
+use sheet_format::layout::RECORD_SIZE;
 
 // The number of a label call: the first refusal of 1 to 7, then 14, or 0 where there is a label.
 pub fn label_refusal(sheet: &[u8], job: usize) -> u32

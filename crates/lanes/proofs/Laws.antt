@@ -12,15 +12,19 @@ use Rattle.counting.proofs.Sums.{sum-le, sum-same, sum-mul}
 use Rattle.counting.proofs.Intervals.{sum-from, sum-past}
 use Rattle.bits.specs.Bits.{bit}
 use Rattle.schedule.specs.Bounds.{gain}
-use Rattle.placement.specs.Profile.{heldAt, Profile}
+use Rattle.figures.specs.Figures.{mostModules}
+use Rattle.tables.specs.Tables.{minutesAt, countOf, modulesOf}
+use Rattle.tables.specs.Part.{Part}
+use Rattle.placement.specs.Profile.{heldOf, ProfileOf}
+use Rattle.weights.specs.Weights.{allWeight}
 use Rattle.weights.proofs.Walks.{Walk, free-at}
-use Rattle.values.specs.Values.{reachAt, mostAt, worthAt, stepOf, Laned}
-use Rattle.lanes.specs.Lanes.{reachIn, servedOn, Serving, Overfull}
+use Rattle.values.specs.Values.{steps, reachAt, mostAt, worthAt, stepOf, Laned}
+use Rattle.lanes.specs.Lanes.{reachIn, servedOn, mostServed, Serving, Overfull}
 
 pub div-rises : (a b s : ℕ) → 0 < s → a ≤ b → a / s ≤ b / s
 div-rises a b s pos x = le-div-iff-mul-le pos .1 (le-trans (div-mul-le-self a s) x)
 
-pub place-inside : (T t s : ℕ) → 0 < s → T / s < 1024 → (T - t) / s < 1024
+pub place-inside : (T t s : ℕ) → 0 < s → T / s < steps → (T - t) / s < steps
 place-inside T t s pos l = omega (arith, div-rises (T - t) T s pos (omega arith))
 
 -- ---- a stretch of minutes in which as many lanes are open
@@ -54,8 +58,8 @@ module _ (Z : ℕ → ℕ) (T : ℕ) (rises : Rises T Z) (g : ℕ → ℕ) (c : 
 
 -- ---- the walk
 
-module _ {lanes until held : List ℕ} {placed gone free modules l T : ℕ} (s : Serving lanes until held placed gone free modules l T) where
-  pub inside-table : (x : ℕ) → x ≤ T → x / stepOf lanes < 1024
+module _ {lanes : List ℕ} {p : Part} {gone free modules l T : ℕ} (s : Serving lanes p gone free modules l T) where
+  pub inside-table : (x : ℕ) → x ≤ T → x / stepOf lanes < steps
   inside-table x m = omega (arith, div-rises x T (stepOf lanes) (s .step-some) m, s .inside)
 
   pub reach-in-rises : Rises T (reachIn lanes)
@@ -66,12 +70,12 @@ module _ {lanes until held : List ℕ} {placed gone free modules l T : ℕ} (s :
   reach-in-none = ap (reachAt lanes) (zero-div (stepOf lanes)) ∙ s .reach-none
 
   abbrev served : ℕ → ℕ
-  served a = servedOn (mostAt lanes) (reachIn lanes) until held modules placed a T
+  served a = servedOn (mostAt lanes) (reachIn lanes) modules p a T
 
   -- what is served up to minute `at`, from which a lane reaches so much
   pub record Served (total at reach : ℕ) : Type 0 where
     pub reach-is : reach ≡ reachIn lanes (T - at)
-    pub low : total + 720 * reach ≤ 3672000
+    pub low : total + allWeight * reach ≤ mostServed
     pub all : total + served at ≡ served l
 
   pub serve-start : (reach : ℕ) → reach ≡ reachIn lanes (T - l) → Served 0 l reach
@@ -81,57 +85,56 @@ module _ {lanes until held : List ℕ} {placed gone free modules l T : ℕ} (s :
     all = omega arith;
   }
 
-  module _ {at f i total reach : ℕ} (w : Walk until held placed modules T at f i) (h : Served total at reach) where
-    pub lanes-few : mostAt lanes f ≤ 720
-    lanes-few = s .most-small f (omega (arith, w .rest, w .narrow))
+  module _ {at f i total reach : ℕ} (w : Walk p modules T at f i) (h : Served total at reach) where
+    pub lanes-few : mostAt lanes f ≤ allWeight
+    lanes-few = s .most-small f (omega (arith, w .balance, w .narrow))
 
     pub reach-falls : (b : ℕ) → at ≤ b → reachIn lanes (T - b) ≤ reach
     reach-falls b x = rw (h .reach-is) (reach-in-rises (T - b) (T - at) (omega arith) (omega arith))
 
-    pub serve-low : (rest : ℕ) → rest ≤ reach → total + mostAt lanes f * (reach - rest) + 720 * rest ≤ 3672000
-    serve-low rest x = omega (arith, h .low, mul-le-mul-right (reach - rest) lanes-few)
+    pub serve-low : (next : ℕ) → next ≤ reach → total + mostAt lanes f * (reach - next) + allWeight * next ≤ mostServed
+    serve-low next x = omega (arith, h .low, mul-le-mul-right (reach - next) lanes-few)
 
-    pub serve-all-low : total + mostAt lanes f * reach ≤ 3672000
+    pub serve-all-low : total + mostAt lanes f * reach ≤ mostServed
     serve-all-low = omega (arith, h .low, mul-le-mul-right reach lanes-few)
 
     -- up to a minute before which none of the others ends
-    serve-to : (b : ℕ) → at ≤ b → b ≤ T → ((t k : ℕ) → at ≤ t → t < b → i ≤ k → k < placed → t < getD until k 0)
+    serve-to : (b : ℕ) → at ≤ b → b ≤ T → ((t k : ℕ) → at ≤ t → t < b → i ≤ k → k < p .placed → t < getD (p .until) k 0)
         → total + mostAt lanes f * (reach - reachIn lanes (T - b)) + served b ≡ served l
     unfolding servedOn
     serve-to b x y n =
         let d : at + (b - at) ≡ b = omega arith in
-        let g = gains-from (reachIn lanes) T reach-in-rises (λ t. mostAt lanes (modules - heldAt until held placed t)) (mostAt lanes f)
-        (b - at) at (omega arith) (λ t p q. ap (mostAt lanes) (free-at w t p (omega arith) (λ k m o. n t k p (omega arith) m o))) in
+        let g = gains-from (reachIn lanes) T reach-in-rises (λ t. mostAt lanes (modules - heldOf p t)) (mostAt lanes f)
+        (b - at) at (omega arith) (λ t u v. ap (mostAt lanes) (free-at w t u (omega arith) (λ k m o. n t k u (omega arith) m o))) in
         let step : served at ≡ mostAt lanes f * (reachIn lanes (T - at) - reachIn lanes (T - b)) + served b = rw d at g in
         rw (h .reach-is) (omega (arith, step, h .all))
 
-    pub serve-step : (to rest : ℕ) → to ≡ max at (min (getD until i 0) T) → rest ≡ reachIn lanes (T - to)
-        → Served (total + mostAt lanes f * (reach - rest)) to rest
-    serve-step to rest e r =
+    pub serve-step : (to next : ℕ) → to ≡ max at (min (getD (p .until) i 0) T) → next ≡ reachIn lanes (T - to)
+        → Served (total + mostAt lanes f * (reach - next)) to next
+    serve-step to next e r =
         let on : at ≤ to = omega arith in
-        let low : rest ≤ reach = rw r (reach-falls to on) in
+        let low : next ≤ reach = rw r (reach-falls to on) in
         record {
           reach-is = r;
-          low = serve-low rest low;
+          low = serve-low next low;
           all = rw r (serve-to to on (omega (arith, w .before)) (λ t k x y n o. omega (arith, w .sorted i k n o)));
         }
 
-    pub serve-done : placed ≤ i → total + mostAt lanes f * reach ≡ served l
+    pub serve-done : p .placed ≤ i → total + mostAt lanes f * reach ≡ served l
     unfolding servedOn
     serve-done m =
         let all = serve-to T (w .before) (le-refl _) (λ t k x y n o. absurd (omega arith)) in
         let end : reachIn lanes (T - T) ≡ 0 = ap (reachIn lanes) (omega arith) ∙ reach-in-none in
         let whole : reach - reachIn lanes (T - T) ≡ reach = omega (arith, end) in
-        let past = sum-past T (λ t. mostAt lanes (modules - heldAt until held placed t) * gain (reachIn lanes) T t) in
+        let past = sum-past T (λ t. mostAt lanes (modules - heldOf p t) * gain (reachIn lanes) T t) in
         let done : total + mostAt lanes f * reach + served T ≡ served l = rw whole at all in
         omega (arith, done, past)
 
 -- ---- the answer
 
-pub serving : {need minutes lanes until held : List ℕ} {jobs placed gone free modules l T : ℕ} → Laned need minutes jobs modules lanes
-    → Profile until held placed gone free modules l → modules ≤ 64 → l ≤ T → T / stepOf lanes < 1024
-    → Serving lanes until held placed gone free modules l T
-serving h profile narrow before inside = record {
+pub serving : {t lanes : List ℕ} (p : Part) {gone free modules l T : ℕ} → Laned t lanes → ProfileOf p gone free modules l
+    → modules ≤ mostModules → l ≤ T → T / stepOf lanes < steps → Serving lanes p gone free modules l T
+serving p h profile narrow before inside = record {
   step-some = h .step-some;
   inside = inside;
   most-small = h .most-small;
@@ -144,21 +147,20 @@ serving h profile narrow before inside = record {
 }
 
 -- jobs that last x minutes together last no more whole steps than x minutes have
-steps-together : (minutes : List ℕ) (jobs s : ℕ) → 0 < s → (X : ℕ → Bool) (x : ℕ) → sum jobs (λ k. only (X k) (getD minutes k 0)) ≤ x
-    → sum jobs (λ k. only (X k) (getD minutes k 0 / s)) ≤ x / s
+steps-together : (minutes : ℕ → ℕ) (jobs s : ℕ) → 0 < s → (X : ℕ → Bool) (x : ℕ) → sum jobs (λ k. only (X k) (minutes k)) ≤ x
+    → sum jobs (λ k. only (X k) (minutes k / s)) ≤ x / s
 steps-together minutes jobs s pos X x l =
-    let each = sum-le jobs (λ k. only (X k) (getD minutes k 0 / s) * s) (λ k. only (X k) (getD minutes k 0)) (λ k m. one k (X k)) in
-    le-div-iff-mul-le pos .1 (omega (arith, each, sum-mul jobs (λ k. only (X k) (getD minutes k 0 / s)) s))
+    let each = sum-le jobs (λ k. only (X k) (minutes k / s) * s) (λ k. only (X k) (minutes k)) (λ k m. one k (X k)) in
+    le-div-iff-mul-le pos .1 (omega (arith, each, sum-mul jobs (λ k. only (X k) (minutes k / s)) s))
   where
-    one : (k : ℕ) (b : Bool) → only b (getD minutes k 0 / s) * s ≤ only b (getD minutes k 0)
-    one k true = div-mul-le-self (getD minutes k 0) s
+    one : (k : ℕ) (b : Bool) → only b (minutes k / s) * s ≤ only b (minutes k)
+    one k true = div-mul-le-self (minutes k) s
     one k false = omega arith
 
-pub overfull-by : {need minutes lanes until held : List ℕ} {jobs placed gone free modules set l T : ℕ}
-    → Laned need minutes jobs modules lanes → Serving lanes until held placed gone free modules l T
-    → servedOn (mostAt lanes) (reachIn lanes) until held modules placed l T < sum jobs (λ k. only (bit set k) (worthAt lanes k))
-    → Overfull need minutes until held jobs modules placed set l T
-overfull-by {minutes = minutes} {lanes = lanes} {jobs = jobs} {set = set} {T = T} h s over = record {
+pub overfull-by : {t lanes : List ℕ} {p : Part} {gone free l T : ℕ} → Laned t lanes → Serving lanes p gone free (modulesOf t) l T
+    → servedOn (mostAt lanes) (reachIn lanes) (modulesOf t) p l T
+    < sum (countOf t) (λ k. only (bit (p .unplaced) k) (worthAt lanes k)) → Overfull t p l T
+overfull-by {t} {lanes} {p} {T = T} h s over = record {
   weight = h .weight;
   value = h .value;
   most = mostAt lanes;
@@ -166,13 +168,13 @@ overfull-by {minutes = minutes} {lanes = lanes} {jobs = jobs} {set = set} {T = T
   weighs = h .weighs;
   most-rises = h .most-rises;
   lasts = λ X x m short. h .serves X (x / stepOf lanes) (inside-table s x m)
-      (steps-together minutes jobs (stepOf lanes) (s .step-some) X x short);
+      (steps-together (minutesAt t) (countOf t) (stepOf lanes) (s .step-some) X x short);
   reach-rises = reach-in-rises s;
   reach-none = reach-in-none s;
   over = omega (
     arith,
     over,
-    sum-same jobs (λ k. only (bit set k) (worthAt lanes k)) (λ k. only (bit set k) (h .weight k * h .value k))
-        (λ k m. ap (λ (x : ℕ). only (bit set k) x) (h .worth-is k m)),
+    sum-same (countOf t) (λ k. only (bit (p .unplaced) k) (worthAt lanes k)) (λ k. only (bit (p .unplaced) k) (h .weight k * h .value k))
+        (λ k m. ap (λ (x : ℕ). only (bit (p .unplaced) k) x) (h .worth-is k m)),
   );
 }

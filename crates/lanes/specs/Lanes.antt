@@ -3,44 +3,49 @@ use mathlib.Core.Path.{_≡_}
 use mathlib.Core.List.{List}
 use Prim.Native.Nat.{ℕ, _-_, _*_, _/_, _≤_, _<_}
 use lib.Dec.{leb}
-use lib.ListN.{getD}
 use Rattle.counting.specs.Counting.{only, sum, Rises, Holds}
+use Rattle.figures.specs.Figures.{mostModules}
 use Rattle.bits.specs.Bits.{bit}
 use Rattle.schedule.specs.Bounds.{gain}
-use Rattle.placement.specs.Profile.{heldAt, Profile}
-use Rattle.weights.specs.Weights.{Weighs}
-use Rattle.values.specs.Values.{reachAt, mostAt, stepOf}
+use Rattle.tables.specs.Tables.{minutesAt, countOf, modulesOf}
+use Rattle.tables.specs.Part.{Part}
+use Rattle.placement.specs.Profile.{heldOf, ProfileOf}
+use Rattle.weights.specs.Weights.{widths, allWeight, Weighs}
+use Rattle.values.specs.Values.{steps, allValue, reachAt, mostAt, stepOf}
 
 -- the most value that a lane can serve in x minutes
 abbrev pub reachIn : List ℕ → ℕ → ℕ
 reachIn lanes x = reachAt lanes (x / stepOf lanes)
 
 -- what the lanes serve from minute l up to minute T: as many are open as weight can stand on the modules that are free
-unfoldable pub servedOn : (ℕ → ℕ) → (ℕ → ℕ) → List ℕ → List ℕ → ℕ → ℕ → ℕ → ℕ → ℕ
-servedOn most reach until held modules placed l T =
-    sum T (λ t. only (leb l t) (most (modules - heldAt until held placed t) * gain reach T t))
+unfoldable pub servedOn : (ℕ → ℕ) → (ℕ → ℕ) → ℕ → Part → ℕ → ℕ → ℕ
+servedOn most reach modules p l T = sum T (λ m. only (leb l m) (most (modules - heldOf p m) * gain reach T m))
 
--- the jobs of the set have more value than lanes for some weights and values can serve
-pub record Overfull (need minutes until held : List ℕ) (jobs modules placed set l T : ℕ) : Type 0 where
+-- what they serve at most
+abbrev pub mostServed : ℕ
+mostServed = allWeight * allValue
+
+-- the unplaced jobs have more value than lanes for some weights and values can serve
+pub record Overfull (t : List ℕ) (p : Part) (l T : ℕ) : Type 0 where
   pub weight : ℕ → ℕ
   pub value : ℕ → ℕ
   pub most : ℕ → ℕ
   pub reach : ℕ → ℕ
-  pub weighs : Weighs need jobs modules weight most
-  pub most-rises : Rises modules most
-  pub lasts : Holds (λ k. getD minutes k 0) jobs T value reach
+  pub weighs : Weighs t weight most
+  pub most-rises : Rises (modulesOf t) most
+  pub lasts : Holds (minutesAt t) (countOf t) T value reach
   pub reach-rises : Rises T reach
   pub reach-none : reach 0 ≡ 0
-  pub over : servedOn most reach until held modules placed l T < sum jobs (λ k. only (bit set k) (weight k * value k))
+  pub over : servedOn most reach (modulesOf t) p l T < sum (countOf t) (λ k. only (bit (p .unplaced) k) (weight k * value k))
 
 -- what the walk over the ends asks of its figures
-pub record Serving (lanes until held : List ℕ) (placed gone free modules l T : ℕ) : Type 0 where
+pub record Serving (lanes : List ℕ) (p : Part) (gone free modules l T : ℕ) : Type 0 where
   pub step-some : 0 < stepOf lanes
-  pub inside : T / stepOf lanes < 1024
-  pub most-small : (x : ℕ) → x < 65 → mostAt lanes x ≤ 720
-  pub reach-rises : (a b : ℕ) → a ≤ b → b < 1024 → reachAt lanes a ≤ reachAt lanes b
+  pub inside : T / stepOf lanes < steps
+  pub most-small : (x : ℕ) → x < widths → mostAt lanes x ≤ allWeight
+  pub reach-rises : (a b : ℕ) → a ≤ b → b < steps → reachAt lanes a ≤ reachAt lanes b
   pub reach-none : reachAt lanes 0 ≡ 0
-  pub reach-small : (x : ℕ) → x < 1024 → reachAt lanes x ≤ 5100
-  pub profile : Profile until held placed gone free modules l
-  pub narrow : modules ≤ 64
+  pub reach-small : (x : ℕ) → x < steps → reachAt lanes x ≤ allValue
+  pub profile : ProfileOf p gone free modules l
+  pub narrow : modules ≤ mostModules
   pub before : l ≤ T

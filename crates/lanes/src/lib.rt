@@ -1,124 +1,120 @@
 // The bound by lanes: whether the jobs that are left have more value than the lanes that come open can serve by a target.
 ghost use mathlib.Core.Path.{_≡_};
 ghost use mathlib.Core.Bool.{true};
-ghost use Prim.Native.Nat.{ℕ, _+_, _-_, _*_, _/_, _<_, _≤_};
+ghost use Prim.Native.Nat.{ℕ, _-_, _/_, _<_, _≤_};
 ghost use Rattle.counting.specs.Counting.{only, sum};
+ghost use Rattle.figures.specs.Figures.{mostJobs, mostModules};
 ghost use Rattle.bits.specs.Bits.{bit};
-ghost use Rattle.tables.specs.Tables.{Fit};
-ghost use Rattle.placement.specs.Profile.{Profile};
-ghost use Rattle.values.specs.Values.{mostAt, worthAt, stepOf, Laned};
+ghost use Rattle.tables.specs.Tables.{countOf, modulesOf, Fit};
+ghost use Rattle.tables.specs.Part.{partIn};
+ghost use Rattle.tables.specs.Prepared.{lanesIn};
+ghost use Rattle.placement.specs.Profile.{ProfileOf};
+ghost use Rattle.values.specs.Values.{steps, mostLaneWorth, mostAt, worthAt, stepOf, Laned};
 ghost use Rattle.lanes.specs.Lanes.{reachIn, servedOn, Serving, Overfull};
+use tables::Jobs;
+use tables::Part;
+use tables::Prepared;
+
+// The minutes of a step.
+fn step_of(prepared: &Prepared) -> u32
+    ensures { λ r. ⌜ r ≡ stepOf (lanesIn (now (prepared .entry))) ⌝ }
+{
+    tables::lanes(prepared, values::STEP_AT)
+}
 
 // The most value that a lane can serve from minute t up to the target.
-fn reach_from(lanes: &[u32; 1110], t: u16, target: u16) -> u32
-    requires { ⌜ (0 < stepOf (now lanes)) × ((target / stepOf (now lanes) < 1024) × (t ≤ target)) ⌝ }
-    ensures { λ r. ⌜ r ≡ reachIn (now (lanes .entry)) (target - t) ⌝ }
+fn reach_from(prepared: &Prepared, t: u16, target: u16) -> u32
+    requires { ⌜ (0 < stepOf (lanesIn (now prepared))) × ((target / stepOf (lanesIn (now prepared)) < steps) × (t ≤ target)) ⌝ }
+    ensures { λ r. ⌜ r ≡ reachIn (lanesIn (now (prepared .entry))) (target - t) ⌝ }
 {
-    lanes[values::steps(target - t, lanes[1109])]
+    tables::lanes(prepared, values::steps(target - t, step_of(prepared)))
 }
 
 // How many lanes are open on x free modules.
-fn lanes_on(lanes: &[u32; 1110], x: u16) -> u32
-    requires { ⌜ x ≤ 64 ⌝ }
-    ensures { λ r. ⌜ r ≡ mostAt (now (lanes .entry)) x ⌝ }
+fn lanes_on(prepared: &Prepared, x: u16) -> u32
+    requires { ⌜ x ≤ mostModules ⌝ }
+    ensures { λ r. ⌜ r ≡ mostAt (lanesIn (now (prepared .entry))) x ⌝ }
 {
-    lanes[1024 + (x as usize)]
+    tables::lanes(prepared, values::MOST_AT + (x as usize))
 }
 
 // What the lanes serve from minute `least` up to the target.
-fn served_on<'a>(
-    lanes: &[u32; 1110],
-    until: &'a [u16; 20],
-    held: &'a [u16; 20],
-    placed: usize,
+fn served_on(
+    jobs: &Jobs,
+    prepared: &Prepared,
+    part: &Part,
     gone: usize,
     free: u16,
-    modules: u16,
     least: u16,
     target: u16,
 ) -> u32
-    requires { ⌜ Serving (now lanes) (now until) (now held) placed gone free modules least target ⌝ }
-    ensures { λ r. ⌜ r ≡ servedOn (mostAt (now (lanes .entry))) (reachIn (now (lanes .entry))) (now (until .entry)) (now (held .entry))
-        modules placed least target ⌝ }
+    requires { ⌜ Serving (lanesIn (now prepared)) (partIn (now part)) gone free (modulesOf (now jobs)) least target ⌝ }
+    ensures { λ r. ⌜ r ≡ servedOn (mostAt (lanesIn (now (prepared .entry)))) (reachIn (lanesIn (now (prepared .entry))))
+        (modulesOf (now (jobs .entry))) (partIn (now (part .entry))) least target ⌝ }
 {
+    let placed = tables::placed(part);
     let mut total: u32 = 0;
     let mut at = least;
-    let mut reach = reach_from(lanes, least, target);
+    let mut reach = reach_from(prepared, least, target);
     let mut f = free;
     let mut i = gone;
     while i < placed {
-        let to = weights::next_end(at, until[i], target);
-        let rest = reach_from(lanes, to, target);
-        total += lanes_on(lanes, f) * (reach - rest);
+        let to = weights::next_end(at, tables::until(part, i), target);
+        let next = reach_from(prepared, to, target);
+        total += lanes_on(prepared, f) * (reach - next);
         at = to;
-        reach = rest;
-        f += held[i];
+        reach = next;
+        f += tables::held(part, i);
         i += 1;
     }
-    total + lanes_on(lanes, f) * reach
+    total + lanes_on(prepared, f) * reach
 }
 
 // The value of job k on all its lanes.
-fn worth_of(lanes: &[u32; 1110], k: usize) -> u32
-    requires { ⌜ k < 20 ⌝ }
-    ensures { λ r. ⌜ r ≡ worthAt (now (lanes .entry)) k ⌝ }
+fn worth_of(prepared: &Prepared, k: usize) -> u32
+    requires { ⌜ k < mostJobs ⌝ }
+    ensures { λ r. ⌜ r ≡ worthAt (lanesIn (now (prepared .entry))) k ⌝ }
 {
-    lanes[1089 + k]
+    tables::lanes(prepared, values::WORTH_AT + k)
 }
 
-// The value of the set's jobs on all their lanes.
-fn set_worth(lanes: &[u32; 1110], set: u32, jobs: usize) -> u32
-    requires { ⌜ ((k : ℕ) → k < 20 → worthAt (now lanes) k ≤ 16320) × (jobs ≤ 20) ⌝ }
-    ensures { λ r. ⌜ r ≡ sum jobs (λ k. only (bit set k) (worthAt (now (lanes .entry)) k)) ⌝ }
+// The value of the unplaced jobs on all their lanes.
+fn set_worth(jobs: &Jobs, prepared: &Prepared, part: &Part) -> u32
+    requires { ⌜ (countOf (now jobs) ≤ mostJobs)
+        × ((k : ℕ) → k < mostJobs → worthAt (lanesIn (now prepared)) k ≤ mostLaneWorth) ⌝ }
+    ensures { λ r. ⌜ r ≡ sum (countOf (now (jobs .entry)))
+        (λ k. only (bit (partIn (now (part .entry)) .unplaced) k) (worthAt (lanesIn (now (prepared .entry))) k)) ⌝ }
 {
     let mut total: u32 = 0;
-    let mut rest = bits::below32(set, jobs);
-    while rest != 0 {
-        let k = bits::lowest32(rest);
-        total += worth_of(lanes, k);
-        rest = bits::without_lowest32(rest);
+    let mut todo = bits::below32(tables::unplaced(part), tables::count(jobs));
+    while todo != 0 {
+        let k = bits::lowest32(todo);
+        total += worth_of(prepared, k);
+        todo = bits::without_lowest32(todo);
     }
     total
 }
 
-// Whether the jobs of the set have more value than the lanes can serve between minute `least` and the target. `gone` of the placed jobs
+// Whether the unplaced jobs have more value than the lanes can serve between minute `least` and the target. `gone` of the placed jobs
 // are known to have ended by then, and the others leave `free` modules.
-pub fn overfull<'a>(
-    need: &[u16; 20],
-    minutes: &[u16; 20],
-    lanes: &[u32; 1110],
-    until: &'a [u16; 20],
-    held: &'a [u16; 20],
-    placed: usize,
+pub fn overfull(
+    jobs: &Jobs,
+    prepared: &Prepared,
+    part: &Part,
     gone: usize,
     free: u16,
-    modules: u16,
-    set: u32,
-    jobs: usize,
     least: u16,
     target: u16,
 ) -> bool
-    requires { ⌜ ((Fit (now need) (now minutes) jobs modules) × (Laned (now need) (now minutes) jobs modules (now lanes)))
-        × (Profile (now until) (now held) placed gone free modules least) ⌝ }
-    ensures { λ r. ⌜ (r ≡ true → Overfull (now (need .entry)) (now (minutes .entry)) (now (until .entry)) (now (held .entry)) jobs
-        modules placed set least target) ⌝ }
+    requires { ⌜ ((Fit (now jobs)) × (Laned (now jobs) (lanesIn (now prepared))))
+        × (ProfileOf (partIn (now part)) gone free (modulesOf (now jobs)) least) ⌝ }
+    ensures { λ r. ⌜ (r ≡ true → Overfull (now (jobs .entry)) (partIn (now (part .entry))) least target) ⌝ }
 {
     if target < least {
         return false;
     }
-    if values::steps(target, lanes[1109]) >= 1024 {
+    if values::steps(target, step_of(prepared)) >= values::STEPS {
         return false;
     }
-    served_on(
-        lanes,
-        until,
-        held,
-        placed,
-        gone,
-        free,
-        modules,
-        least,
-        target,
-    )
-        < set_worth(lanes, set, jobs)
+    served_on(jobs, prepared, part, gone, free, least, target) < set_worth(jobs, prepared, part)
 }

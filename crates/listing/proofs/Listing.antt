@@ -1,17 +1,16 @@
 -- List plans: what a choice or a given order leads to, and what an exchange keeps.
-use mathlib.Core.Path.{_≡_, refl, sym, ap, _∙_, subst}
+use mathlib.Core.Path.{_≡_, sym, ap, _∙_, subst}
 use mathlib.Core.Logic.{_⊎_, inl, inr}
 use mathlib.Core.Bool.{true, false, not}
 use mathlib.Core.List.{List}
-use Prim.Native.Nat.{ℕ, _+_, _*_, _≤_, _<_}
+use Prim.Native.Nat.{ℕ, _+_, _%_, _≤_, _<_}
 use native.Mathlib.Omega.{arith}
-use mir.Syntax.{w64}
-use mir.Val.{Fits}
 use lib.Count.{ones}
-use lib.ListN.{length, getD, take}
+use lib.ListN.{length, getD, take, set, replicate, length-set, length-replicate}
+use lib.Seq.{getD-set-same, getD-set-other, getD-take, length-take-le, ext-getD}
 use borrow.Author.Tests.{not-true}
 use Rattle.counting.specs.Counting.{only, largest}
-use Rattle.counting.proofs.Tests.{true-or-false}
+use Rattle.counting.proofs.Tests.{true-or-false, less-or-not}
 use Rattle.counting.proofs.Ranges.{largest-le, largest-same, find}
 use Rattle.counting.proofs.Counts.{count-none, count-not}
 use Rattle.schedule.specs.Plan.{Sheet, Circular, finish}
@@ -20,62 +19,91 @@ use Rattle.schedule.specs.TieRule.{endOf}
 use Rattle.schedule.proofs.Starts.{ready-says}
 use Rattle.schedule.proofs.Existence.{stuck-circular}
 use Rattle.schedule.proofs.Prefixes.{part-count}
-use Rattle.tables.specs.Tables.{sheetOf}
-use Rattle.placement.specs.declared.Part.{Part}
-use Rattle.placement.specs.Part.{wordOf, Placeable, Placed}
+use Rattle.tables.specs.Tables.{sheetOf, countOf, Fit}
+use Rattle.tables.specs.Part.{Part, wordOf}
+use Rattle.placement.specs.Part.{FirstPart, Placeable, Placed}
 use Rattle.placement.proofs.Parts.{left-count, start-short, end-short, all-placed}
 use Rattle.candidates.specs.declared.Choice.{Choice}
 use Rattle.candidates.specs.Candidates.{Known, theoryPart, JobStart, JobStarts, ChoiceOf}
-use Rattle.candidates.proofs.Children.{start-low, child-placeable, child-fewer, child-known}
+use Rattle.candidates.proofs.Children.{first-known, word-at, word-within, start-low, child-placeable, child-known}
 use Rattle.listing.specs.declared.Found.{Found}
-use Rattle.listing.specs.Listing.{finishedAs, noneListed, Listed, OrderOf, NextJob, Tried, Improved}
+use Rattle.listing.specs.Listing.{BytesOf, Finished, OrderOf, NextJob, OneMore, Tried, Improved}
 
-module _ {need minutes earlier : List ℕ} {jobs modules : ℕ} {part : Part} (known : Known need minutes earlier jobs modules part) where
+-- ---- an order in bytes
+
+pub bytes-none : (order : List ℕ) → BytesOf order 0 (replicate 20 0)
+bytes-none order = record { size = length-replicate {A = ℕ} 20 0; each = λ k l. absurd (omega arith) }
+
+pub bytes-more : {order r : List ℕ} {n : ℕ} → BytesOf order n r → n < 20 → BytesOf order (n + 1) (set r n (getD order n 0 % 256))
+bytes-more {order} {r} {n} h few = record { size = length-set r n v ∙ h .size; each = λ k l. go k l (less-or-not k n) }
+  where
+    v : ℕ
+    v = getD order n 0 % 256
+
+    go : (k : ℕ) → k < n + 1 → (k < n) ⊎ (n ≤ k) → getD (set r n v) k 0 ≡ getD order k 0 % 256
+    go k l (inl m) = getD-set-other r n k v 0 (λ e. absurd (omega arith)) ∙ h .each k m
+    go k l (inr m) = let e : k ≡ n = omega arith in rw e (getD-set-same r n v 0 (omega (arith, h .size)))
+
+module _ {t : List ℕ} {part : Part} (known : Known t part) where
   abbrev S : Sheet
-  S = sheetOf need minutes earlier jobs modules
+  S = sheetOf t
+
+  abbrev jobs : ℕ
+  jobs = countOf t
 
   abbrev w : List ℕ
   w = wordOf part
 
   abbrev P : PartPlan
-  P = theoryPart need minutes earlier jobs modules part
+  P = theoryPart t part
 
   size : length w + ones (part .unplaced) ≡ jobs
-  size = left-count need minutes earlier jobs modules (known .fit) part w (known .is)
+  size = left-count t (known .fit) part w (known .is)
 
   -- ---- every job is placed
 
-  module _ (z : ones (part .unplaced) ≡ 0) where
+  module _ (all : part .placed ≡ jobs) where
+    z : ones (part .unplaced) ≡ 0
+    z = omega (arith, known .is .figures .sizes)
+
     pub whole : Order S w
     whole = record { all = omega (arith, size); follows = known .is .follows }
 
     placed : (i : ℕ) → i < jobs → P .placed i ≡ true
-    placed = all-placed need minutes earlier jobs modules (known .fit) part w (known .is) z
+    placed = all-placed t (known .fit) part w (known .is) z
 
     pub end-is : largest jobs (λ i. getD (part .ends) i 0) ≡ endOf S w
     end-is = largest-same jobs _ _ (λ i l. known .is .figures .ends i l ∙ ap (λ b. only b (finish S (P .plan) i)) (placed i l))
 
-    pub word-is : take jobs (part .order) ≡ w
-    word-is = ap (λ (k : ℕ). take k (part .order)) (let e : jobs ≡ part .placed = omega (arith, known .is .figures .sizes) in e)
+    pub word-is : (r : List ℕ) → BytesOf (part .order) jobs r → take jobs r ≡ w
+    word-is r h =
+        let long = length-take-le jobs r (omega (arith, h .size, known .fit .few)) in
+        ext-getD 0 (take jobs r) w (omega (arith, size)) (λ k l. same k (omega arith))
+      where
+        same : (k : ℕ) → k < jobs → getD (take jobs r) k 0 ≡ getD w k 0
+        same k l =
+            let in-word : k < part .placed = omega (arith, known .is .figures .sizes) in
+            let small = word-within known k in-word in
+            getD-take jobs r k 0 l ∙ omega (arith, h .each k l, word-at known k in-word, known .fit .few)
 
     short : largest jobs (λ i. getD (part .ends) i 0) ≤ 28800
     short = largest-le jobs (λ i. getD (part .ends) i 0) 28800 (λ i l.
         let q = known .is .figures .ends i l in
         let r : getD (part .ends) i 0 ≡ finish S (P .plan) i = rw (placed i l) at q in
-        omega (arith, end-short need minutes earlier jobs modules (known .fit) part w (known .is) i l (placed i l)))
+        omega (arith, end-short t (known .fit) part w (known .is) i l (placed i l)))
 
-    pub finished-order : (target : ℕ) → OrderOf S (finishedAs jobs (part .ends) (part .order) target)
-    unfolding finishedAs
-    finished-order target = record {
-      size = known .is .figures .order-length;
-      order = subst (Order S) (sym word-is) whole;
-      end = ap (endOf S) word-is ∙ sym end-is;
-      low = omega (arith, short);
+    -- the order of a part-plan that has placed every job
+    pub finished-order : {target : ℕ} {r : Found} → Finished part jobs target r → OrderOf S r
+    finished-order {r = r} h = record {
+      size = h .order .size;
+      order = subst (Order S) (sym (word-is (r .order) (h .order))) whole;
+      end = ap (endOf S) (word-is (r .order) (h .order)) ∙ sym end-is ∙ sym (h .end);
+      low = omega (arith, short, h .end);
     }
 
   -- ---- no job may come next, and some is left
 
-  pub list-stuck : (at : List ℕ) (least : ℕ) (c : Choice) → JobStarts need minutes earlier jobs modules part at least
+  list-stuck : (at : List ℕ) (least : ℕ) (c : Choice) → JobStarts t part at least
       → ChoiceOf at (part .unplaced) jobs c → c .start ≡ 65535 → 0 < ones (part .unplaced) → Circular S
   list-stuck at least c starts h e pos = go (find jobs (λ i. not (P .placed i)))
     where
@@ -85,7 +113,7 @@ module _ {need minutes earlier : List ℕ} {jobs modules : ℕ} {part : Part} (k
           one : (ready S (P .placed) j ≡ true) ⊎ (ready S (P .placed) j ≡ false) → ready S (P .placed) j ≡ false
           one (inr r) = r
           one (inl r) =
-              let short = start-short need minutes earlier jobs modules (known .fit) part w (known .is) j r in
+              let short = start-short t (known .fit) part w (known .is) j r in
               let b = known .is .figures .set j l ∙ ap not (ready-says S (P .placed) j r .new) in
               absurd (omega (arith, h .first j l b, starts .each j l .here r))
 
@@ -97,67 +125,60 @@ module _ {need minutes earlier : List ℕ} {jobs modules : ℕ} {part : Part} (k
 
   -- ---- a job that may come next
 
-  -- the choice, where there is one
-  pub chosen-next : {at : List ℕ} {least left : ℕ} {c : Choice} → JobStarts need minutes earlier jobs modules part at least
-      → ChoiceOf at left jobs c → ¬ (c .start ≡ 65535) → NextJob need minutes earlier jobs modules part (c .job) (c .start)
-  chosen-next {c = c} starts h some =
-      let low : c .start < 65535 = omega (arith, h .low) in
+  -- the choice, where no job must end before itself
+  pub chosen-next : {at : List ℕ} {least : ℕ} {c : Choice} → ¬ Circular S → part .placed < jobs → JobStarts t part at least
+      → ChoiceOf at (part .unplaced) jobs c → NextJob t part (c .job) (c .start)
+  chosen-next {at} {least} {c} free some starts h =
       let is = h .some low in
       record {
         job = is .0;
-        start = subst (λ (s : ℕ). JobStart need minutes earlier jobs modules part (c .job) s) (is .1 .1) (starts .each (c .job) (is .0));
+        start = subst (λ (s : ℕ). JobStart t part (c .job) s) (is .1 .1) (starts .each (c .job) (is .0));
         low = low;
       }
+    where
+      low : c .start < 65535
+      low = go (less-or-not (c .start) 65535)
+        where
+          go : (c .start < 65535) ⊎ (65535 ≤ c .start) → c .start < 65535
+          go (inl l) = l
+          go (inr l) =
+              let e : c .start ≡ 65535 = omega (arith, h .low) in
+              let left : 0 < ones (part .unplaced) = omega (arith, known .is .figures .sizes) in
+              absurd (free (list-stuck at least c starts h e left))
 
   -- a job with a start
-  pub started-next : {j s : ℕ} → j < jobs → JobStart need minutes earlier jobs modules part j s → ¬ (s ≡ 65535)
-      → NextJob need minutes earlier jobs modules part j s
+  pub started-next : {j s : ℕ} → j < jobs → JobStart t part j s → ¬ (s ≡ 65535)
+      → NextJob t part j s
   started-next l start some = record { job = l; start = start; low = start-low known start some }
 
-  module _ {j s : ℕ} (next : NextJob need minutes earlier jobs modules part j s) where
-    pub next-in-20 : j < 20
-    next-in-20 = omega (arith, next .job, known .fit .few)
-
-    -- where an element of 2 bytes stands
-    pub next-at-2 : Fits w64 (j * 2)
-    next-at-2 = record { fits = omega (arith, next-in-20) }
-
-    pub next-placeable : Placeable part j s (getD need j 0) (getD minutes j 0) modules
+  module _ {j s : ℕ} (next : NextJob t part j s) where
+    pub next-placeable : Placeable t part j s
     next-placeable = child-placeable known (next .job) (next .start) (next .low)
 
-    module _ {child : Part} (placed : Placed part j s (getD need j 0) (getD minutes j 0) modules child) where
-      pub next-fewer : ones (child .unplaced) < ones (part .unplaced)
-      next-fewer =
-          let one = child-fewer known (next .job) (next .start) (next .low) placed in
-          omega (arith, one)
+    module _ {child : Part} (placed : Placed t part j s child) where
+      pub next-more : OneMore t part child
+      next-more = record { known = child-known known (next .job) (next .start) (next .low) placed; placed = placed .placed }
 
-      pub next-known : Known need minutes earlier jobs modules child
-      next-known = child-known known (next .job) (next .start) (next .low) placed
+-- ---- job after job
 
--- ---- what a list plan says
+-- a part-plan of k jobs
+pub record Upto (t : List ℕ) (count k : ℕ) (p : Part) : Type 0 where
+  pub inside : k ≤ count
+  pub count-is : count ≡ countOf t
+  pub known : Known t p
+  pub placed : p .placed ≡ k
 
-pub order-listed : {S : Sheet} {r : Found} → OrderOf S r → Listed S r
-order-listed h = record { size = h .size; says = inr (h .order, (h .end, h .low)) }
+pub upto-none : {t : List ℕ} {count : ℕ} {p : Part} → Fit t → count ≡ countOf t → FirstPart t p → Upto t count 0 p
+upto-none {t} {count} {p} fit e h = record { inside = omega arith; count-is = e; known = first-known t p fit h; placed = h .placed }
 
-pub circle-listed : {S : Sheet} → Circular S → Listed S noneListed
-circle-listed h = record { size = refl; says = inl (refl, h) }
+pub upto-more : {t : List ℕ} {count k : ℕ} {p r : Part} → Upto t count k p → k < count → OneMore t p r → Upto t count (k + 1) r
+upto-more u l h = record { inside = omega arith; count-is = u .count-is; known = h .known; placed = omega (arith, h .placed, u .placed) }
 
--- the end 65535 stands for a circle
-pub listed-circle : {S : Sheet} {r : Found} → Listed S r → r .end ≡ 65535 → Circular S
-listed-circle {S} {r} h e = circle (h .says)
-  where
-    circle : ((r .end ≡ 65535) × Circular S)
-        ⊎ ((Order S (take (S .jobs) (r .order))) × ((endOf S (take (S .jobs) (r .order)) ≡ r .end) × (r .end < 65535))) → Circular S
-    circle (inl x) = x .1
-    circle (inr x) = absurd (omega (arith, x .1 .1))
-
-pub listed-order : {S : Sheet} {r : Found} → Listed S r → ¬ (r .end ≡ 65535) → OrderOf S r
-listed-order {S} {r} h n = go (h .says)
-  where
-    go : ((r .end ≡ 65535) × Circular S)
-        ⊎ ((Order S (take (S .jobs) (r .order))) × ((endOf S (take (S .jobs) (r .order)) ≡ r .end) × (r .end < 65535))) → OrderOf S r
-    go (inl x) = absurd (n (x .0))
-    go (inr x) = record { size = h .size; order = x .0; end = x .1 .0; low = x .1 .1 }
+pub upto-all : {t : List ℕ} {count k target : ℕ} {p : Part} {r : Found} → Upto t count k p → count ≤ k → Finished p count target r
+    → OrderOf (sheetOf t) r
+upto-all {t} {count} {k} {target} {p} {r} u l h =
+    finished-order (u .known) (omega (arith, u .placed, u .inside, u .count-is))
+    (subst (λ (n : ℕ). Finished p n target r) (u .count-is) h)
 
 -- ---- what an exchange keeps
 

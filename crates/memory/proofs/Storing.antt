@@ -2,9 +2,8 @@
 use mathlib.Core.Path.{_≡_, sym, subst, _∙_}
 use mathlib.Core.Logic.{inl, ⊎-elim}
 use mathlib.Core.List.{List}
-use Prim.Native.Nat.{ℕ, _+_, _*_, _≤_, _<_, zero-le}
+use Prim.Native.Nat.{ℕ, _+_, _*_, _≤_, _<_}
 use native.Mathlib.Omega.{arith}
-use native.Mathlib.Nat.{not-suc-le-zero}
 use lib.ListN.{length, getD}
 use Rattle.counting.proofs.Tests.{less-or-not}
 use Rattle.words.specs.Words.{Wrote}
@@ -18,19 +17,7 @@ pub record Storing (ends : List ℕ) (jobs last : ℕ) (figures : List ℕ) (i :
   pub start : lastAt figures ≡ last
   pub end : (k : ℕ) → k < i → endAt figures k ≡ getD ends k 0
 
-pub storing-last : {ends f₀ f₁ : List ℕ} {jobs last : ℕ} → length f₀ ≡ 42 → jobs ≤ 20 → Wrote f₀ f₁ 0 last → Storing ends jobs last f₁ 0
-storing-last size few d = record {
-  few = few;
-  inside = zero-le;
-  size = d .len ∙ size;
-  start = d .here;
-  end = λ k h. absurd (not-suc-le-zero h);
-}
-
 module _ {ends figures : List ℕ} {jobs last i : ℕ} (s : Storing ends jobs last figures i) where
-  pub storing-fits : i < jobs → 2 + 2 * i + 2 ≤ length figures
-  storing-fits l = omega (arith, s .size, s .few)
-
   pub storing-step : {figures′ : List ℕ} → i < jobs → Wrote figures figures′ (2 + 2 * i) (getD ends i 0)
       → Storing ends jobs last figures′ (i + 1)
   storing-step {figures′} l d = record {

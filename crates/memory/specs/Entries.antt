@@ -1,22 +1,22 @@
--- Entries of working memory: groups of 736 bytes, with 16 entries each.
+-- Entries of working memory, by groups.
 -- No contract says which entry is looked at or written, only what holds of some entry or of each.
 use mathlib.Core.Path.{_≡_}
 use mathlib.Core.Logic.{_⊎_}
 use mathlib.Core.List.{List}
 use Prim.Native.Nat.{ℕ, _*_, _/_, _%_, _<_}
 use lib.ListN.{length, getD, take, drop}
-pub use Rattle.entries.specs.Entry.{Entry, lastAt, endAt, EntryAhead}
+pub use Rattle.entries.specs.Entry.{ways, setBytes, figureBytes, groupBytes, Entry, lastAt, endAt, EntryAhead}
 unfoldable pub use Rattle.entries.specs.Entry.{entryIn}
 
 unfoldable pub groupAt : List ℕ → ℕ → List ℕ
-groupAt m g = take 736 (drop (g * 736) m)
+groupAt m g = take groupBytes (drop (g * groupBytes) m)
 
 -- how many entries a memory has, and the k-th of them
 abbrev pub entries : List ℕ → ℕ
-entries m = length m / 736 * 16
+entries m = length m / groupBytes * ways
 
 unfoldable pub entryAt : List ℕ → ℕ → Entry
-entryAt m k = entryIn (groupAt m (k / 16)) (k % 16)
+entryAt m k = entryIn (groupAt m (k / ways)) (k % ways)
 
 -- these are the figures
 pub record FiguresOf (f : List ℕ) (jobs : ℕ) (ends : List ℕ) (start : ℕ) : Type 0 where
@@ -30,7 +30,7 @@ pub record EntryOf (e : Entry) (jobs : ℕ) (ends : List ℕ) (unplaced start : 
 
 -- the group of a set, in a memory of len bytes
 unfoldable pub groupOf : ℕ → ℕ → ℕ
-groupOf len unplaced = unplaced % (len / 736)
+groupOf len unplaced = unplaced % (len / groupBytes)
 
 -- some entry is ahead
 pub record Hit (m : List ℕ) (jobs : ℕ) (ends : List ℕ) (unplaced l : ℕ) : Type 0 where
@@ -41,7 +41,7 @@ pub record Hit (m : List ℕ) (jobs : ℕ) (ends : List ℕ) (unplaced l : ℕ) 
 -- each entry of a group is as it was, or has this set and these figures
 abbrev pub Stored : List ℕ → List ℕ → ℕ → List ℕ → ℕ → ℕ → Type 0
 Stored g g′ jobs ends unplaced last =
-    (way : ℕ) → way < 16 → (entryIn g′ way ≡ entryIn g way) ⊎ EntryOf (entryIn g′ way) jobs ends unplaced last
+    (way : ℕ) → way < ways → (entryIn g′ way ≡ entryIn g way) ⊎ EntryOf (entryIn g′ way) jobs ends unplaced last
 
 -- each entry of a memory is as it was, or has this set and these figures
 pub record Adds (m m′ : List ℕ) (jobs : ℕ) (ends : List ℕ) (unplaced last : ℕ) : Type 0 where

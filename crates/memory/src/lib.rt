@@ -1,12 +1,21 @@
-// Remembered part-plans in lent working memory of any length. A group has 16 entries: their unplaced sets, side by side so that a
+// Remembered part-plans in lent working memory of any length. A group of entries has their unplaced sets, side by side so that a
 // look at all is short, and behind them the figures of each, the last start and the ends by job. Which entry is written, or
 // forgotten, changes no answer.
 ghost use mathlib.Core.Path.{_≡_};
 ghost use mathlib.Core.Bool.{true};
 ghost use Prim.Native.Nat.{_+_, _*_, _<_, _≤_};
 ghost use lib.ListN.{length, replicate};
+ghost use Rattle.figures.specs.Figures.{mostJobs};
 ghost use Rattle.words.specs.Words.{u32At};
-ghost use Rattle.memory.specs.Entries.{groupOf, FiguresOf, Stored, Hit, Adds};
+ghost use Rattle.tables.specs.Part.{partIn};
+ghost use Rattle.memory.specs.Entries.{ways, setBytes, figureBytes, groupBytes, groupOf, FiguresOf, Stored, Hit, Adds};
+use entries::ENDS;
+use entries::FIGURES;
+use entries::GROUP;
+use entries::SET;
+use entries::SETS;
+use entries::WAYS;
+use tables::Part;
 
 // 1 for the same set, else 0.
 fn same(set: u32, unplaced: u32) -> u32
@@ -17,13 +26,13 @@ fn same(set: u32, unplaced: u32) -> u32
 
 // The entries of a group with this set, a bit for each: where `entries::entry_ahead` looks closer.
 fn ways_with(group: &[u8], unplaced: u32) -> u32
-    requires { ⌜ length (now group) ≡ 736 ⌝ }
+    requires { ⌜ length (now group) ≡ groupBytes ⌝ }
     ensures { λ r. ⌜ r < 65536 ⌝ }
 {
     let mut ways: u32 = 0;
     let mut n: usize = 0;
-    while n < 16 {
-        ways = ways * 2 + same(words::read32(group, (15 - n) * 4), unplaced);
+    while n < WAYS {
+        ways = ways * 2 + same(words::read32(group, (WAYS - 1 - n) * SET), unplaced);
         n += 1;
     }
     ways
@@ -31,7 +40,7 @@ fn ways_with(group: &[u8], unplaced: u32) -> u32
 
 // Writes the set of an entry.
 fn write_set(set: &mut [u8], unplaced: u32)
-    requires { ⌜ length (now set) ≡ 4 ⌝ }
+    requires { ⌜ length (now set) ≡ setBytes ⌝ }
     ensures { λ _. ⌜ u32At (now (set .exit)) 0 ≡ unplaced ⌝ }
 {
     words::write16(set, 0, (unplaced % 65536) as u16);
@@ -39,37 +48,39 @@ fn write_set(set: &mut [u8], unplaced: u32)
 }
 
 // Writes the figures of an entry.
-fn write_figures(figures: &mut [u8], ends: &[u16; 20], jobs: usize, last: u16)
-    requires { ⌜ (length (now figures) ≡ 42) × (jobs ≤ 20) ⌝ }
-    ensures { λ _. ⌜ FiguresOf (now (figures .exit)) jobs (now (ends .entry)) last ⌝ }
+fn write_figures(figures: &mut [u8], part: &Part, jobs: usize)
+    requires { ⌜ (length (now figures) ≡ figureBytes) × (jobs ≤ mostJobs) ⌝ }
+    ensures { λ _. ⌜ FiguresOf (now (figures .exit)) jobs (partIn (now (part .entry)) .ends) (partIn (now (part .entry)) .last) ⌝ }
 {
-    words::write16(figures, 0, last);
+    words::write16(figures, 0, tables::last(part));
     let mut i: usize = 0;
     while i < jobs {
-        words::write16(figures, 2 + 2 * i, ends[i]);
+        words::write16(figures, ENDS + 2 * i, tables::end(part, i));
         i += 1;
     }
 }
 
 // Writes an entry of a group.
-fn store(group: &mut [u8], way: usize, ends: &[u16; 20], jobs: usize, unplaced: u32, last: u16)
-    requires { ⌜ (length (now group) ≡ 736) × (way < 16) × (jobs ≤ 20) ⌝ }
-    ensures { λ _. ⌜ Stored (now (group .entry)) (now (group .exit)) jobs (now (ends .entry)) unplaced last ⌝ }
+fn store(group: &mut [u8], way: usize, part: &Part, jobs: usize)
+    requires { ⌜ (length (now group) ≡ groupBytes) × (way < ways) × (jobs ≤ mostJobs) ⌝ }
+    ensures { λ _. ⌜ Stored (now (group .entry)) (now (group .exit)) jobs (partIn (now (part .entry)) .ends)
+        (partIn (now (part .entry)) .unplaced) (partIn (now (part .entry)) .last) ⌝ }
 {
-    let from = way * 4;
-    let to = from + 4;
+    let unplaced = tables::unplaced(part);
+    let from = way * SET;
+    let to = from + SET;
     write_set(&mut group[from..to], unplaced);
-    let at = 64 + way * 42;
-    let end = at + 42;
-    write_figures(&mut group[at..end], ends, jobs, last);
+    let at = SETS + way * FIGURES;
+    let end = at + FIGURES;
+    write_figures(&mut group[at..end], part, jobs);
 }
 
 // Where a memory of len bytes has the entries of a set.
 fn group_at(len: usize, unplaced: u32) -> usize
-    requires { ⌜ 736 ≤ len ⌝ }
-    ensures { λ r. ⌜ (r ≡ groupOf len unplaced * 736) × (r + 736 ≤ len) ⌝ }
+    requires { ⌜ groupBytes ≤ len ⌝ }
+    ensures { λ r. ⌜ (r ≡ groupOf len unplaced * groupBytes) × (r + groupBytes ≤ len) ⌝ }
 {
-    (unplaced as usize) % (len / 736) * 736
+    (unplaced as usize) % (len / GROUP) * GROUP
 }
 
 // One figure more in a hash below 65,536.
@@ -80,35 +91,37 @@ fn mixed(h: usize, x: u16) -> usize
     (h * 31 + (x as usize)) % 65536
 }
 
-// Which of the 16 entries is written: one that the figures choose, so that part-plans of one set keep apart.
-fn way_of(ends: &[u16; 20], jobs: usize, last: u16) -> usize
-    requires { ⌜ jobs ≤ 20 ⌝ }
-    ensures { λ r. ⌜ r < 16 ⌝ }
+// Which entry of a group is written: one that the figures choose, so that part-plans of one set keep apart.
+fn way_of(part: &Part, jobs: usize) -> usize
+    requires { ⌜ jobs ≤ mostJobs ⌝ }
+    ensures { λ r. ⌜ r < ways ⌝ }
 {
-    let mut h: usize = last as usize;
+    let mut h: usize = tables::last(part) as usize;
     let mut i: usize = 0;
     while i < jobs {
-        h = mixed(h, ends[i]);
+        h = mixed(h, tables::end(part, i));
         i += 1;
     }
-    h / 8 % 16
+    h / 8 % WAYS
 }
 
-// Whether a remembered part-plan with this set is ahead, from minute l on, of the one with these ends.
-pub fn recall(memory: &[u8], ends: &[u16; 20], jobs: usize, unplaced: u32, l: u16) -> bool
-    requires { ⌜ jobs ≤ 20 ⌝ }
-    ensures { λ r. ⌜ (r ≡ true → Hit (now (memory .entry)) jobs (now (ends .entry)) unplaced l) ⌝ }
+// Whether a remembered part-plan with the same unplaced jobs is ahead, from minute l on, of this one.
+pub fn recall(memory: &[u8], part: &Part, jobs: usize, l: u16) -> bool
+    requires { ⌜ jobs ≤ mostJobs ⌝ }
+    ensures { λ r. ⌜ (r ≡ true
+        → Hit (now (memory .entry)) jobs (partIn (now (part .entry)) .ends) (partIn (now (part .entry)) .unplaced) l) ⌝ }
 {
     let len = memory.len();
-    if len < 736 {
+    if len < GROUP {
         return false;
     }
+    let unplaced = tables::unplaced(part);
     let from = group_at(len, unplaced);
-    let to = from + 736;
+    let to = from + GROUP;
     let mut ways = ways_with(&memory[from..to], unplaced);
     while ways > 0 {
         let way = u32::trailing_zeros(ways) as usize;
-        if entries::entry_ahead(&memory[from..to], way, ends, jobs, unplaced, l) {
+        if entries::entry_ahead(&memory[from..to], way, part, jobs, unplaced, l) {
             return true;
         }
         ways = ways & (ways - 1);
@@ -116,19 +129,20 @@ pub fn recall(memory: &[u8], ends: &[u16; 20], jobs: usize, unplaced: u32, l: u1
     false
 }
 
-// Remembers the part-plan with these figures.
-pub fn remember(memory: &mut [u8], ends: &[u16; 20], jobs: usize, unplaced: u32, last: u16)
-    requires { ⌜ jobs ≤ 20 ⌝ }
-    ensures { λ _. ⌜ Adds (now (memory .entry)) (now (memory .exit)) jobs (now (ends .entry)) unplaced last ⌝ }
+// Remembers a part-plan.
+pub fn remember(memory: &mut [u8], part: &Part, jobs: usize)
+    requires { ⌜ jobs ≤ mostJobs ⌝ }
+    ensures { λ _. ⌜ Adds (now (memory .entry)) (now (memory .exit)) jobs (partIn (now (part .entry)) .ends)
+        (partIn (now (part .entry)) .unplaced) (partIn (now (part .entry)) .last) ⌝ }
 {
     let len = memory.len();
-    if len < 736 {
+    if len < GROUP {
         return;
     }
-    let from = group_at(len, unplaced);
-    let way = way_of(ends, jobs, last);
-    let to = from + 736;
-    store(&mut memory[from..to], way, ends, jobs, unplaced, last);
+    let from = group_at(len, tables::unplaced(part));
+    let way = way_of(part, jobs);
+    let to = from + GROUP;
+    store(&mut memory[from..to], way, part, jobs);
 }
 
 // Sets every byte to 0.

@@ -8,5 +8,5 @@ abbrev pub AreAlike : ℕ → ℕ → ℕ → ℕ → ℕ → ℕ → Type 0
 AreAlike need1 need2 minutes1 minutes2 later1 later2 = (need1 ≡ need2) × ((minutes1 ≡ minutes2) × (bitAnd later2 later1 ≡ later2))
 
 -- job 2 may come in job 1's place
-abbrev pub MayTurn : ℕ → ℕ → ℕ → ℕ → Type 0
-MayTurn need1 need2 later1 later2 = (need1 ≡ need2) × (bitAnd later1 later2 ≡ later1)
+abbrev pub MaySwap : ℕ → ℕ → ℕ → ℕ → Type 0
+MaySwap need1 need2 later1 later2 = (need1 ≡ need2) × (bitAnd later1 later2 ≡ later1)

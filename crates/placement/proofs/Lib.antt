@@ -2,4 +2,5 @@
 pub mod Waits
 pub mod Profiles
 pub mod Inserts
+pub mod Placing
 pub mod Parts

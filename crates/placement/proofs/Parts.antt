@@ -1,18 +1,16 @@
 -- The part-plan in code and the theory's: which jobs may come next, when they start, and the part-plan with one job more.
-use mathlib.Core.Path.{_≡_, refl, sym, ap, ap₂, _∙_, subst}
+use mathlib.Core.Path.{_≡_, refl, sym, ap, _∙_, subst}
 use mathlib.Core.Logic.{_⊎_, inl, inr}
 use mathlib.Core.Bool.{Bool, true, false, not, _&&_, _||_}
 use mathlib.Core.List.{List, [], _∷_, _++_}
 use Prim.Native.Nat.{ℕ, suc, _+_, _-_, _*_, _≤_, _<_, zero-le}
 use native.Mathlib.Omega.{arith}
 use native.Mathlib.Nat.{le-trans, mul-le-mul-left, mul-le-mul-right, mul-one, add-zero, not-suc-le-zero}
-use native.Mathlib.Numerals.{add-one}
 use lib.Dec.{ltb, eqb}
 use lib.Bits.{bitAnd, and-comm}
 use lib.Count.{ones}
-use lib.ListN.{length, getD, take, set, length-set, length-replicate, getD-replicate}
+use lib.ListN.{length, getD}
 use lib.Pow.{pow-pos}
-use lib.Seq.{getD-set-same, getD-set-other, take-suc-set}
 use borrow.Author.Tests.{eqb-true, eqb-false, eq-eqb, not-true, not-false}
 use Rattle.counting.specs.Counting.{only, sum, count}
 use Rattle.counting.proofs.Tests.{true-or-false, clash, only-le, only-within, mul-only, same-test, and-left, and-right, and-both}
@@ -31,43 +29,43 @@ use Rattle.schedule.proofs.Occupied.{room-sum}
 use Rattle.schedule.proofs.Jumps.{start-here}
 use Rattle.schedule.proofs.Horizon.{ends-within}
 use Rattle.schedule.proofs.Prefixes.{part-count, part-more, follows-more}
-use Rattle.tables.specs.Tables.{sheetOf, Fit}
+use Rattle.tables.specs.Tables.{sheetOf, needAt, minutesAt, earlierAt, countOf, modulesOf, Fit}
+use Rattle.tables.specs.Part.{Part}
 use Rattle.tables.proofs.Laws.{job-area, all-minutes}
-use Rattle.placement.specs.declared.Part.{Part}
-use Rattle.placement.specs.Profile.{heldAt, heldAfter, heldFrom}
-use Rattle.placement.specs.Part.{waits, StartFor, Figures, IsPart, Placeable, Placed, isReady, firstPart}
+use Rattle.placement.specs.Profile.{heldAt, heldAfter, heldFrom, heldOf, heldSince}
+use Rattle.placement.specs.Part.{waits, StartFor, Figures, IsPart, Placeable, Placed, isReady, FirstPart}
 use Rattle.placement.proofs.Inserts.{inserted-sum}
 
-module _ (need minutes earlier : List ℕ) (jobs modules : ℕ) (fit : Fit need minutes jobs modules) where
+module _ (t : List ℕ) (fit : Fit t) where
   abbrev S : Sheet
-  S = sheetOf need minutes earlier jobs modules
+  S = sheetOf t
+
+  abbrev jobs : ℕ
+  jobs = countOf t
 
   -- ---- the part-plan without jobs
 
-  pub first-is : IsPart S [] (firstPart need minutes jobs modules)
-  unfolding firstPart placeAll heldFrom sum
-  first-is = record {
-    word = refl;
+  pub first-is : (p : Part) → FirstPart t p → IsPart S [] p
+  unfolding placeAll heldFrom sum
+  first-is p f = record {
+    word = rw (f .placed) refl;
     follows = tt;
     figures = record {
-      low = omega (arith, pow-pos jobs);
-      set = λ i l. all-bits jobs i l;
-      sizes = omega (arith, ones-ones jobs);
-      last = refl;
-      ends = λ i l. getD-replicate 20 i 0 0 (omega (arith, fit .few));
-      left = refl;
-      profile = record {
+      size = f .size;
+      low = rw (f .unplaced) (omega (arith, pow-pos jobs));
+      set = λ i l. rw (f .unplaced) (all-bits jobs i l);
+      sizes = rw (f .placed, f .unplaced) (omega (arith, ones-ones jobs));
+      last = f .last;
+      ends = λ i l. f .ends i (omega (arith, fit .few));
+      left = f .left;
+      profile = rw (f .placed, f .gone, f .free) (record {
         sorted = λ i k l m. absurd (not-suc-le-zero m);
         few = zero-le;
         inside = zero-le;
         ended = λ k l. absurd (not-suc-le-zero l);
-        rest = add-zero modules;
-      };
-      by-end = λ g. sym (sum-zero jobs);
-      ends-length = length-replicate {A = ℕ} 20 0;
-      until-length = length-replicate {A = ℕ} 20 0;
-      held-length = length-replicate {A = ℕ} 20 0;
-      order-length = length-replicate {A = ℕ} 20 0;
+        balance = add-zero (modulesOf t);
+      });
+      by-end = λ g. rw (f .placed) (sym (sum-zero jobs));
     };
   }
 
@@ -83,22 +81,22 @@ module _ (need minutes earlier : List ℕ) (jobs modules : ℕ) (fit : Fit need 
 
     -- ---- what the placed jobs hold
 
-    pub occupied-is : (t : ℕ) → heldAt (p .until) (p .held) (p .placed) t ≡ occupied S P t
+    pub occupied-is : (u : ℕ) → heldOf p u ≡ occupied S P u
     unfolding heldAt occupied
-    occupied-is t =
+    occupied-is u =
         sum-same (p .placed) _ _ (λ k l. rw (mul-only, mul-one))
-        ∙ F .by-end (λ e. only (ltb t e) 1)
+        ∙ F .by-end (λ e. only (ltb u e) 1)
         ∙ sum-same jobs _ _ (λ i l. one i (P .placed i) refl)
       where
         one : (i : ℕ) (b : Bool) → P .placed i ≡ b
-            → only (P .placed i) (S .need i * only (ltb t (finish S (P .plan) i)) 1) ≡ only (occupies S P t i) (S .need i)
+            → only (P .placed i) (S .need i * only (ltb u (finish S (P .plan) i)) 1) ≡ only (occupies S P u i) (S .need i)
         one i true e = rw (e, add-zero (finish S (P .plan) i), mul-only, mul-one)
         one i false e = rw e refl
 
-    pub after-is : (t : ℕ) → heldAfter (p .until) (p .held) (p .placed) t
-        ≡ sum jobs (λ i. only (P .placed i) (S .need i * (finish S (P .plan) i - t)))
+    pub after-is : (u : ℕ) → heldSince p u
+        ≡ sum jobs (λ i. only (P .placed i) (S .need i * (finish S (P .plan) i - u)))
     unfolding heldAfter
-    after-is t = F .by-end (λ e. e - t)
+    after-is u = F .by-end (λ e. e - u)
 
     -- ---- how many jobs are left
 
@@ -117,8 +115,8 @@ module _ (need minutes earlier : List ℕ) (jobs modules : ℕ) (fit : Fit need 
     pub end-short : (i : ℕ) → i < jobs → P .placed i ≡ true → finish S (P .plan) i ≤ 28800
     end-short i l e =
         let h = ends-within S (fit .narrow) 0 (λ i l. zero-le) w (is .follows) i l e in
-        let flat = sum-same jobs (λ i. getD minutes i 0 + 0) (λ i. getD minutes i 0) (λ i l. add-zero (getD minutes i 0)) in
-        omega (arith, all-minutes need minutes jobs modules fit)
+        let flat = sum-same jobs (λ i. minutesAt t i + 0) (λ i. minutesAt t i) (λ i l. add-zero (minutesAt t i)) in
+        omega (arith, all-minutes t fit)
 
     pub last-short : p .last ≤ 28800
     last-short =
@@ -126,52 +124,52 @@ module _ (need minutes earlier : List ℕ) (jobs modules : ℕ) (fit : Fit need 
         (λ i l. only-within (P .placed i) _ 28800 (end-short i l)) in
         omega (arith, F .last, sound .ended)
 
-    pub after-small : (t : ℕ) → heldAfter (p .until) (p .held) (p .placed) t ≤ 40000000
-    after-small t =
-        let most = sum-most jobs (λ i. only (P .placed i) (S .need i * (finish S (P .plan) i - t))) (64 * 28800)
+    pub after-small : (u : ℕ) → heldSince p u ≤ 40000000
+    after-small u =
+        let most = sum-most jobs (λ i. only (P .placed i) (S .need i * (finish S (P .plan) i - u))) (64 * 28800)
         (λ i l. only-within (P .placed i) _ (64 * 28800) (one i l)) in
         let all : jobs * (64 * 28800) ≤ 20 * (64 * 28800) = mul-le-mul-right (64 * 28800) (fit .few) in
-        omega (arith, after-is t)
+        omega (arith, after-is u)
       where
-        one : (i : ℕ) → i < jobs → P .placed i ≡ true → S .need i * (finish S (P .plan) i - t) ≤ 64 * 28800
+        one : (i : ℕ) → i < jobs → P .placed i ≡ true → S .need i * (finish S (P .plan) i - u) ≤ 64 * 28800
         one i l e =
-            let w : getD need i 0 ≤ 64 = omega (arith, fit .narrow i l, fit .most) in
-            le-trans (mul-le-mul-left (getD need i 0) (omega (arith, end-short i l e))) (mul-le-mul-right 28800 w)
+            let w : needAt t i ≤ 64 = omega (arith, fit .narrow i l, fit .most) in
+            le-trans (mul-le-mul-left (needAt t i) (omega (arith, end-short i l e))) (mul-le-mul-right 28800 w)
 
     pub left-small : p .left ≤ 2000000
     left-small =
         let most = sum-most jobs (λ i. only (not (P .placed i)) (S .need i * S .minutes i)) (64 * 1440)
-        (λ i l. le-trans (only-le (not (P .placed i)) (S .need i * S .minutes i)) (job-area need minutes jobs modules fit i l)) in
+        (λ i l. le-trans (only-le (not (P .placed i)) (S .need i * S .minutes i)) (job-area t fit i l)) in
         let all : jobs * (64 * 1440) ≤ 20 * (64 * 1440) = mul-le-mul-right (64 * 1440) (fit .few) in
         omega (arith, F .left)
 
     -- ---- which jobs may come next
 
     module _ (j : ℕ) (l : j < jobs) where
-      follow-ready : isReady earlier (p .unplaced) j ≡ true → ready S (P .placed) j ≡ true
+      follow-ready : isReady t p j ≡ true → ready S (P .placed) j ≡ true
       follow-ready e =
           let a = and-left (bit (p .unplaced) j) _ e in
-          let z : bitAnd (getD earlier j 0) (p .unplaced) ≡ 0 = eqb-true _ 0 (and-right (bit (p .unplaced) j) _ e) in
+          let z : bitAnd (earlierAt t j) (p .unplaced) ≡ 0 = eqb-true _ 0 (and-right (bit (p .unplaced) j) _ e) in
           ready-when S (P .placed) j (record {
             job = l;
             new = not-true (P .placed j) (sym (F .set j l) ∙ a);
-            after = λ i k b. not-false (P .placed i) (sym (F .set i k) ∙ and-empty (getD earlier j 0) (p .unplaced) z i b);
+            after = λ i k b. not-false (P .placed i) (sym (F .set i k) ∙ and-empty (earlierAt t j) (p .unplaced) z i b);
           })
 
-      ready-follow : ready S (P .placed) j ≡ true → isReady earlier (p .unplaced) j ≡ true
+      ready-follow : ready S (P .placed) j ≡ true → isReady t p j ≡ true
       ready-follow e =
           let r = ready-says S (P .placed) j e in
-          let z : bitAnd (p .unplaced) (getD earlier j 0) ≡ 0 =
-          empty-and jobs (p .unplaced) (getD earlier j 0) (F .low) (λ i k u. none r i k u (true-or-false (bit (getD earlier j 0) i))) in
-          and-both (bit (p .unplaced) j) _ (F .set j l ∙ ap not (r .new)) (eq-eqb _ 0 (and-comm (getD earlier j 0) (p .unplaced) ∙ z))
+          let z : bitAnd (p .unplaced) (earlierAt t j) ≡ 0 =
+          empty-and jobs (p .unplaced) (earlierAt t j) (F .low) (λ i k u. none r i k u (true-or-false (bit (earlierAt t j) i))) in
+          and-both (bit (p .unplaced) j) _ (F .set j l ∙ ap not (r .new)) (eq-eqb _ 0 (and-comm (earlierAt t j) (p .unplaced) ∙ z))
         where
           none : Ready S (P .placed) j → (i : ℕ) → i < jobs → bit (p .unplaced) i ≡ true
-              → (bit (getD earlier j 0) i ≡ true) ⊎ (bit (getD earlier j 0) i ≡ false) → bit (getD earlier j 0) i ≡ false
+              → (bit (earlierAt t j) i ≡ true) ⊎ (bit (earlierAt t j) i ≡ false) → bit (earlierAt t j) i ≡ false
           none r i k u (inr b) = b
           none r i k u (inl b) = clash (not (P .placed i)) (sym (F .set i k) ∙ u) (ap not (r .after i k b))
 
       -- the code's test is the theory's
-      pub ready-is : isReady earlier (p .unplaced) j ≡ ready S (P .placed) j
+      pub ready-is : isReady t p j ≡ ready S (P .placed) j
       ready-is = same-test _ _ follow-ready ready-follow
 
     -- ---- when a job that may come next starts
@@ -180,9 +178,9 @@ module _ (need minutes earlier : List ℕ) (jobs modules : ℕ) (fit : Fit need 
       abbrev R : Ready S (P .placed) j
       R = ready-says S (P .placed) j r
 
-      pub waits-is : waits (p .ends) (getD earlier j 0) jobs (p .last) ≡ notBefore S P j
+      pub waits-is : waits (p .ends) (earlierAt t j) jobs (p .last) ≡ notBefore S P j
       waits-is =
-          let q = largest-same jobs (λ i. only (bit (getD earlier j 0) i) (getD (p .ends) i 0))
+          let q = largest-same jobs (λ i. only (bit (earlierAt t j) i) (getD (p .ends) i 0))
           (λ i. only (S .before i j) (finish S (P .plan) i)) (λ i l. one i l (true-or-false (S .before i j))) in
           omega (arith, F .last)
         where
@@ -191,40 +189,38 @@ module _ (need minutes earlier : List ℕ) (jobs modules : ℕ) (fit : Fit need 
           one i l (inl e) = rw (e, F .ends i l, R .after i l e)
           one i l (inr e) = rw e
 
-      pub start-is : (t : ℕ)
-          → StartFor (p .ends) (p .until) (p .held) (p .placed) modules (p .last) jobs (getD earlier j 0) (getD need j 0) t
-          → t ≡ startOf S P j
-      start-is t f =
+      pub start-is : (u : ℕ) → StartFor t p j u → u ≡ startOf S P j
+      start-is u f =
           let g = start-may S P j (fit .narrow j (R .job)) in
           let low = not-before-le S P j (startOf S P j) (g .later) (g .arrived) (g .after) in
-          let room : heldAt (p .until) (p .held) (p .placed) (startOf S P j) + getD need j 0 ≤ modules =
+          let room : heldOf p (startOf S P j) + needAt t j ≤ modulesOf t =
           omega (arith, occupied-is (startOf S P j), room-sum S P sound j (startOf S P j) g) in
-          sym (start-here S P sound j t (omega (arith, f .from, waits-is)) (f .first (startOf S P j) (omega (arith, waits-is)) room)
-          (omega (arith, occupied-is t, f .room)))
+          sym (start-here S P sound j u (omega (arith, f .from, waits-is)) (f .first (startOf S P j) (omega (arith, waits-is)) room)
+          (omega (arith, occupied-is u, f .room)))
 
-      pub start-short : startOf S P j + getD minutes j 0 ≤ 28800
+      pub start-short : startOf S P j + minutesAt t j ≤ 28800
       start-short =
           let s = part-more S w j in
           let self : eqb j j ≡ true = eq-eqb j j refl in
           let placed : partOf S (w ++ (j ∷ [])) .placed j ≡ true = subst (λ (X : PartPlan). X .placed j ≡ true) (sym s) (rw self) in
-          let end : finish S (partOf S (w ++ (j ∷ [])) .plan) j ≡ startOf S P j + getD minutes j 0 =
-          subst (λ (X : PartPlan). finish S (X .plan) j ≡ startOf S P j + getD minutes j 0) (sym s) (rw self) in
+          let end : finish S (partOf S (w ++ (j ∷ [])) .plan) j ≡ startOf S P j + minutesAt t j =
+          subst (λ (X : PartPlan). finish S (X .plan) j ≡ startOf S P j + minutesAt t j) (sym s) (rw self) in
           let h = ends-within S (fit .narrow) 0 (λ i l. zero-le) (w ++ (j ∷ [])) (follows-more S w j (is .follows) r) j (R .job) placed in
-          let flat = sum-same jobs (λ i. getD minutes i 0 + 0) (λ i. getD minutes i 0) (λ i l. add-zero (getD minutes i 0)) in
-          omega (arith, all-minutes need minutes jobs modules fit)
+          let flat = sum-same jobs (λ i. minutesAt t i + 0) (λ i. minutesAt t i) (λ i l. add-zero (minutesAt t i)) in
+          omega (arith, all-minutes t fit)
 
       -- ---- the part-plan with it
 
       unplaced-yet : bit (p .unplaced) j ≡ true
       unplaced-yet = F .set j (R .job) ∙ ap not (R .new)
 
-      area-le : getD need j 0 * getD minutes j 0 ≤ p .left
+      area-le : needAt t j * minutesAt t j ≤ p .left
       area-le =
-          let one : getD need j 0 * getD minutes j 0 ≤ sum jobs (λ i. only (not (P .placed i)) (S .need i * S .minutes i)) =
+          let one : needAt t j * minutesAt t j ≤ sum jobs (λ i. only (not (P .placed i)) (S .need i * S .minutes i)) =
           rw (R .new) at (le-sum jobs (λ i. only (not (P .placed i)) (S .need i * S .minutes i)) j (R .job)) in
           omega (arith, F .left)
 
-      pub placeable : Placeable p j (startOf S P j) (getD need j 0) (getD minutes j 0) modules
+      pub placeable : Placeable t p j (startOf S P j)
       placeable =
           let g = start-may S P j (fit .narrow j (R .job)) in
           record {
@@ -237,8 +233,7 @@ module _ (need minutes earlier : List ℕ) (jobs modules : ℕ) (fit : Fit need 
             profile = F .profile;
             room = omega (arith, occupied-is (startOf S P j), room-sum S P sound j (startOf S P j) g);
             area = area-le;
-            until-length = F .until-length;
-            held-length = F .held-length;
+            size = F .size;
           }
 
       pub fewer : suc (ones (withoutBit (p .unplaced) j)) ≡ ones (p .unplaced)
@@ -247,7 +242,7 @@ module _ (need minutes earlier : List ℕ) (jobs modules : ℕ) (fit : Fit need 
       abbrev Q : PartPlan
       Q = place S P j (startOf S P j)
 
-      module _ (q : Part) (h : Placed p j (startOf S P j) (getD need j 0) (getD minutes j 0) modules q) where
+      module _ (q : Part) (h : Placed t p j (startOf S P j) q) where
         next-set : (i : ℕ) → i < jobs → bit (q .unplaced) i ≡ not (Q .placed i)
         next-set i l =
             ap (λ (x : ℕ). bit x i) (h .unplaced) ∙ bit-without (p .unplaced) j i ∙ ap (λ b. b && not (eqb i j)) (F .set i l)
@@ -262,11 +257,8 @@ module _ (need minutes earlier : List ℕ) (jobs modules : ℕ) (fit : Fit need 
         next-ends : (i : ℕ) → i < jobs → (b : Bool) → eqb i j ≡ b → getD (q .ends) i 0 ≡ only (Q .placed i) (finish S (Q .plan) i)
         next-ends i l true e =
             let y : i ≡ j = eqb-true i j e in
-            rw (e, h .ends) (ap (λ (k : ℕ). getD (set (p .ends) j (startOf S P j + getD minutes j 0)) k 0) y
-            ∙ getD-set-same (p .ends) j (startOf S P j + getD minutes j 0) 0 (omega (arith, F .ends-length, R .job, fit .few))
-            ∙ ap (λ (k : ℕ). startOf S P j + getD minutes k 0) (sym y))
-        next-ends i l false e =
-            rw (e, h .ends) (getD-set-other (p .ends) j i (startOf S P j + getD minutes j 0) 0 (eqb-false i j e) ∙ F .ends i l)
+            rw e (ap (λ (k : ℕ). getD (q .ends) k 0) y ∙ h .end ∙ ap (λ (k : ℕ). startOf S P j + minutesAt t k) (sym y))
+        next-ends i l false e = rw e (h .ends i (omega (arith, fit .few)) (eqb-false i j e) ∙ F .ends i l)
 
         next-left : q .left ≡ sum jobs (λ i. only (not (Q .placed i)) (S .need i * S .minutes i))
         next-left =
@@ -307,19 +299,13 @@ module _ (need minutes earlier : List ℕ) (jobs modules : ℕ) (fit : Fit need 
           left = next-left;
           profile = rw (h .last) (h .profile);
           by-end = next-by-end;
-          ends-length = ap length (h .ends) ∙ length-set (p .ends) j (startOf S P j + getD minutes j 0) ∙ F .ends-length;
-          until-length = h .lists .ends .size;
-          held-length = h .lists .holds .size;
-          order-length = ap length (h .order) ∙ length-set (p .order) (p .placed) j ∙ F .order-length;
+          size = h .size;
         }
 
         -- Placing a job that may come next gives the theory's part-plan with it.
         pub placed-part : IsPart S (w ++ (j ∷ [])) q
         placed-part = record {
-          word =
-              let l : p .placed < length (p .order) = omega (arith, F .order-length, placeable .count) in
-              ap₂ (λ (k : ℕ) (x : List ℕ). take k x) (h .placed ∙ add-one (p .placed)) (h .order) ∙ take-suc-set (p .order) (p .placed) j l
-              ∙ ap (λ (x : List ℕ). x ++ (j ∷ [])) (is .word);
+          word = h .word ∙ ap (λ (x : List ℕ). x ++ (j ∷ [])) (is .word);
           follows = follows-more S w j (is .follows) r;
           figures = subst (λ (X : PartPlan). Figures S X q) (sym (part-more S w j)) figures;
         }

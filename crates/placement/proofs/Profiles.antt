@@ -60,7 +60,7 @@ module _ (until held : List ℕ) (count : ℕ) where
 
 pub profile-fits : {until held : List ℕ} {count gone free modules t : ℕ} → Profile until held count gone free modules t → gone < count
     → free + getD held gone 0 ≤ modules
-profile-fits {until} {held} {count} {gone} p l = omega (arith, p .rest, held-from-step until held count gone l)
+profile-fits {until} {held} {count} {gone} p l = omega (arith, p .balance, held-from-step until held count gone l)
 
 pub profile-step : {until held : List ℕ} {count gone free modules t : ℕ} → Profile until held count gone free modules t → gone < count
     → getD until gone 0 ≤ t → Profile until held count (gone + 1) (free + getD held gone 0) modules t
@@ -69,7 +69,7 @@ profile-step {until} {held} {count} {gone} {free} {modules} {t} p l e = record {
   few = p .few;
   inside = omega arith;
   ended = λ k m. one k m (less-or-not k gone);
-  rest = omega (arith, p .rest, held-from-step until held count gone l);
+  balance = omega (arith, p .balance, held-from-step until held count gone l);
 }
   where
     one : (k : ℕ) → k < gone + 1 → (k < gone) ⊎ (gone ≤ k) → getD until k 0 ≤ t
@@ -85,7 +85,7 @@ profile-live {gone = gone} p l k m n = omega (arith, p .sorted gone k m n)
 pub ended-room : {until held : List ℕ} {count modules t want : ℕ} {r : Ended} → EndedBy until held count modules t r
     → heldAt until held count t + want ≤ modules → want ≤ r .free
 ended-room {until} {held} {count} {modules} {t} {want} {r} e h =
-    omega (arith, e .profile .rest, held-from-le until held count (r .gone) t (e .live))
+    omega (arith, e .profile .balance, held-from-le until held count (r .gone) t (e .live))
 
 -- a later minute
 pub profile-later : {until held : List ℕ} {count gone free modules t : ℕ} (u : ℕ) → t ≤ u → Profile until held count gone free modules t
@@ -95,7 +95,7 @@ profile-later u l p = record {
   few = p .few;
   inside = p .inside;
   ended = λ k m. omega (arith, p .ended k m);
-  rest = p .rest;
+  balance = p .balance;
 }
 
 -- ---- looking for room, from one end to the next
@@ -106,7 +106,7 @@ pub record Scan (until held : List ℕ) (count modules want t r f i : ℕ) : Typ
   pub few : count ≤ 20
   pub wanted : want ≤ modules
   pub inside : i ≤ count
-  pub rest : f + heldFrom held count i ≡ modules
+  pub balance : f + heldFrom held count i ≡ modules
   pub from : t ≤ r
   pub ended : (k : ℕ) → k < i → getD until k 0 ≤ r
   pub first : (u : ℕ) → t ≤ u → heldAt until held count u + want ≤ modules → r ≤ u
@@ -118,7 +118,7 @@ scan-start {t = t} p w = record {
   few = p .few;
   wanted = w;
   inside = p .inside;
-  rest = p .rest;
+  balance = p .balance;
   from = le-refl t;
   ended = p .ended;
   first = λ u l h. l;
@@ -138,9 +138,9 @@ scan-turn {until} {held} {count} {modules} {want} {t} {r} {f} {i} s l = go (less
     go (inl k) = record {
       inside = k;
       low = omega (arith, s .few);
-      fits = omega (arith, s .rest, held-from-step until held count i k);
+      fits = omega (arith, s .balance, held-from-step until held count i k);
     }
-    go (inr k) = absurd (omega (arith, s .rest, s .wanted, held-from-none until held count i k))
+    go (inr k) = absurd (omega (arith, s .balance, s .wanted, held-from-none until held count i k))
 
 pub scan-step : {until held : List ℕ} {count modules want t r f i : ℕ} → Scan until held count modules want t r f i → f < want
     → Scan until held count modules want t (max r (getD until i 0)) (f + getD held i 0) (i + 1)
@@ -149,7 +149,7 @@ scan-step {until} {held} {count} {modules} {want} {t} {r} {f} {i} s l = record {
   few = s .few;
   wanted = s .wanted;
   inside = omega (arith, turn .inside);
-  rest = omega (arith, s .rest, held-from-step until held count i (turn .inside));
+  balance = omega (arith, s .balance, held-from-step until held count i (turn .inside));
   from = omega (arith, s .from);
   ended = λ k n. ended k n (less-or-not k i);
   first = λ u n h. first u (s .first u n h) h (less-or-not u (getD until i 0));
@@ -167,12 +167,12 @@ scan-step {until} {held} {count} {modules} {want} {t} {r} {f} {i} s l = record {
     first u n h (inr x) = omega arith
     first u n h (inl x) =
         let all = held-from-le until held count i u (λ k y z. omega (arith, s .sorted i k y z)) in
-        absurd (omega (arith, s .rest))
+        absurd (omega (arith, s .balance))
 
 pub scan-done : {until held : List ℕ} {count modules want t r f i : ℕ} → Scan until held count modules want t r f i → want ≤ f
     → FirstRoom until held count modules want t r
 scan-done {until} {held} {count} {r = r} {i = i} s l = record {
   from = s .from;
-  room = omega (arith, s .rest, held-at-le until held count i r (s .ended));
+  room = omega (arith, s .balance, held-at-le until held count i r (s .ended));
   first = s .first;
 }

@@ -1,25 +1,25 @@
 -- What a part-plan in code stands for: the theory's part-plan of the jobs placed, in their order.
 use mathlib.Core.Path.{_≡_}
+use mathlib.Core.Logic.{_≢_}
 use mathlib.Core.Bool.{Bool, not, _&&_}
-use mathlib.Core.List.{List}
+use mathlib.Core.List.{List, [], _∷_, _++_}
 use Prim.Native.Nat.{ℕ, _+_, _-_, _*_, _^_, _≤_, _<_, max}
 use lib.Dec.{eqb}
 use lib.Bits.{bitAnd}
 use lib.Count.{ones}
-use lib.ListN.{length, getD, take, set, replicate}
+use lib.ListN.{length, getD}
 use Rattle.counting.specs.Counting.{only, sum, largest}
+use Rattle.figures.specs.Figures.{mostJobs, mostModules}
 use Rattle.bits.specs.Bits.{bit, withoutBit}
 use Rattle.schedule.specs.Plan.{Sheet, finish}
 use Rattle.schedule.specs.ListPlan.{PartPlan, noJobs, Follows, partOf}
-use Rattle.placement.specs.declared.Part.{Part}
-use Rattle.placement.specs.Profile.{heldAt, Profile, FirstRoom, Inserted}
+use Rattle.tables.specs.Tables.{wholeAt, needAt, minutesAt, earlierAt, countOf, modulesOf}
+use Rattle.tables.specs.Part.{Part, partSize, partIn, wordOf}
+use Rattle.placement.specs.Profile.{heldOf, ProfileOf, FirstRoomOf, Inserted}
 
--- the jobs in the order in which they were placed
-abbrev pub wordOf : Part → List ℕ
-wordOf p = take (p .placed) (p .order)
-
--- the struct p has the figures of the theory's part-plan P
+-- p has the figures of the theory's part-plan P
 pub record Figures (S : Sheet) (P : PartPlan) (p : Part) : Type 0 where
+  pub size : length (p .ends) ≡ partSize
   -- "Sets of jobs are kept one bit to a job"
   pub low : p .unplaced < 2 ^ S .jobs
   pub set : (i : ℕ) → i < S .jobs → bit (p .unplaced) i ≡ not (P .placed i)
@@ -30,14 +30,10 @@ pub record Figures (S : Sheet) (P : PartPlan) (p : Part) : Type 0 where
   pub ends : (i : ℕ) → i < S .jobs → getD (p .ends) i 0 ≡ only (P .placed i) (finish S (P .plan) i)
   -- the module-minutes of the unplaced jobs
   pub left : p .left ≡ sum (S .jobs) (λ i. only (not (P .placed i)) (S .need i * S .minutes i))
-  pub profile : Profile (p .until) (p .held) (p .placed) (p .gone) (p .free) (S .modules) (p .last)
+  pub profile : ProfileOf p (p .gone) (p .free) (S .modules) (p .last)
   -- whatever is counted of an end and for each module, the placed jobs sorted by their ends give the same
   pub by-end : (g : ℕ → ℕ) → sum (p .placed) (λ k. getD (p .held) k 0 * g (getD (p .until) k 0))
       ≡ sum (S .jobs) (λ i. only (P .placed i) (S .need i * g (finish S (P .plan) i)))
-  pub ends-length : length (p .ends) ≡ 20
-  pub until-length : length (p .until) ≡ 20
-  pub held-length : length (p .held) ≡ 20
-  pub order-length : length (p .order) ≡ 20
 
 -- p is the part-plan of the jobs w, which follow one another
 pub record IsPart (S : Sheet) (w : List ℕ) (p : Part) : Type 0 where
@@ -47,69 +43,81 @@ pub record IsPart (S : Sheet) (w : List ℕ) (p : Part) : Type 0 where
 
 -- ---- one job more, by the figures alone
 
--- the part-plan with these figures
-abbrev pub partWith : List ℕ → List ℕ → List ℕ → List ℕ → ℕ → ℕ → ℕ → ℕ → ℕ → ℕ → Part
-partWith ends until held order unplaced left last free placed gone = record {
-  unplaced = unplaced;
-  left = left;
-  last = last;
-  free = free;
-  placed = placed;
-  gone = gone;
-  ends = ends;
-  until = until;
-  held = held;
-  order = order;
-}
-
--- job j can be placed at minute `start`
-pub record Placeable (p : Part) (j start need minutes modules : ℕ) : Type 0 where
-  pub job : j < 20
-  pub count : p .placed < 20
+-- job j of the table t can be placed at minute `start`
+pub record Placeable (t : List ℕ) (p : Part) (j start : ℕ) : Type 0 where
+  pub size : length (p .ends) ≡ partSize
+  pub job : j < mostJobs
+  pub count : p .placed < mostJobs
   pub later : p .last ≤ start
-  pub lasts : 0 < minutes
-  pub fits : start + minutes < 65536
-  pub most : modules ≤ 64
-  pub profile : Profile (p .until) (p .held) (p .placed) (p .gone) (p .free) modules (p .last)
-  pub room : heldAt (p .until) (p .held) (p .placed) start + need ≤ modules
-  pub area : need * minutes ≤ p .left
-  pub until-length : length (p .until) ≡ 20
-  pub held-length : length (p .held) ≡ 20
+  pub lasts : 0 < minutesAt t j
+  pub fits : start + minutesAt t j < 65536
+  pub most : modulesOf t ≤ mostModules
+  pub profile : ProfileOf p (p .gone) (p .free) (modulesOf t) (p .last)
+  pub room : heldOf p start + needAt t j ≤ modulesOf t
+  pub area : needAt t j * minutesAt t j ≤ p .left
+
+-- r has the single numbers of a part-plan, in their order
+pub record Numbers (last free placed gone unplaced left : ℕ) (r : List ℕ) : Type 0 where
+  pub last-is : getD r 0 0 ≡ last
+  pub free-is : getD r 1 0 ≡ free
+  pub placed-is : getD r 2 0 ≡ placed
+  pub gone-is : getD r 3 0 ≡ gone
+  pub unplaced-is : wholeAt r 4 ≡ unplaced
+  pub left-is : wholeAt r 6 ≡ left
+
+-- the single numbers of p with job j placed there
+pub record NumbersWith (t : List ℕ) (p : Part) (j start : ℕ) (r : List ℕ) : Type 0 where
+  pub last : getD r 0 0 ≡ start
+  -- how many have ended by then, and how many modules are free beside the new job
+  pub ended : ProfileOf p (getD r 3 0) (getD r 1 0 + needAt t j) (modulesOf t) start
+  pub placed : getD r 2 0 ≡ p .placed + 1
+  pub unplaced : wholeAt r 4 ≡ withoutBit (p .unplaced) j
+  pub left : wholeAt r 6 ≡ p .left - needAt t j * minutesAt t j
+
+-- the lists of the table p with job j, which ends at `end` and needs `width` modules
+pub record ListsWith (p : List ℕ) (j end width : ℕ) (r : List ℕ) : Type 0 where
+  pub size : length r ≡ partSize
+  pub here : getD r j 0 ≡ end
+  pub ends : (i : ℕ) → i < mostJobs → i ≢ j → getD r i 0 ≡ getD p i 0
+  pub lists : Inserted (partIn p) (partIn r) end width
+  pub order : (k : ℕ) → k < partIn p .placed → getD (partIn r .order) k 0 ≡ getD (partIn p .order) k 0
+  pub job : getD (partIn r .order) (partIn p .placed) 0 ≡ j
 
 -- r is p with job j placed there
-pub record Placed (p : Part) (j start need minutes modules : ℕ) (r : Part) : Type 0 where
+pub record Placed (t : List ℕ) (p : Part) (j start : ℕ) (r : Part) : Type 0 where
+  pub size : length (r .ends) ≡ partSize
   pub unplaced : r .unplaced ≡ withoutBit (p .unplaced) j
-  pub left : r .left ≡ p .left - need * minutes
+  pub left : r .left ≡ p .left - needAt t j * minutesAt t j
   pub last : r .last ≡ start
   pub placed : r .placed ≡ p .placed + 1
-  pub ends : r .ends ≡ set (p .ends) j (start + minutes)
-  pub order : r .order ≡ set (p .order) (p .placed) j
-  pub lists : Inserted (p .until) (p .held) (r .until) (r .held) (p .placed) (start + minutes) need
-  pub profile : Profile (r .until) (r .held) (r .placed) (r .gone) (r .free) modules start
+  pub end : getD (r .ends) j 0 ≡ start + minutesAt t j
+  pub ends : (i : ℕ) → i < mostJobs → i ≢ j → getD (r .ends) i 0 ≡ getD (p .ends) i 0
+  pub word : wordOf r ≡ wordOf p ++ (j ∷ [])
+  pub lists : Inserted p r (start + minutesAt t j) (needAt t j)
+  pub profile : ProfileOf r (r .gone) (r .free) (modulesOf t) start
+
+-- ---- the next job
 
 -- the latest of minute t and the ends of the jobs in the set
 abbrev pub waits : List ℕ → ℕ → ℕ → ℕ → ℕ
 waits ends set jobs t = max t (largest jobs (λ i. only (bit set i) (getD ends i 0)))
 
--- r is the first minute from there on at which `want` modules are free
-abbrev pub StartFor : List ℕ → List ℕ → List ℕ → ℕ → ℕ → ℕ → ℕ → ℕ → ℕ → ℕ → Type 0
-StartFor ends until held placed modules last jobs set want r = FirstRoom until held placed modules want (waits ends set jobs last) r
+-- r is the start of job j: the first minute, from the last start and the ends of its earlier jobs on, at which its modules are free
+abbrev pub StartFor : List ℕ → Part → ℕ → ℕ → Type 0
+StartFor t p j r = FirstRoomOf p (modulesOf t) (needAt t j) (waits (p .ends) (earlierAt t j) (countOf t) (p .last)) r
 
 -- job j is unplaced, and none of its earlier jobs is
-abbrev pub isReady : List ℕ → ℕ → ℕ → Bool
-isReady earlier unplaced j = bit unplaced j && eqb (bitAnd (getD earlier j 0) unplaced) 0
+abbrev pub isReady : List ℕ → Part → ℕ → Bool
+isReady t p j = bit (p .unplaced) j && eqb (bitAnd (earlierAt t j) (p .unplaced)) 0
 
--- no job is placed
-unfoldable pub firstPart : List ℕ → List ℕ → ℕ → ℕ → Part
-firstPart need minutes jobs modules = record {
-  unplaced = 2 ^ jobs - 1;
-  left = sum jobs (λ i. getD need i 0 * getD minutes i 0);
-  last = 0;
-  free = modules;
-  placed = 0;
-  gone = 0;
-  ends = replicate 20 0;
-  until = replicate 20 0;
-  held = replicate 20 0;
-  order = replicate 20 0;
-}
+-- ---- no job is placed
+
+pub record FirstPart (t : List ℕ) (p : Part) : Type 0 where
+  pub size : length (p .ends) ≡ partSize
+  pub unplaced : p .unplaced ≡ 2 ^ countOf t - 1
+  pub left : p .left ≡ sum (countOf t) (λ i. needAt t i * minutesAt t i)
+  pub last : p .last ≡ 0
+  pub free : p .free ≡ modulesOf t
+  pub placed : p .placed ≡ 0
+  pub gone : p .gone ≡ 0
+  pub ends : (i : ℕ) → i < mostJobs → getD (p .ends) i 0 ≡ 0

@@ -1,10 +1,14 @@
 -- The placed jobs sorted by their ends: the k-th ends at until k and then gives back held k modules.
 use mathlib.Core.Path.{_≡_}
+use mathlib.Core.Logic.{_⊎_}
 use mathlib.Core.List.{List}
 use Prim.Native.Nat.{ℕ, _+_, _-_, _*_, _≤_, _<_}
 use lib.Dec.{ltb, leb}
 use lib.ListN.{length, getD}
 use Rattle.counting.specs.Counting.{only, sum}
+use Rattle.figures.specs.Figures.{mostJobs}
+use Rattle.tables.specs.Tables.{listFrom}
+use Rattle.tables.specs.Part.{Part}
 use Rattle.placement.specs.declared.Ended.{Ended}
 
 -- the modules that are held at minute t
@@ -25,10 +29,10 @@ Sorted until count = (i k : ℕ) → i ≤ k → k < count → getD until i 0 �
 -- the first of them, `gone` in number, have ended by minute t, and so many modules are free then of `modules`
 pub record Profile (until held : List ℕ) (count gone free modules t : ℕ) : Type 0 where
   pub sorted : Sorted until count
-  pub few : count ≤ 20
+  pub few : count ≤ mostJobs
   pub inside : gone ≤ count
   pub ended : (k : ℕ) → k < gone → getD until k 0 ≤ t
-  pub rest : free + heldFrom held count gone ≡ modules
+  pub balance : free + heldFrom held count gone ≡ modules
 
 -- r is the first minute from t on at which `want` modules are free
 pub record FirstRoom (until held : List ℕ) (count modules want t r : ℕ) : Type 0 where
@@ -52,11 +56,34 @@ pub record PutIn (list list′ : List ℕ) (at count x : ℕ) : Type 0 where
   pub below : (k : ℕ) → k < at → getD list′ k 0 ≡ getD list k 0
   pub here : getD list′ at 0 ≡ x
   pub above : (k : ℕ) → at ≤ k → k < count → getD list′ (k + 1) 0 ≡ getD list k 0
-  pub size : length list′ ≡ 20
+
+-- the same in a table's list of numbers from place `base` on; nothing else of the table changes
+pub record PutFrom (base : ℕ) (table table′ : List ℕ) (at count x : ℕ) : Type 0 where
+  pub list : PutIn (listFrom base table) (listFrom base table′) at count x
+  pub outside : (k : ℕ) → (k < base) ⊎ (base + mostJobs ≤ k) → getD table′ k 0 ≡ getD table k 0
+  pub size : length table′ ≡ length table
+
+-- ---- of a part-plan
+
+-- the modules that are held at minute t, and the module-minutes from then on
+abbrev pub heldOf : Part → ℕ → ℕ
+heldOf p t = heldAt (p .until) (p .held) (p .placed) t
+
+abbrev pub heldSince : Part → ℕ → ℕ
+heldSince p t = heldAfter (p .until) (p .held) (p .placed) t
+
+abbrev pub ProfileOf : Part → ℕ → ℕ → ℕ → ℕ → Type 0
+ProfileOf p gone free modules t = Profile (p .until) (p .held) (p .placed) gone free modules t
+
+abbrev pub FirstRoomOf : Part → ℕ → ℕ → ℕ → ℕ → Type 0
+FirstRoomOf p modules want t r = FirstRoom (p .until) (p .held) (p .placed) modules want t r
+
+abbrev pub EndedOf : Part → ℕ → ℕ → Ended → Type 0
+EndedOf p modules t r = EndedBy (p .until) (p .held) (p .placed) modules t r
 
 -- a job that ends at `end` and holds `width` modules is put in its place among the others
-pub record Inserted (until held until′ held′ : List ℕ) (count end width : ℕ) : Type 0 where
+pub record Inserted (p r : Part) (end width : ℕ) : Type 0 where
   pub at : ℕ
-  pub place : PlaceOf until count end at
-  pub ends : PutIn until until′ at count end
-  pub holds : PutIn held held′ at count width
+  pub place : PlaceOf (p .until) (p .placed) end at
+  pub ends : PutIn (p .until) (r .until) at (p .placed) end
+  pub holds : PutIn (p .held) (r .held) at (p .placed) width

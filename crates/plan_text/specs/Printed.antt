@@ -1,7 +1,8 @@
 -- The lines that are printed of a plan and of a refusal: document 01, 'Examples from the yard'.
 use mathlib.Core.List.{List, [], _∷_}
 use Prim.Native.Nat.{ℕ}
-use Rattle.card.specs.Card.{latenessOf}
+use Rattle.figures.specs.Figures.{mostJobs}
+use Rattle.card.specs.Card.{cardSize, latenessOf}
 use Rattle.sheet_format.specs.Format.{jobsIn}
 use Rattle.sheet.specs.Read.{reading}
 use Rattle.text.specs.Numbers.{decimal, signed, hexadecimal}
@@ -32,6 +33,6 @@ refusedLine number = line refusedWord (decimal number ∷ [])
 abbrev pub departureOf : List ℕ → ℕ → ℕ
 departureOf s j = jobsIn (reading s .jobs) j .departure
 
--- the longest card, of 20 jobs: planning with a card of this length never refuses with 10 (`card-fits`)
+-- the longest card: planning with a card of this length never refuses with 10 (`card-fits`)
 abbrev pub longestCard : ℕ
-longestCard = 268
+longestCard = cardSize mostJobs

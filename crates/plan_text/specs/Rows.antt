@@ -2,6 +2,7 @@
 use mathlib.Core.List.{List, _++_}
 use Prim.Native.Nat.{ℕ, _+_, _*_}
 use Rattle.counting.specs.Counting.{joined}
+use Rattle.card.specs.Card.{rowSize, rowEnd, rowModules, trailerAt, trailerEnd}
 use Rattle.card.specs.Decoding.{numberAt}
 use Rattle.sheet.specs.Read.{reading}
 use Rattle.sheet.specs.Label.{labelOf}
@@ -10,7 +11,8 @@ use Rattle.plan_text.specs.Printed.{planLine, jobLine, departureOf}
 -- the line of job j, whose row is on the card
 abbrev pub rowLine : List ℕ → List ℕ → ℕ → ℕ → List ℕ
 rowLine s card departure j =
-    jobLine (labelOf s j) (numberAt card (12 * j) 2) (numberAt card (12 * j + 2) 2) departure (numberAt card (12 * j + 4) 8)
+    jobLine (labelOf s j) (numberAt card (rowSize * j) 2) (numberAt card (rowSize * j + rowEnd) 2) departure
+    (numberAt card (rowSize * j + rowModules) 8)
 
 -- a line per job
 abbrev pub rowLines : List ℕ → List ℕ → List ℕ
@@ -18,4 +20,4 @@ rowLines s card = joined (reading s .count) (λ j. rowLine s card (departureOf s
 
 abbrev pub cardLines : List ℕ → List ℕ → List ℕ
 cardLines s card =
-    planLine (numberAt card (13 * reading s .count + 4) 2) (reading s .count) (reading s .modules) ++ rowLines s card
+    planLine (numberAt card (trailerAt (reading s .count) + trailerEnd) 2) (reading s .count) (reading s .modules) ++ rowLines s card

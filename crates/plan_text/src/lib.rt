@@ -2,17 +2,24 @@
 ghost use mathlib.Core.Path.{_≡_};
 ghost use Prim.Native.Nat.{_+_, _≤_, _<_};
 ghost use lib.ListN.{length};
+ghost use Rattle.figures.specs.Figures.{mostJobs};
 ghost use Rattle.card.specs.Decoding.{numberAt};
 ghost use Rattle.sheet.specs.Read.{reading};
 ghost use Rattle.text.specs.Texts.{empty, adding};
 ghost use Rattle.plan_text.specs.Printed.{planLine, jobLine, refusedLine, longestCard};
 ghost use Rattle.plan_text.specs.Rows.{rowLine, rowLines, cardLines};
+use card::ROW_END;
+use card::ROW_MODULES;
+use card::ROW_SIZE;
+use card::TRAILER_END;
+use card::TRAILER_SIZE;
+use figures::MOST_JOBS;
 use labels::label;
 use sheet::Reading;
 use text::Text;
 
-// The length of the card of 20 jobs, the longest.
-pub const LONGEST_CARD: usize = 268;
+// The length of the longest card.
+pub const LONGEST_CARD: usize = (ROW_SIZE + 1) * MOST_JOBS + TRAILER_SIZE;
 
 // The number of two bytes at a place.
 fn number16(card: &[u8], at: usize) -> u16
@@ -45,13 +52,13 @@ fn with_line(text: Text, label: &[u8], start: u16, end: u16, departure: u16, mod
 
 // The text with the line of job j, whose row is on the card.
 fn with_row(text: Text, sheet: &[u8], card: &[u8], j: usize, departure: u16) -> Text
-    requires { ⌜ (j < 20) × (length (now card) ≡ longestCard) ⌝ }
+    requires { ⌜ (j < mostJobs) × (length (now card) ≡ longestCard) ⌝ }
     ensures { λ r. ⌜ r ≡ adding text (rowLine (now (sheet .entry)) (now (card .entry)) departure j) ⌝ }
 {
-    let at = 12 * j;
+    let at = ROW_SIZE * j;
     let start = number16(card, at);
-    let end = number16(card, at + 2);
-    let modules = number64(card, at + 4);
+    let end = number16(card, at + ROW_END);
+    let modules = number64(card, at + ROW_MODULES);
     with_line(text, label(sheet, j), start, end, departure, modules)
 }
 
@@ -88,7 +95,7 @@ pub fn plan_lines(sheet: &[u8], card: &[u8]) -> Text
 {
     let found = sheet::read(sheet);
     let jobs = found.count;
-    let end = number16(card, 13 * jobs + 4);
+    let end = number16(card, (ROW_SIZE + 1) * jobs + TRAILER_END);
     let text = plan_line(end, jobs as u32, found.modules);
     with_rows(text, sheet, card, found)
 }

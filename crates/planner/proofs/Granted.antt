@@ -10,16 +10,17 @@ use Rattle.desk.specs.Reachable.{Reachable}
 use Rattle.assurance.specs.Following.{FollowsPlan, AllGranted}
 use Rattle.assurance.proofs.Assured.{plan-granted}
 use Rattle.card.specs.Decoding.{planOn}
-use Rattle.sheet.specs.Read.{reading}
-use Rattle.planner.specs.Planning.{sheetOn, planRefusal, cardAfter}
-use Rattle.planner.proofs.Tables.{lasting-read, needing-read}
-use Rattle.planner.proofs.Planning.{passes, plan-answered}
+use Rattle.planable.specs.Planable.{sheetIn}
+use Rattle.planable.proofs.Tables.{lasting-read, needing-read}
+use Rattle.planable.proofs.Planable.{passes}
+use Rattle.planner.specs.Planning.{planRefusal, cardAfter}
+use Rattle.planner.proofs.Planning.{front-passes, plan-answered}
 
 -- For every list of calls on a desk that calls can leave: where those in controller c's name follow the plan on the card, c held
 -- nothing before them and its assured share covers the cabinet's modules, each of them is granted, whatever stands between them.
 pub card-granted : (s card : List ℕ) → planRefusal s (length card) ≡ 0
-    → (d : Desk) → Reachable d → (c : ℕ) → holding d c ≡ 0 → sheetOn (reading s) .modules ≤ assuredShare d c
-    → (calls : List Call) → FollowsPlan (sheetOn (reading s)) (planOn (cardAfter s card)) c calls → AllGranted c d calls
+    → (d : Desk) → Reachable d → (c : ℕ) → holding d c ≡ 0 → sheetIn s .modules ≤ assuredShare d c
+    → (calls : List Call) → FollowsPlan (sheetIn s) (planOn (cardAfter s card)) c calls → AllGranted c d calls
 card-granted s card e =
-    let r = passes s (length card) e .reads in
-    plan-granted (sheetOn (reading s)) (planOn (cardAfter s card)) (plan-answered s card e .1 .valid) (lasting-read s r) (needing-read s r)
+    let r = passes s (front-passes s (length card) e) .reads in
+    plan-granted (sheetIn s) (planOn (cardAfter s card)) (plan-answered s card e .1 .valid) (lasting-read s r) (needing-read s r)

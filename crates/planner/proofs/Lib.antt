@@ -1,5 +1,5 @@
 -- Laws of planning.
-pub mod Tables
+pub mod Cards
 pub mod Planning
 pub mod Calls
 pub mod Granted

@@ -5,42 +5,36 @@ use mathlib.Core.Logic.{_⊎_, inl, inr, ⊎-elim, _↔_}
 use mathlib.Core.Bool.{Bool, true, false}
 use mathlib.Core.List.{List, [], _∷_, _++_}
 use mathlib.Core.Option.{Option, none, some}
-use Prim.Native.Nat.{ℕ, _+_, _≤_, _<_}
+use Prim.Native.Nat.{ℕ, _≤_, _<_}
 use native.Mathlib.Omega.{arith}
 use lib.Dec.{ltb}
 use lib.ListN.{length, drop}
 use Rattle.counting.proofs.Tests.{true-or-false, clash}
-use Rattle.schedule.specs.Plan.{Sheet, Plan, Valid, Circular, finish, planEnd, overWide}
+use Rattle.schedule.specs.Plan.{Sheet, Plan, Valid, finish, planEnd, overWide}
 use Rattle.schedule.specs.ListPlan.{Order, listPlan}
 use Rattle.schedule.specs.TieRule.{Best, bestOrder, endOf}
 use Rattle.schedule.proofs.Orders.{best-order}
 use Rattle.schedule.proofs.Existence.{narrow-says, has-plan}
-use Rattle.schedule.proofs.Theorems.{none-circular, best-not-circular, best-earliest}
-use Rattle.card.specs.Card.{cardOf}
+use Rattle.schedule.proofs.Theorems.{best-earliest}
+use Rattle.tables.specs.Tables.{sheetOf}
+use Rattle.card.specs.Card.{cardSize, cardOf}
 use Rattle.card.specs.Decoding.{planOn, Decodes}
 use Rattle.card.proofs.Decoding.{card-length, end-short, card-decodes}
 use Rattle.card.proofs.OnCard.{card-valid, card-end}
 use Rattle.checking.specs.Checking.{firstFailing, FirstFails}
-use Rattle.checking.proofs.Order.{all-passed, none-failing, first-behind, refused-exactly}
+use Rattle.checking.proofs.Order.{all-passed, both-passed, none-failing, first-behind, refused-exactly}
 use Rattle.sheet.specs.Read.{readChecks, readRefusal, reading}
-use Rattle.planner.specs.Planning.{sheetOn, noOrder, cardSize, limitChecks, planChecks, planRefusal, bestCard, cardAfter}
+use Rattle.job_table.proofs.Copies.{has-table}
+use Rattle.planable.specs.Planable.{sheetIn, noOrder, planableChecks, planableRefusal}
+use Rattle.planable.proofs.Same.{same-back, order-same, finish-same}
+use Rattle.planable.proofs.Circles.{circular-when, ordered-when}
+use Rattle.planable.proofs.Tables.{lasting-read}
+use Rattle.planable.proofs.Planable.{Passes, passes, Ready, ready-table}
+use Rattle.planner.specs.Planning.{roomChecks, planChecks, planRefusal, bestCard, cardAfter}
 use Rattle.planner.specs.Planned.{Planned}
-use Rattle.planner.proofs.Tables.{needs, minutes, earliers, sheet-tables, lasting-read, fit-read}
+use Rattle.planner.proofs.Cards.{card-same, decodes-same, best-card}
 
 -- ---- the checks
-
--- Check 9 fails exactly where some job would have to end before itself.
-pub circular-when : (S : Sheet) → (noOrder S ≡ true) ↔ Circular S
-unfolding noOrder
-circular-when S = (there (bestOrder S) refl, back (bestOrder S) refl)
-  where
-    there : (b : Option (List ℕ)) → bestOrder S ≡ b → noOrder S ≡ true → Circular S
-    there none e h = none-circular S e
-    there (some o) e h = clash false (rw (e, noOrder) at h) refl
-
-    back : (b : Option (List ℕ)) → bestOrder S ≡ b → Circular S → noOrder S ≡ true
-    back none e c = rw (e, noOrder) refl
-    back (some o) e c = absurd (best-not-circular S o (best-order S o e) c)
 
 -- Planning gives k exactly when check k fails and no earlier one of 1 to 10 does.
 pub plan-refused : (s : List ℕ) (room k : ℕ) → 0 < k → (planRefusal s room ≡ k) ↔ FirstFails (planChecks s room) k
@@ -49,24 +43,11 @@ plan-refused s room k h = refused-exactly (planChecks s room) k h
 
 -- ---- what is known of an answered call
 
-pub record Passes (s : List ℕ) (room : ℕ) : Type 0 where
-  pub reads : readRefusal s ≡ 0
-  pub narrow : overWide (sheetOn (reading s)) ≡ false
-  pub ordered : noOrder (sheetOn (reading s)) ≡ false
-  pub fits : ltb room (cardSize (sheetOn (reading s))) ≡ false
-
-pub passes : (s : List ℕ) (room : ℕ) → planRefusal s room ≡ 0 → Passes s room
-unfolding planRefusal
-passes s room e =
-    let p = all-passed (planChecks s room) refl e in
-    let q = p .1 .1 .1 .1 .1 .1 .1 in
-    record {
-      reads = none-failing (readChecks s)
-          (p .0, (p .1 .0, (p .1 .1 .0, (p .1 .1 .1 .0, (p .1 .1 .1 .1 .0, (p .1 .1 .1 .1 .1 .0, (p .1 .1 .1 .1 .1 .1 .0, tt)))))));
-      narrow = q .0;
-      ordered = q .1 .0;
-      fits = q .1 .1 .0;
-    }
+-- 1 to 9 pass
+pub front-passes : (s : List ℕ) (room : ℕ) → planRefusal s room ≡ 0 → planableRefusal s ≡ 0
+unfolding planRefusal planableRefusal
+front-passes s room e =
+    none-failing (planableChecks s) (both-passed (planableChecks s) (roomChecks (sheetIn s) room) (all-passed (planChecks s room) refl e) .0)
 
 -- ---- no valid plan
 
@@ -87,7 +68,7 @@ wide-or-circular false false false = (
 
 -- "planning refuses the sheet as over-wide or circular exactly when it has no valid plan", of every sheet that reads.
 pub no-plan-exactly : (s : List ℕ) (room : ℕ) → readRefusal s ≡ 0
-    → ((planRefusal s room ≡ 8) ⊎ (planRefusal s room ≡ 9)) ↔ (¬ ((P : Plan) × Valid (sheetOn (reading s)) P))
+    → ((planRefusal s room ≡ 8) ⊎ (planRefusal s room ≡ 9)) ↔ (¬ ((P : Plan) × Valid (sheetIn s) P))
 unfolding planRefusal
 no-plan-exactly s room e = (
   λ h. there (either .0 (⊎-elim (λ x. inl (sym behind ∙ x)) (λ x. inr (sym behind ∙ x)) h)),
@@ -95,16 +76,16 @@ no-plan-exactly s room e = (
 )
   where
     S : Sheet
-    S = sheetOn (reading s)
+    S = sheetIn s
 
     late : ℕ
-    late = firstFailing (limitChecks S room)
+    late = firstFailing ((8, overWide S) ∷ (9, noOrder S) ∷ roomChecks S room)
 
     behind : planRefusal s room ≡ late
     behind = first-behind (readChecks s) _ (all-passed (readChecks s) refl e)
 
     either : ((late ≡ 8) ⊎ (late ≡ 9)) ↔ ((overWide S ≡ true) ⊎ (noOrder S ≡ true))
-    either = wide-or-circular (overWide S) (noOrder S) (ltb room (cardSize S))
+    either = wide-or-circular (overWide S) (noOrder S) (ltb room (cardSize (S .jobs)))
 
     there : (overWide S ≡ true) ⊎ (noOrder S ≡ true) → ¬ ((P : Plan) × Valid S P)
     there (inl t) q = clash (overWide S) t (has-plan S (lasting-read s e) .0 q .0)
@@ -114,16 +95,19 @@ no-plan-exactly s room e = (
         → (overWide S ≡ true) ⊎ (noOrder S ≡ true)
     back h (inl t) c = inl t
     back h (inr t) (inl c) = inr c
-    back h (inr t) (inr c) = absurd (h (has-plan S (lasting-read s e) .1 (t, λ x. clash (noOrder S) (circular-when S .1 x) c)))
+    back h (inr t) (inr c) = absurd (h (has-plan S (lasting-read s e) .1 (t, ordered-when S .0 c)))
 
 -- ---- the card
 
 module _ (s card : List ℕ) (e : planRefusal s (length card) ≡ 0) where
   abbrev S : Sheet
-  S = sheetOn (reading s)
+  S = sheetIn s
 
-  abbrev p : Passes s (length card)
-  p = passes s (length card) e
+  front : planableRefusal s ≡ 0
+  front = front-passes s (length card) e
+
+  abbrev p : Passes s
+  p = passes s front
 
   pub found : (o : List ℕ) × (bestOrder S ≡ some o)
   unfolding noOrder
@@ -139,35 +123,38 @@ module _ (s card : List ℕ) (e : planRefusal s (length card) ≡ 0) where
   best : Best S o
   best = best-order S o (found .1)
 
-  best-card : bestCard S ≡ cardOf S o
-  unfolding bestCard
-  best-card = rw (found .1, bestCard) refl
+  size : length (bestCard S) ≡ cardSize (S .jobs)
+  size = ap length (best-card S o best) ∙ card-length S o (best .order)
 
-  size : length (bestCard S) ≡ cardSize S
-  size = ap length best-card ∙ card-length S o (best .order)
-
-  pub plan-written : cardAfter s card ≡ bestCard S ++ drop (cardSize S) card
+  pub plan-written : cardAfter s card ≡ bestCard S ++ drop (cardSize (S .jobs)) card
   unfolding cardAfter
   plan-written = rw e (ap (λ (k : ℕ). bestCard S ++ drop k card) size)
 
-  card-is : cardAfter s card ≡ cardOf S o ++ drop (cardSize S) card
-  card-is = plan-written ∙ ap (λ (c : List ℕ). c ++ drop (cardSize S) card) best-card
+  card-is : cardAfter s card ≡ cardOf S o ++ drop (cardSize (S .jobs)) card
+  card-is = plan-written ∙ ap (λ (c : List ℕ). c ++ drop (cardSize (S .jobs)) card) (best-card S o best)
+
+  -- ---- by a table of the sheet
+
+  abbrev t : List ℕ
+  t = has-table (reading s) .0
+
+  abbrev ready : Ready s t
+  ready = ready-table s t front (has-table (reading s) .1)
+
+  order : Order (sheetOf t) o
+  order = order-same (same-back (ready .same)) o (best .order)
 
   pub decodes : Decodes S o (cardAfter s card)
   decodes =
-      subst (λ (c : List ℕ). Decodes S o c) (sym card-is)
-      (subst (λ (T : Sheet). Order T o → Decodes T o (cardOf T o ++ drop (cardSize S) card)) (sheet-tables (reading s))
-      (λ h. card-decodes (needs (reading s)) (minutes (reading s)) (earliers (reading s)) (reading s .count) (reading s .modules)
-      (fit-read s (p .reads) (p .narrow)) o h (drop (cardSize S) card))
-      (best .order))
+      subst (λ (c : List ℕ). Decodes S o c)
+      (ap (λ (c : List ℕ). c ++ drop (cardSize (S .jobs)) card) (card-same (ready .same) o order) ∙ sym card-is)
+      (decodes-same (ready .same) o order _ (card-decodes t (ready .fit) o order (drop (cardSize (S .jobs)) card)))
 
   -- no minute of the plan reaches 28,801
   pub ends-short : (j : ℕ) → j < S .jobs → finish S (listPlan S o) j ≤ 28800
-  ends-short =
-      subst (λ (T : Sheet). Order T o → (j : ℕ) → j < T .jobs → finish T (listPlan T o) j ≤ 28800) (sheet-tables (reading s))
-      (λ h. end-short (needs (reading s)) (minutes (reading s)) (earliers (reading s)) (reading s .count) (reading s .modules)
-      (fit-read s (p .reads) (p .narrow)) o h [])
-      (best .order)
+  ends-short j l =
+      let k : j < sheetOf t .jobs = omega (arith, ready .same .jobs) in
+      omega (arith, finish-same (ready .same) o order j k, end-short t (ready .fit) o order [] j k)
 
   last : planEnd S (planOn (cardAfter s card)) ≡ endOf S o
   last = card-end S (narrow-says S (p .narrow)) o (best .order) (cardAfter s card) decodes ∙ decodes .last

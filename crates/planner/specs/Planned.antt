@@ -1,14 +1,14 @@
 -- What is promised of an answered planning call, in the words of demands 2 and 3.
 use mathlib.Core.Path.{_≡_}
 use mathlib.Core.List.{List, _++_}
-use Prim.Native.Nat.{ℕ, _+_, _*_, _≤_}
+use Prim.Native.Nat.{ℕ, _+_, _≤_}
 use lib.ListN.{drop}
 use Rattle.schedule.specs.Plan.{Sheet, Plan, Valid, planEnd}
 use Rattle.schedule.specs.TieRule.{Best}
-use Rattle.card.specs.Card.{cardOf}
+use Rattle.card.specs.Card.{cardSize, cardOf, trailerAt, trailerEnd}
 use Rattle.card.specs.Decoding.{numberAt, planOn}
-use Rattle.sheet.specs.Read.{reading}
-use Rattle.planner.specs.Planning.{sheetOn, cardSize, cardAfter}
+use Rattle.planable.specs.Planable.{sheetIn}
+use Rattle.planner.specs.Planning.{cardAfter}
 
 -- the plan that the card's bytes say
 abbrev pub ourPlan : List ℕ → List ℕ → Plan
@@ -18,13 +18,13 @@ ourPlan s card = planOn (cardAfter s card)
 pub record PlannedFor (T : Sheet) (s card order : List ℕ) : Type 0 where
   -- "the one that document 01's tie rule names"
   pub best : Best T order
-  pub written : cardAfter s card ≡ cardOf T order ++ drop (cardSize T) card
+  pub written : cardAfter s card ≡ cardOf T order ++ drop (cardSize (T .jobs)) card
   -- "A plan keeps constraints (2) to (5)"
   pub valid : Valid T (ourPlan s card)
   -- the end in the trailer is the plan's
-  pub end : planEnd T (ourPlan s card) ≡ numberAt (cardAfter s card) (13 * T .jobs + 4) 2
+  pub end : planEnd T (ourPlan s card) ≡ numberAt (cardAfter s card) (trailerAt (T .jobs) + trailerEnd) 2
   -- "every valid plan, whoever finds it and however, ends no earlier than ours"
   pub earliest : (Q : Plan) → Valid T Q → planEnd T (ourPlan s card) ≤ planEnd T Q
 
 abbrev pub Planned : List ℕ → List ℕ → List ℕ → Type 0
-Planned s = PlannedFor (sheetOn (reading s)) s
+Planned s = PlannedFor (sheetIn s) s

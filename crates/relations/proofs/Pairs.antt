@@ -3,7 +3,7 @@ use mathlib.Core.Path.{_≡_, refl, sym, ap, _∙_, subst}
 use mathlib.Core.Logic.{_⊎_, inl, inr, _≢_}
 use mathlib.Core.Bool.{Bool, true, false, cond, _||_}
 use mathlib.Core.List.{List}
-use Prim.Native.Nat.{ℕ, _+_, _*_, _<_}
+use Prim.Native.Nat.{ℕ, _+_, _*_, _≤_, _<_}
 use native.Mathlib.Omega.{arith}
 use native.Mathlib.Nat.{not-suc-le-zero}
 use lib.Dec.{eqb}
@@ -16,16 +16,17 @@ use Rattle.bits.specs.Bits.{bit, withBit}
 use Rattle.bits.proofs.Digits.{bit-none, bit-and}
 use Rattle.bits.proofs.Members.{bit-with}
 use Rattle.relations.specs.declared.Row.{Row}
-use Rattle.relations.specs.Relations.{Laters, WaitsToo, Alike, Turning, RowOf, rowAt, PairPut, withRow}
+use Rattle.tables.specs.Tables.{needAt, minutesAt, countOf, modulesOf}
+use Rattle.relations.specs.Relations.{Laters, WaitsToo, Alike, Swapping, RowOf, rowAt, Related, PairPut, withRow}
 
 -- a set that is in another
 subset : (a b : ℕ) → bitAnd a b ≡ a → (k : ℕ) → bit a k ≡ true → bit b k ≡ true
 subset a b e k h = and-right (bit a k) (bit b k) (sym (bit-and a b k) ∙ ap (λ (x : ℕ). bit x k) e ∙ h)
 
 -- whatever waits for a waits for b, by the sets of later jobs
-waits-too : (earlier later : List ℕ) (jobs : ℕ) → Laters earlier jobs later → (a b : ℕ) → a < jobs → b < jobs
-    → bitAnd (getD later a 0) (getD later b 0) ≡ getD later a 0 → WaitsToo earlier jobs a b
-waits-too earlier later jobs h a b x y e k m w = sym (h b k y m) ∙ subset (getD later a 0) (getD later b 0) e k (h a k x m ∙ w)
+waits-too : (t later : List ℕ) → Laters t later → (a b : ℕ) → a < countOf t → b < countOf t
+    → bitAnd (getD later a 0) (getD later b 0) ≡ getD later a 0 → WaitsToo t a b
+waits-too t later h a b x y e k m w = sym (h b k y m) ∙ subset (getD later a 0) (getD later b 0) e k (h a k x m ∙ w)
 
 -- a member of a set with one member more
 with-or : (x n i : ℕ) → bit (withBit x n) i ≡ true → (i ≡ n) ⊎ (bit x i ≡ true)
@@ -59,44 +60,44 @@ put-or x i false e f = inl (e, f refl)
 
 -- ---- the row of one job
 
-module _ (need minutes earlier later : List ℕ) (jobs modules j : ℕ) (l : j < jobs) (h : Laters earlier jobs later) where
-  pub row-none : RowOf need minutes earlier jobs modules j 0 (record { alike = 0; turning = 0; beside = 0 })
+module _ (t later : List ℕ) (j : ℕ) (l : j < countOf t) (h : Laters t later) where
+  pub row-none : RowOf t j 0 (record { alike = 0; swapping = 0; beside = 0 })
   row-none = record {
     alike = λ i b. clash (bit 0 i) b (bit-none i);
-    turning = λ i b. clash (bit 0 i) b (bit-none i);
+    swapping = λ i b. clash (bit 0 i) b (bit-none i);
     beside = λ i k. absurd (not-suc-le-zero k);
   }
 
-  pub row-more : (n : ℕ) (row r : Row) → n < jobs → RowOf need minutes earlier jobs modules j n row
-      → PairPut row (getD need n 0) (getD need j 0) (getD minutes n 0) (getD minutes j 0) (getD later n 0) (getD later j 0) modules n j r
-      → RowOf need minutes earlier jobs modules j (n + 1) r
-  row-more n row r m old put = record { alike = alike (put .alike); turning = turning (put .turning); beside = beside (put .beside) }
+  pub row-more : (n : ℕ) (row r : Row) → n < countOf t → RowOf t j n row
+      → PairPut row t later n j r
+      → RowOf t j (n + 1) r
+  row-more n row r m old put = record { alike = alike (put .alike); swapping = swapping (put .swapping); beside = beside (put .beside) }
     where
-      alike : (r .alike ≡ row .alike) ⊎ ((r .alike ≡ withBit (row .alike) n) × ((getD need n 0 ≡ getD need j 0)
-          × ((getD minutes n 0 ≡ getD minutes j 0) × (bitAnd (getD later j 0) (getD later n 0) ≡ getD later j 0))))
-          → (i : ℕ) → bit (r .alike) i ≡ true → (i < n + 1) × Alike need minutes earlier jobs i j
+      alike : (r .alike ≡ row .alike) ⊎ ((r .alike ≡ withBit (row .alike) n) × ((needAt t n ≡ needAt t j)
+          × ((minutesAt t n ≡ minutesAt t j) × (bitAnd (getD later j 0) (getD later n 0) ≡ getD later j 0))))
+          → (i : ℕ) → bit (r .alike) i ≡ true → (i < n + 1) × Alike t i j
       alike (inl e) i b = let o = old .alike i (rw e at b) in (omega (arith, o .0), o .1)
       alike (inr (e, (w, (d, s)))) i b = go (with-or (row .alike) n i (rw e at b))
         where
-          go : (i ≡ n) ⊎ (bit (row .alike) i ≡ true) → (i < n + 1) × Alike need minutes earlier jobs i j
-          go (inl z) = rw z (omega arith, (w, (d, waits-too earlier later jobs h j n l m s)))
+          go : (i ≡ n) ⊎ (bit (row .alike) i ≡ true) → (i < n + 1) × Alike t i j
+          go (inl z) = rw z (omega arith, (w, (d, waits-too t later h j n l m s)))
           go (inr z) = let o = old .alike i z in (omega (arith, o .0), o .1)
 
-      turning : (r .turning ≡ row .turning) ⊎ ((r .turning ≡ withBit (row .turning) n) × ((getD need n 0 ≡ getD need j 0)
+      swapping : (r .swapping ≡ row .swapping) ⊎ ((r .swapping ≡ withBit (row .swapping) n) × ((needAt t n ≡ needAt t j)
           × (bitAnd (getD later n 0) (getD later j 0) ≡ getD later n 0)))
-          → (i : ℕ) → bit (r .turning) i ≡ true → (i < n + 1) × Turning need earlier jobs i j
-      turning (inl e) i b = let o = old .turning i (rw e at b) in (omega (arith, o .0), o .1)
-      turning (inr (e, (w, s))) i b = go (with-or (row .turning) n i (rw e at b))
+          → (i : ℕ) → bit (r .swapping) i ≡ true → (i < n + 1) × Swapping t i j
+      swapping (inl e) i b = let o = old .swapping i (rw e at b) in (omega (arith, o .0), o .1)
+      swapping (inr (e, (w, s))) i b = go (with-or (row .swapping) n i (rw e at b))
         where
-          go : (i ≡ n) ⊎ (bit (row .turning) i ≡ true) → (i < n + 1) × Turning need earlier jobs i j
-          go (inl z) = rw z (omega arith, (w, waits-too earlier later jobs h n j m l s))
-          go (inr z) = let o = old .turning i z in (omega (arith, o .0), o .1)
+          go : (i ≡ n) ⊎ (bit (row .swapping) i ≡ true) → (i < n + 1) × Swapping t i j
+          go (inl z) = rw z (omega arith, (w, waits-too t later h n j m l s))
+          go (inr z) = let o = old .swapping i z in (omega (arith, o .0), o .1)
 
-      beside : ((r .beside ≡ row .beside) × (n ≢ j → modules < getD need n 0 + getD need j 0)) ⊎ (r .beside ≡ withBit (row .beside) n)
-          → (i : ℕ) → i < n + 1 → bit (r .beside) i ≡ false → i ≢ j → modules < getD need i 0 + getD need j 0
+      beside : ((r .beside ≡ row .beside) × (n ≢ j → modulesOf t < needAt t n + needAt t j)) ⊎ (r .beside ≡ withBit (row .beside) n)
+          → (i : ℕ) → i < n + 1 → bit (r .beside) i ≡ false → i ≢ j → modulesOf t < needAt t i + needAt t j
       beside (inl (e, f)) i k b d = go (same-or-not i n)
         where
-          go : (i ≡ n) ⊎ (¬ (i ≡ n)) → modules < getD need i 0 + getD need j 0
+          go : (i ≡ n) ⊎ (¬ (i ≡ n)) → modulesOf t < needAt t i + needAt t j
           go (inl z) = rw z (f (λ q. d (z ∙ q)))
           go (inr z) = old .beside i (omega arith) (rw e at b) d
       beside (inr e) i k b d =
@@ -105,12 +106,12 @@ module _ (need minutes earlier later : List ℕ) (jobs modules j : ℕ) (l : j <
 
 -- ---- the rows of the first n jobs
 
-pub record RelatedTo (need minutes earlier : List ℕ) (jobs modules n : ℕ) (all : List ℕ) : Type 0 where
+pub record RelatedTo (t : List ℕ) (n : ℕ) (all : List ℕ) : Type 0 where
   pub size : length all ≡ 60
-  pub each : (j : ℕ) → j < n → RowOf need minutes earlier jobs modules j jobs (rowAt all j)
+  pub each : (j : ℕ) → j < n → RowOf t j (countOf t) (rowAt all j)
 
-pub related-none : {need minutes earlier : List ℕ} {jobs modules : ℕ} (all : List ℕ) → length all ≡ 60
-    → RelatedTo need minutes earlier jobs modules 0 all
+pub related-none : {t : List ℕ} (all : List ℕ) → length all ≡ 60
+    → RelatedTo t 0 all
 related-none all e = record { size = e; each = λ j l. absurd (not-suc-le-zero l) }
 
 module _ (all : List ℕ) (n : ℕ) (row : Row) (size : length all ≡ 60) (l : n < 20) where
@@ -118,13 +119,13 @@ module _ (all : List ℕ) (n : ℕ) (row : Row) (size : length all ≡ 60) (l : 
   one = set all (n * 3) (row .alike)
 
   abbrev two : List ℕ
-  two = set one (n * 3 + 1) (row .turning)
+  two = set one (n * 3 + 1) (row .swapping)
 
   size-one : length one ≡ 60
   size-one = length-set all (n * 3) (row .alike) ∙ size
 
   size-two : length two ≡ 60
-  size-two = length-set one (n * 3 + 1) (row .turning) ∙ size-one
+  size-two = length-set one (n * 3 + 1) (row .swapping) ∙ size-one
 
   pub with-row-size : length (withRow all n row) ≡ 60
   with-row-size = length-set two (n * 3 + 2) (row .beside) ∙ size-two
@@ -136,13 +137,13 @@ module _ (all : List ℕ) (n : ℕ) (row : Row) (size : length all ≡ 60) (l : 
       first : getD (withRow all n row) (n * 3) 0 ≡ row .alike
       first =
           getD-set-other two (n * 3 + 2) (n * 3) (row .beside) 0 (λ e. omega arith)
-          ∙ getD-set-other one (n * 3 + 1) (n * 3) (row .turning) 0 (λ e. omega arith)
+          ∙ getD-set-other one (n * 3 + 1) (n * 3) (row .swapping) 0 (λ e. omega arith)
           ∙ getD-set-same all (n * 3) (row .alike) 0 (omega arith)
 
-      second : getD (withRow all n row) (n * 3 + 1) 0 ≡ row .turning
+      second : getD (withRow all n row) (n * 3 + 1) 0 ≡ row .swapping
       second =
           getD-set-other two (n * 3 + 2) (n * 3 + 1) (row .beside) 0 (λ e. omega arith)
-          ∙ getD-set-same one (n * 3 + 1) (row .turning) 0 (omega (arith, size-one))
+          ∙ getD-set-same one (n * 3 + 1) (row .swapping) 0 (omega (arith, size-one))
 
       third : getD (withRow all n row) (n * 3 + 2) 0 ≡ row .beside
       third = getD-set-same two (n * 3 + 2) (row .beside) 0 (omega (arith, size-two))
@@ -150,7 +151,7 @@ module _ (all : List ℕ) (n : ℕ) (row : Row) (size : length all ≡ 60) (l : 
   -- a place of another job
   other-place : (p : ℕ) → p ≢ n * 3 → p ≢ n * 3 + 1 → p ≢ n * 3 + 2 → getD (withRow all n row) p 0 ≡ getD all p 0
   other-place p a b c =
-      getD-set-other two (n * 3 + 2) p (row .beside) 0 c ∙ getD-set-other one (n * 3 + 1) p (row .turning) 0 b
+      getD-set-other two (n * 3 + 2) p (row .beside) 0 c ∙ getD-set-other one (n * 3 + 1) p (row .swapping) 0 b
       ∙ getD-set-other all (n * 3) p (row .alike) 0 a
 
   with-row-other : (j : ℕ) → j < n → rowAt (withRow all n row) j ≡ rowAt all j
@@ -160,16 +161,23 @@ module _ (all : List ℕ) (n : ℕ) (row : Row) (size : length all ≡ 60) (l : 
     other-place (j * 3 + 2) (λ e. omega arith) (λ e. omega arith) (λ e. omega arith),
   ) refl
 
-  pub related-more : {need minutes earlier : List ℕ} {jobs modules : ℕ} → RelatedTo need minutes earlier jobs modules n all
-      → RowOf need minutes earlier jobs modules n jobs row → RelatedTo need minutes earlier jobs modules (n + 1) (withRow all n row)
-  related-more {need} {minutes} {earlier} {jobs} {modules} h r = record {
+  pub related-more : {t : List ℕ} → RelatedTo t n all
+      → RowOf t n (countOf t) row → RelatedTo t (n + 1) (withRow all n row)
+  related-more {t} h r = record {
     size = with-row-size;
     each = λ j k. go j k (same-or-not j n);
   }
     where
       Is : ℕ → Row → Type 0
-      Is j = RowOf need minutes earlier jobs modules j jobs
+      Is j = RowOf t j (countOf t)
 
       go : (j : ℕ) → j < n + 1 → (j ≡ n) ⊎ (¬ (j ≡ n)) → Is j (rowAt (withRow all n row) j)
       go j k (inl e) = rw (e, with-row-same) r
       go j k (inr d) = subst (Is j) (sym (with-row-other j (omega arith))) (h .each j (omega arith))
+
+-- a list that has the same at the places of the rows
+pub related-same : (t a b : List ℕ) → countOf t ≤ 20 → ((p : ℕ) → p < 60 → getD b p 0 ≡ getD a p 0) → Related t a → Related t b
+related-same t a b few same h j l = subst (RowOf t j (countOf t)) (sym row) (h j l)
+  where
+    row : rowAt b j ≡ rowAt a j
+    row = rw (same (j * 3) (omega arith), same (j * 3 + 1) (omega arith), same (j * 3 + 2) (omega arith)) refl

@@ -1,6 +1,6 @@
 -- A turn of a loop over the first n of at most 20 places.
 use mathlib.Core.Path.{_≡_}
-use Prim.Native.Nat.{ℕ, suc, _+_, _-_, _*_, _≤_, _<_}
+use Prim.Native.Nat.{ℕ, suc, _*_, _≤_, _<_}
 use native.Mathlib.Omega.{arith}
 use mir.Syntax.{w64}
 use mir.Val.{Fits}
@@ -9,24 +9,9 @@ module _ {k n : ℕ} (l : k < n) (few : n ≤ 20) where
   pub in-20 : k < 20
   in-20 = omega arith
 
-  -- where an element of 2 or of 4 bytes stands
+  -- where an element of 2 bytes stands
   pub at-2 : Fits w64 (k * 2)
   at-2 = record { fits = omega arith }
-
-  pub at-4 : Fits w64 (k * 4)
-  at-4 = record { fits = omega arith }
-
-  pub next-fits : Fits w64 (k + 1)
-  next-fits = record { fits = omega arith }
-
-pub next-in : {k n : ℕ} → k < n → k + 1 ≤ n
-next-in l = omega arith
-
-pub fewer-left : {k n : ℕ} → k < n → n - (k + 1) < n - k
-fewer-left l = omega arith
-
-pub all-done : {k n : ℕ} → k ≤ n → n ≤ k → k ≡ n
-all-done a b = omega arith
 
 pub one-less : {k n : ℕ} → suc k ≡ n → k < n
 one-less e = omega arith

@@ -6,92 +6,82 @@ use Prim.Native.Nat.{ℕ, suc, _+_, _≤_, _<_}
 use native.Mathlib.Omega.{arith}
 use native.Mathlib.Numerals.{add-one}
 use lib.Dec.{eqb}
-use lib.ListN.{length, getD, take, drop, set, length-take}
+use lib.ListN.{length, getD, take, drop, length-take}
 use lib.Seq.{getD-take, take-take, split-at, take-suc}
 use borrow.Author.Tests.{eqb-true}
 use Rattle.counting.specs.Counting.{only}
+use Rattle.figures.specs.Figures.{mostJobs}
 use Rattle.bits.specs.Bits.{setOf}
 use Rattle.schedule.specs.Plan.{Sheet, finish}
 use Rattle.schedule.specs.ListPlan.{Order, PartPlan, Follows, ready, startOf, place, emptyPart, placeAll, partOf}
 use Rattle.schedule.proofs.Starts.{ready-says}
 use Rattle.schedule.proofs.Sound.{completes-all, order-completes}
 use Rattle.schedule.proofs.Prefixes.{order-split, part-more}
-use Rattle.tables.specs.Tables.{sheetOf, Fit}
-use Rattle.placement.specs.declared.Part.{Part}
+use Rattle.tables.specs.Tables.{sheetOf, minutesAt, countOf, Fit}
+use Rattle.tables.specs.Part.{Part}
 use Rattle.placement.specs.Part.{StartFor, IsPart, Placeable, Placed}
 use Rattle.placement.proofs.Parts.{start-is, start-short, placeable, placed-part}
 use Rattle.replay.specs.declared.Slots.{Slots}
-use Rattle.free_modules.specs.Lowest.{lowestOutside}
-use Rattle.replay.specs.Slots.{withSlot, busyAt, Replayed}
+use Rattle.replay.specs.Slots.{withJob, Replayed}
 use Rattle.replay.proofs.PlacedSlots.{SlotsOf, slot-more}
 
 -- ---- one turn: the order's next job is placed
 
 -- job j is the order's k-th
-pub record Turn (need minutes earlier order : List ℕ) (jobs modules k j : ℕ) : Type 0 where
-  pub fit : Fit need minutes jobs modules
-  pub whole : Order (sheetOf need minutes earlier jobs modules) (take jobs order)
-  pub inside : k < jobs
+pub record Turn (t order : List ℕ) (k j : ℕ) : Type 0 where
+  pub fit : Fit t
+  pub whole : Order (sheetOf t) (take (countOf t) order)
+  pub inside : k < countOf t
   pub here : j ≡ getD order k 0
 
-module _ {need minutes earlier order : List ℕ} {jobs modules k j : ℕ} (turn : Turn need minutes earlier order jobs modules k j) where
+module _ {t order : List ℕ} {k j : ℕ} (turn : Turn t order k j) where
   abbrev T : Sheet
-  T = sheetOf need minutes earlier jobs modules
+  T = sheetOf t
 
   abbrev w : List ℕ
   w = take k order
 
   next-ready : ready T (partOf T w .placed) j ≡ true
   next-ready =
-      let o = take jobs order in
-      let here : getD o k 0 ≡ j = getD-take jobs order k 0 (turn .inside) ∙ sym (turn .here) in
-      let front : take k o ≡ w = take-take k jobs order (omega (arith, turn .inside)) in
+      let o = take (countOf t) order in
+      let here : getD o k 0 ≡ j = getD-take (countOf t) order k 0 (turn .inside) ∙ sym (turn .here) in
+      let front : take k o ≡ w = take-take k (countOf t) order (omega (arith, turn .inside)) in
       let cut : o ≡ w ++ (j ∷ drop (suc k) o) =
       split-at o k 0 (omega (arith, turn .whole .all, turn .inside)) ∙ ap₂ (λ (x : List ℕ) (y : ℕ). x ++ (y ∷ drop (suc k) o)) front here in
       order-split T w (j ∷ drop (suc k) o) (subst (λ (x : List ℕ). Order T x) cut (turn .whole)) .1 .0 .0
 
-  pub next-job : j < jobs
+  pub next-job : j < countOf t
   next-job = ready-says T (partOf T w .placed) j next-ready .job
 
-  pub next-low : j < 20
+  pub next-low : j < mostJobs
   next-low = omega (arith, next-job, turn .fit .few)
 
   word-more : take (k + 1) order ≡ w ++ (j ∷ [])
   word-more =
-      let l : k < length order = omega (arith, turn .whole .all, turn .inside, length-take jobs order) in
+      let l : k < length order = omega (arith, turn .whole .all, turn .inside, length-take (countOf t) order) in
       ap (λ (i : ℕ). take i order) (add-one k) ∙ take-suc order k 0 l ∙ ap (λ (x : ℕ). w ++ (x ∷ [])) (sym (turn .here))
 
-  module _ {p : Part} {t : ℕ} (is : IsPart T w p)
-      (f : StartFor (p .ends) (p .until) (p .held) (p .placed) modules (p .last) jobs (getD earlier j 0) (getD need j 0) t) where
-    start : t ≡ startOf T (partOf T w) j
-    start = start-is need minutes earlier jobs modules (turn .fit) p w is j next-ready t f
+  module _ {p : Part} {u : ℕ} (is : IsPart T w p) (f : StartFor t p j u) where
+    start : u ≡ startOf T (partOf T w) j
+    start = start-is t (turn .fit) p w is j next-ready u f
 
-    pub next-short : t + getD minutes j 0 ≤ 28800
-    next-short = omega (arith, start, start-short need minutes earlier jobs modules (turn .fit) p w is j next-ready)
+    pub next-short : u + minutesAt t j ≤ 28800
+    next-short = omega (arith, start, start-short t (turn .fit) p w is j next-ready)
 
-    pub next-placeable : Placeable p j t (getD need j 0) (getD minutes j 0) modules
-    next-placeable =
-        subst (λ (x : ℕ). Placeable p j x (getD need j 0) (getD minutes j 0) modules) (sym start)
-        (placeable need minutes earlier jobs modules (turn .fit) p w is j next-ready)
+    pub next-placeable : Placeable t p j u
+    next-placeable = subst (λ (x : ℕ). Placeable t p j x) (sym start) (placeable t (turn .fit) p w is j next-ready)
 
-    pub next-part : {q : Part} → Placed p j t (getD need j 0) (getD minutes j 0) modules q → IsPart T (take (k + 1) order) q
+    pub next-part : {q : Part} → Placed t p j u q → IsPart T (take (k + 1) order) q
     next-part {q} d =
         subst (λ (x : List ℕ). IsPart T x q) (sym word-more)
-        (placed-part need minutes earlier jobs modules (turn .fit) p w is j next-ready q
-        (subst (λ (x : ℕ). Placed p j x (getD need j 0) (getD minutes j 0) modules q) start d))
+        (placed-part t (turn .fit) p w is j next-ready q (subst (λ (x : ℕ). Placed t p j x q) start d))
 
-    pub next-slots : {s r : Slots} {busy set : ℕ} → SlotsOf T (partOf T w) s → busy ≡ busyAt s jobs t
-        → set ≡ lowestOutside busy modules (getD need j 0) → r ≡ withSlot s j t (t + getD minutes j 0) set
-        → SlotsOf T (partOf T (take (k + 1) order)) r
-    next-slots {s} {r} {busy} g b u h =
-        let taken = lowestOutside (busyAt s jobs t) modules (getD need j 0) in
-        let all : withSlot s j t (t + getD minutes j 0) taken ≡ r =
-        sym (h ∙ ap (withSlot s j t (t + getD minutes j 0)) (u ∙ ap (λ (x : ℕ). lowestOutside x modules (getD need j 0)) b)) in
-        let next : place T (partOf T w) j t ≡ partOf T (take (k + 1) order) =
+    pub next-slots : {s r : Slots} → SlotsOf T (partOf T w) s → r ≡ withJob t s j u → SlotsOf T (partOf T (take (k + 1) order)) r
+    next-slots {s} {r} g h =
+        let next : place T (partOf T w) j u ≡ partOf T (take (k + 1) order) =
         ap (λ (x : ℕ). place T (partOf T w) j x) start ∙ sym (part-more T w j) ∙ ap (λ (x : List ℕ). partOf T x) (sym word-more) in
-        subst (λ (x : Slots). SlotsOf T (partOf T (take (k + 1) order)) x) all
-        (subst (λ (X : PartPlan). SlotsOf T X (withSlot s j t (t + getD minutes j 0) taken)) next
-        (slot-more need minutes earlier jobs modules (partOf T w) s g j t next-low))
+        subst (λ (x : Slots). SlotsOf T (partOf T (take (k + 1) order)) x) (sym h)
+        (subst (λ (X : PartPlan). SlotsOf T X (withJob t s j u)) next (slot-more t (partOf T w) s g j u next-low))
 
 -- ---- all turns
 
@@ -113,7 +103,7 @@ all-replayed S o s h g = record {
   start = λ j l. g .start j ∙ ap (λ b. only b (partOf S o .plan .start j)) (all j l);
   end = λ j l. g .end j ∙ ap (λ b. only b (finish S (partOf S o .plan) j)) (all j l);
   modules = λ j l. g .modules j ∙ ap (λ b. only b (setOf (S .modules) (partOf S o .plan .uses j))) (all j l);
-  rest = λ j l. (
+  past = λ j l. (
     g .start j ∙ ap (λ b. only b (partOf S o .plan .start j)) (none j l),
     g .end j ∙ ap (λ b. only b (finish S (partOf S o .plan) j)) (none j l),
     g .modules j ∙ ap (λ b. only b (setOf (S .modules) (partOf S o .plan .uses j))) (none j l),

@@ -1,23 +1,24 @@
 // The plan of an order, job by job: each job's start, end and modules.
 ghost use mathlib.Core.Path.{_≡_};
-ghost use Prim.Native.Nat.{_<_, _≤_};
+ghost use Prim.Native.Nat.{_+_, _<_, _≤_};
 ghost use lib.ListN.{take};
+ghost use Rattle.figures.specs.Figures.{mostJobs};
 ghost use Rattle.schedule.specs.ListPlan.{Order};
-ghost use Rattle.tables.specs.Tables.{sheetOf, Fit};
-ghost use Rattle.placement.specs.Part.{StartFor};
-ghost use Rattle.placement.specs.Profile.{Profile};
-ghost use Rattle.replay.specs.Slots.{withSlot, busyAt, Replayed};
+ghost use Rattle.tables.specs.Tables.{sheetOf, minutesAt, countOf, Fit};
+ghost use Rattle.replay.specs.Slots.{withSlot, busyAt, withJob, Replayed};
+use figures::MOST_JOBS;
+use tables::Jobs;
 
 // Each job's start, end and module set, at the job's place.
 pub struct Slots {
-    pub start: [u16; 20],
-    pub end: [u16; 20],
-    pub modules: [u64; 20],
+    pub start: [u16; MOST_JOBS],
+    pub end: [u16; MOST_JOBS],
+    pub modules: [u64; MOST_JOBS],
 }
 
 // The slots with one for job j.
 fn with_slot(slots: Slots, j: usize, start: u16, end: u16, modules: u64) -> Slots
-    requires { ⌜ j < 20 ⌝ }
+    requires { ⌜ j < mostJobs ⌝ }
     ensures { λ r. ⌜ r ≡ withSlot slots j start end modules ⌝ }
 {
     let mut next = slots;
@@ -28,77 +29,49 @@ fn with_slot(slots: Slots, j: usize, start: u16, end: u16, modules: u64) -> Slot
 }
 
 // The modules of the jobs that end after minute t.
-fn busy_at(slots: Slots, jobs: usize, t: u16) -> u64
-    requires { ⌜ jobs ≤ 20 ⌝ }
-    ensures { λ r. ⌜ r ≡ busyAt slots jobs t ⌝ }
+fn busy_at(slots: Slots, count: usize, t: u16) -> u64
+    requires { ⌜ count ≤ mostJobs ⌝ }
+    ensures { λ r. ⌜ r ≡ busyAt slots count t ⌝ }
 {
     let mut set: u64 = 0;
     let mut i: usize = 0;
-    while i < jobs {
+    while i < count {
         set = free_modules::with_busy(set, slots.modules[i], slots.end[i], t);
         i += 1;
     }
     set
 }
 
-// The start of a job that waits for the jobs of the set and wants so many modules, behind the part-plan.
-fn next_start(part: placement::Part, jobs: usize, modules: u16, earlier: u32, want: u16) -> u16
-    requires { ⌜ (Profile (part .until) (part .held) (part .placed) (part .gone) (part .free) modules (part .last))
-        × ((want ≤ modules) × (jobs ≤ 20)) ⌝ }
-    ensures { λ r. ⌜ StartFor (part .ends) (part .until) (part .held) (part .placed) modules (part .last) jobs earlier want r ⌝ }
+// The slots with job j placed from minute `start` on, on the lowest of the modules that are free then.
+fn with_job(slots: Slots, jobs: &Jobs, j: usize, start: u16) -> Slots
+    requires { ⌜ (Fit (now jobs)) × ((j < mostJobs) × (start + minutesAt (now jobs) j < 65536)) ⌝ }
+    ensures { λ r. ⌜ r ≡ withJob (now (jobs .entry)) slots j start ⌝ }
 {
-    placement::start_of(
-        &part.ends,
-        &part.until,
-        &part.held,
-        part.placed,
-        part.gone,
-        part.free,
-        modules,
-        part.last,
-        jobs,
-        earlier,
-        want,
-    )
-}
-
-// A job's number as an index.
-fn wide(x: u8) -> usize
-    ensures { λ r. ⌜ r ≡ x ⌝ }
-{
-    x as usize
+    let want = tables::need(jobs, j);
+    let lasts = tables::minutes(jobs, j);
+    let busy = busy_at(slots, tables::count(jobs), start);
+    let set = free_modules::lowest_free(busy, tables::modules(jobs), want);
+    with_slot(slots, j, start, start + lasts, set)
 }
 
 // The slots of the list plan of the order.
-pub fn replay(
-    need: &[u16; 20],
-    minutes: &[u16; 20],
-    earlier: &[u32; 20],
-    jobs: usize,
-    modules: u16,
-    order: &[u8; 20],
-) -> Slots
-    requires { ⌜ (Fit (now need) (now minutes) jobs modules)
-        × (Order (sheetOf (now need) (now minutes) (now earlier) jobs modules) (take jobs (now order))) ⌝ }
-    ensures { λ r. ⌜ Replayed (sheetOf (now (need .entry)) (now (minutes .entry)) (now (earlier .entry)) jobs modules)
-        (take jobs (now (order .entry))) r ⌝ }
+pub fn replay(jobs: &Jobs, order: &[u8; MOST_JOBS]) -> Slots
+    requires { ⌜ (Fit (now jobs)) × (Order (sheetOf (now jobs)) (take (countOf (now jobs)) (now order))) ⌝ }
+    ensures { λ r. ⌜ Replayed (sheetOf (now (jobs .entry))) (take (countOf (now (jobs .entry))) (now (order .entry))) r ⌝ }
 {
+    let count = tables::count(jobs);
     let mut slots = Slots {
-        start: [0u16; 20],
-        end: [0u16; 20],
-        modules: [0u64; 20],
+        start: [0u16; MOST_JOBS],
+        end: [0u16; MOST_JOBS],
+        modules: [0u64; MOST_JOBS],
     };
-    let mut part = placement::first_part(need, minutes, jobs, modules);
+    let mut part = placement::first_part(jobs);
     let mut k: usize = 0;
-    while k < jobs {
-        let j = wide(order[k]);
-        let want = need[j];
-        let lasts = minutes[j];
-        let start = next_start(part, jobs, modules, earlier[j], want);
-        let busy = busy_at(slots, jobs, start);
-        let set = free_modules::lowest_free(busy, modules, want);
-        slots = with_slot(slots, j, start, start + lasts, set);
-        part = placement::place(part, j, start, want, lasts, modules);
+    while k < count {
+        let j = counting::index(order[k]);
+        let start = placement::start_of(jobs, &part, j);
+        slots = with_job(slots, jobs, j, start);
+        part = placement::with_job(jobs, &part, j, start);
         k += 1;
     }
     slots

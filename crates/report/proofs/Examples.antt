@@ -14,7 +14,8 @@ use Rattle.sheet_format.specs.Checks.{outside, faulty}
 use Rattle.sheet.specs.Read.{reading}
 use Rattle.sheet.specs.Label.{labelOf}
 use Rattle.sheet.proofs.Examples.{e1, labels}
-use Rattle.planner.specs.Planning.{noOrder, planRefusal}
+use Rattle.planable.specs.Planable.{noOrder}
+use Rattle.planner.specs.Planning.{planRefusal}
 use Rattle.text.specs.Numbers.{digit, place, decimal, signed, hexadecimal}
 use Rattle.text.specs.Lines.{line}
 use Rattle.plan_text.specs.Printed.{planLine, jobLine, refusedLine}

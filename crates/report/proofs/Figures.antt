@@ -1,5 +1,5 @@
 -- Every figure that a report shows is below 100000, where `decimal-value` reads it back from its digits.
-use mathlib.Core.Path.{_≡_, sym, subst}
+use mathlib.Core.Path.{_≡_, subst}
 use mathlib.Core.Bool.{Bool, true, false, cond}
 use mathlib.Core.List.{List, [], _∷_}
 use mathlib.Core.Option.{some}
@@ -16,12 +16,13 @@ use Rattle.schedule.specs.ListPlan.{listPlan}
 use Rattle.schedule.specs.TieRule.{bestOrder}
 use Rattle.card.specs.Card.{latenessOf}
 use Rattle.card.proofs.Differences.{difference-small}
-use Rattle.sheet.specs.declared.Reading.{Reading}
-use Rattle.sheet.specs.Read.{readRefusal, reading}
-use Rattle.sheet.proofs.Answers.{read-answer, reads}
-use Rattle.planner.specs.Planning.{sheetOn, planChecks, planRefusal}
-use Rattle.planner.proofs.Tables.{job-read}
-use Rattle.planner.proofs.Planning.{passes, found, ends-short}
+use Rattle.sheet.specs.Read.{readRefusal}
+use Rattle.sheet.proofs.Answers.{reads}
+use Rattle.planable.specs.Planable.{sheetIn}
+use Rattle.planable.proofs.Tables.{most-read, job-read}
+use Rattle.planable.proofs.Planable.{passes}
+use Rattle.planner.specs.Planning.{planChecks, planRefusal}
+use Rattle.planner.proofs.Planning.{front-passes, found, ends-short}
 use Rattle.plan_text.specs.Printed.{departureOf, longestCard}
 use Rattle.plan_text.proofs.Sheets.{few}
 
@@ -59,7 +60,7 @@ pub record Small (s : List ℕ) (S : Sheet) (P : Plan) : Type 0 where
 
 module _ (s : List ℕ) (z : planRefusal s longestCard ≡ 0) where
   abbrev S : Sheet
-  S = sheetOn (reading s)
+  S = sheetIn s
 
   abbrev card : List ℕ
   card = replicate longestCard 0
@@ -71,10 +72,7 @@ module _ (s : List ℕ) (z : planRefusal s longestCard ≡ 0) where
   ends = ends-short s card z
 
   reads-well : readRefusal s ≡ 0
-  reads-well = passes s longestCard z .reads
-
-  modules-few : S .modules ≤ 64
-  modules-few = subst (λ (r : Reading). r .modules ≤ 64) (sym (read-answer s reads-well)) (reads s reads-well .trailer .most)
+  reads-well = passes s (front-passes s longestCard z) .reads
 
   late-small : (j : ℕ) → j < S .jobs → natAbs (latenessOf (finish S P j) (departureOf s j)) ≤ 28801
   late-small j l =
@@ -86,7 +84,7 @@ module _ (s : List ℕ) (z : planRefusal s longestCard ≡ 0) where
   small = record {
     end = omega (arith, largest-le (S .jobs) (finish S P) 28800 ends);
     jobs = omega (arith, few s);
-    modules = omega (arith, modules-few);
+    modules = omega (arith, most-read s reads-well);
     starts = λ j l. omega (arith, ends j l);
     finishes = λ j l. omega (arith, ends j l);
     late = λ j l. omega (arith, late-small j l);

@@ -4,7 +4,7 @@ use mathlib.Core.Path.{_≡_, refl}
 use mathlib.Core.Bool.{Bool, true, false, cond}
 use mathlib.Core.List.{List}
 use mathlib.Core.Option.{Option, none, some}
-use Prim.Native.Nat.{ℕ, zero, suc, _+_, _*_, _≤_}
+use Prim.Native.Nat.{ℕ, zero, suc, _*_, _≤_}
 use native.Mathlib.Omega.{arith}
 use lib.Dec.{eqb, ltb}
 use lib.ListN.{length, length-append}
@@ -13,10 +13,10 @@ use Rattle.counting.specs.Counting.{joined}
 use Rattle.schedule.specs.Plan.{Sheet, Plan, planEnd}
 use Rattle.schedule.specs.ListPlan.{listPlan}
 use Rattle.schedule.specs.TieRule.{bestOrder}
-use Rattle.card.specs.Card.{latenessOf}
-use Rattle.sheet.specs.Read.{reading}
+use Rattle.card.specs.Card.{cardSize, latenessOf}
 use Rattle.sheet.specs.Label.{labelOf}
-use Rattle.planner.specs.Planning.{sheetOn, cardSize, planRefusal}
+use Rattle.planable.specs.Planable.{sheetIn}
+use Rattle.planner.specs.Planning.{planRefusal}
 use Rattle.text.specs.Lines.{line}
 use Rattle.text.specs.Texts.{room}
 use Rattle.text.proofs.Lengths.{decimal-short, signed-short, hexadecimal-length}
@@ -25,8 +25,8 @@ use Rattle.report.specs.Report.{lineOfJob, planLines, bestLines, reportO
 use Rattle.plan_text.proofs.Sheets.{few, label-short}
 
 -- the card of no sheet is longer than the longest: check 10 does not fail
-pub card-fits : (s : List ℕ) → ltb longestCard (cardSize (sheetOn (reading s))) ≡ false
-card-fits s = le-ltb longestCard (cardSize (sheetOn (reading s))) (omega (arith, few s))
+pub card-fits : (s : List ℕ) → ltb longestCard (cardSize (sheetIn s .jobs)) ≡ false
+card-fits s = le-ltb longestCard (cardSize (sheetIn s .jobs)) (omega (arith, few s))
 
 refused-short : (k : ℕ) → length (refusedLine k) ≤ room
 unfolding refusedLine line
@@ -68,6 +68,6 @@ unfolding reportOf
 report-fits s = go (eqb (planRefusal s longestCard) 0) refl
   where
     go : (b : Bool) → eqb (planRefusal s longestCard) 0 ≡ b
-        → length (cond b (bestLines s (sheetOn (reading s))) (refusedLine (planRefusal s longestCard))) ≤ room
-    go true e = best-short s (sheetOn (reading s)) (few s)
+        → length (cond b (bestLines s (sheetIn s)) (refusedLine (planRefusal s longestCard))) ≤ room
+    go true e = best-short s (sheetIn s) (few s)
     go false e = refused-short (planRefusal s longestCard)

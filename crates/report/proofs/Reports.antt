@@ -1,15 +1,15 @@
 -- What is printed from the card of an answered planning call is the report, and so is the line of a refused one.
 use mathlib.Core.Path.{_≡_, refl, sym, ap, ap₂, _∙_}
 use mathlib.Core.List.{List, _++_}
-use Prim.Native.Nat.{ℕ, _+_, _<_}
+use Prim.Native.Nat.{ℕ, _<_}
 use lib.ListN.{length}
 use borrow.Author.Tests.{ne-eqb}
 use Rattle.counting.proofs.Joins.{joined-same}
 use Rattle.schedule.specs.Plan.{Sheet, Plan}
 use Rattle.schedule.specs.ListPlan.{listPlan}
 use Rattle.card.specs.Decoding.{Decodes}
-use Rattle.sheet.specs.Read.{reading}
-use Rattle.planner.specs.Planning.{sheetOn, planRefusal, cardAfter}
+use Rattle.planable.specs.Planable.{sheetIn}
+use Rattle.planner.specs.Planning.{planRefusal, cardAfter}
 use Rattle.planner.proofs.Planning.{found, decodes}
 use Rattle.text.specs.Texts.{textOf, empty, adding}
 use Rattle.text.proofs.Adding.{text-of}
@@ -31,7 +31,7 @@ refused-report s k e h =
 
 module _ (s card : List ℕ) (l : length card ≡ longestCard) (z : planRefusal s longestCard ≡ 0) where
   abbrev S : Sheet
-  S = sheetOn (reading s)
+  S = sheetIn s
 
   e : planRefusal s (length card) ≡ 0
   e = ap (planRefusal s) l ∙ z

@@ -9,9 +9,9 @@ use Rattle.bits.specs.Bits.{setOf}
 use Rattle.schedule.specs.Plan.{Sheet, Plan, finish, planEnd}
 use Rattle.schedule.specs.ListPlan.{listPlan}
 use Rattle.schedule.specs.TieRule.{bestOrder}
-use Rattle.sheet.specs.Read.{reading}
 use Rattle.sheet.specs.Label.{labelOf}
-use Rattle.planner.specs.Planning.{sheetOn, planRefusal}
+use Rattle.planable.specs.Planable.{sheetIn}
+use Rattle.planner.specs.Planning.{planRefusal}
 use Rattle.plan_text.specs.Printed.{planLine, jobLine, refusedLine, departureOf, longestCard}
 
 -- the line of job j in a plan P of the sheet S that the bytes s read as
@@ -29,4 +29,4 @@ bestLines s S = elim (bestOrder S) [ none ↦ [] | some o ↦ planLines s S (lis
 -- the whole output
 unfoldable pub reportOf : List ℕ → List ℕ
 reportOf s =
-    cond (eqb (planRefusal s longestCard) 0) (bestLines s (sheetOn (reading s))) (refusedLine (planRefusal s longestCard))
+    cond (eqb (planRefusal s longestCard) 0) (bestLines s (sheetIn s)) (refusedLine (planRefusal s longestCard))

@@ -9,7 +9,7 @@ use lib.Dec.{eqb}
 use lib.Bits.{bitOr}
 use lib.Count.{ones}
 use lib.ListN.{length, getD, set, length-set}
-use lib.Seq.{getD-set-same, getD-set-other, getD-take}
+use lib.Seq.{getD-set-same, getD-set-other}
 use borrow.Author.Tests.{eqb-true, eq-eqb, ne-eqb, not-false}
 use Rattle.counting.specs.Counting.{only}
 use Rattle.counting.proofs.Tests.{true-or-false, clash, same-or-not}
@@ -25,23 +25,24 @@ use Rattle.schedule.proofs.SameMinute.{same-minute-cut}
 use Rattle.schedule.proofs.Alike.{alike-cut}
 use Rattle.schedule.proofs.Swaps.{swap-cut}
 use Rattle.schedule.proofs.Blocks.{Block, block-cut}
-use Rattle.tables.specs.Tables.{sheetOf}
-use Rattle.placement.specs.declared.Part.{Part}
-use Rattle.placement.specs.Part.{wordOf, Placeable, Placed}
-use Rattle.relations.specs.Relations.{Alike, Turning}
-use Rattle.candidates.specs.Candidates.{JobStart, EachStart}
+use Rattle.tables.specs.Tables.{sheetOf, earlierAt, countOf}
+use Rattle.tables.specs.Prepared.{relatedIn}
+use Rattle.tables.specs.Part.{Part, wordOf}
+use Rattle.placement.specs.Part.{Placeable, Placed}
+use Rattle.relations.specs.Relations.{Alike, Swapping}
+use Rattle.candidates.specs.Candidates.{JobStart}
 use Rattle.candidates.proofs.Starting.{started}
-use Rattle.candidates.proofs.Children.{child-placeable, child-fewer, child-known, child-word}
+use Rattle.candidates.proofs.Children.{word-length, word-at, child-placeable, child-fewer, child-known, child-word}
 use Rattle.branching.specs.Branching.{settledNow, AllAwaited, EndsInBlock, PassedOver}
 use Rattle.search.specs.Search.{Fails, SettledAt, SameStart, SettledSo, Searching, TriedSo, Choosing}
-use Rattle.search.proofs.Placings.{word-length}
 
-module _ {need minutes earlier related tails worth most lanes : List ℕ} {jobs modules : ℕ} {part : Part} {by : List ℕ} {same target : ℕ}
-    {memory at : List ℕ} {tried job : ℕ}
-    (s : Searching need minutes earlier related tails worth most lanes jobs modules part by same target memory)
-    (choosing : Choosing need minutes earlier jobs modules part target at tried job) where
+module _ {t prepared : List ℕ} {part : Part} {target : ℕ} {memory by : List ℕ} {same tried job at : ℕ}
+    (s : Searching t prepared part target memory by same) (choosing : Choosing t part target tried job at) where
   abbrev S : Sheet
-  S = sheetOf need minutes earlier jobs modules
+  S = sheetOf t
+
+  abbrev jobs : ℕ
+  jobs = countOf t
 
   abbrev w : List ℕ
   w = wordOf part
@@ -61,38 +62,31 @@ module _ {need minutes earlier related tails worth most lanes : List ℕ} {jobs 
   l : job < jobs
   l = choosing .inside
 
-  low : getD at job 0 < 65535
+  low : at < 65535
   low = choosing .may-come
 
-  starts : EachStart need minutes earlier jobs modules part at
-  starts = choosing .starts
-
-  before : TriedSo need minutes earlier jobs modules part target at tried (getD at job 0)
+  before : TriedSo t part target tried at
   before = choosing .before
 
-  may-come : (x : ℕ) → x < jobs → getD at x 0 < 65535 → ready S (P .placed) x ≡ true
-  may-come x m k = started (starts x m) k
-
-  starts-at : (x : ℕ) → (m : x < jobs) → getD at x 0 < 65535 → getD at x 0 ≡ startOf S P x
-  starts-at x m k = starts x m .here (may-come x m k)
-
-  start : JobStart need minutes earlier jobs modules part job (getD at job 0)
-  start = starts job l
+  start : JobStart t part job at
+  start = choosing .starts
 
   may-follow : ready S (P .placed) job ≡ true
-  may-follow = may-come job l low
+  may-follow = started start low
+
+  starts-at : at ≡ startOf S P job
+  starts-at = start .here may-follow
 
   -- ---- another job that was tried
 
-  come-first : (i : ℕ) → i < jobs → bit tried i ≡ true → Alike need minutes earlier jobs i job → Fails S target (w ++ (job ∷ []))
-  come-first i m t (e, (f, g)) = go (same-or-not i job)
+  come-first : (i : ℕ) → i < jobs → bit tried i ≡ true → Alike t i job → Fails S target (w ++ (job ∷ []))
+  come-first i m h (e, (f, g)) = go (same-or-not i job)
     where
       go : (i ≡ job) ⊎ (¬ (i ≡ job)) → Fails S target (w ++ (job ∷ []))
-      go (inl z) = subst (λ (k : ℕ). Fails S target (w ++ (k ∷ []))) z (before i m t .1 .1)
+      go (inl z) = subst (λ (k : ℕ). Fails S target (w ++ (k ∷ []))) z (before i m h .1 .1)
       go (inr z) =
-          let b = before i m t in
-          alike-cut S lasting narrow w follows i job z (may-come i m (b .1 .0)) may-follow e f g
-          (omega (arith, b .0, starts-at i m (b .1 .0), starts-at job l low)) (suc target) (b .1 .1)
+          let b = before i m h in
+          alike-cut S lasting narrow w follows i job z (b .0) may-follow e f g (omega (arith, b .1 .0, starts-at)) (suc target) (b .1 .1)
 
   -- ---- a placed job
 
@@ -107,21 +101,21 @@ module _ {need minutes earlier related tails worth most lanes : List ℕ} {jobs 
       (λ f a z. same-minute-cut S lasting narrow u i q f job (a .may-come) (suc target)
       (omega (arith, a .soon, branch-start S narrow u i q f)) z (a .fails))
 
-  same-minute : part .last ≡ getD at job 0 → SameStart S target w job → Fails S target (w ++ (job ∷ []))
+  same-minute : part .last ≡ at → SameStart S target w job → Fails S target (w ++ (job ∷ []))
   same-minute z (u, i, q, e, (f, a)) =
-      in-its-minute u i q w e follows a (omega (arith, f, z, starts-at job l low, s .going .known .is .figures .last))
+      in-its-minute u i q w e follows a (omega (arith, f, z, starts-at, s .going .known .is .figures .last))
 
   -- one that ends as the job starts
   behind : (u : List ℕ) (i : ℕ) (q x : List ℕ) → x ≡ u ++ (i ∷ q) → Follows S noJobs x → SettledAt S target u i job
-      → partOf S x .placed job ≡ false → Turning need earlier jobs i job
+      → partOf S x .placed job ≡ false → Swapping t i job
       → startOf S (partOf S x) job ≡ partOf S x .plan .start i + S .minutes i + 0 → Fails S target (x ++ (job ∷ []))
   behind u i q x e = subst (λ (x : List ℕ). Follows S noJobs x → SettledAt S target u i job → partOf S x .placed job ≡ false
-      → Turning need earlier jobs i job
+      → Swapping t i job
       → startOf S (partOf S x) job ≡ partOf S x .plan .start i + S .minutes i + 0 → Fails S target (x ++ (job ∷ []))) (sym e)
       (λ f a n t z. swap-cut S lasting narrow u i q f job (a .may-come) n (t .0) (t .1)
       (omega (arith, a .soon, branch-start S narrow u i q f)) z (suc target) (a .fails))
 
-  swapped : (i : ℕ) → i < jobs → Turning need earlier jobs i job → getD (part .ends) i 0 ≡ getD at job 0 → bit (part .unplaced) i ≡ false
+  swapped : (i : ℕ) → i < jobs → Swapping t i job → getD (part .ends) i 0 ≡ at → bit (part .unplaced) i ≡ false
       → bit (getD by i 0) job ≡ true → Fails S target (w ++ (job ∷ []))
   swapped i m t e p b = go (placed-splits S w i placed)
     where
@@ -129,21 +123,16 @@ module _ {need minutes earlier related tails worth most lanes : List ℕ} {jobs 
       placed = not-false (P .placed i) (sym (s .going .known .is .figures .set i m) ∙ p)
 
       go : (u : List ℕ) × (q : List ℕ) × (w ≡ u ++ (i ∷ q)) → Fails S target (w ++ (job ∷ []))
-      go (u, q, z) = behind u i q w z follows (s .settled .each u i q job z l b) (ready-says S (P .placed) job may-follow .new) t
-          (omega (arith, e, end-of i m placed, starts-at job l low))
+      go (u, q, z) = behind u i q w z follows (s .settled-so .each u i q job z l b) (ready-says S (P .placed) job may-follow .new) t
+          (omega (arith, e, end-of i m placed, starts-at))
 
   -- a block
 
   size : length w ≡ part .placed
   size = word-length (s .going .known)
 
-  at-place : (t : ℕ) → t < part .placed → getD w t 0 ≡ getD (part .order) t 0
-  at-place t = getD-take (part .placed) (part .order) t 0
-
-  -- the placed jobs are numbers of jobs
-  pub placed-jobs : (t : ℕ) → t < part .placed → getD (part .order) t 0 < 20
-  placed-jobs t m =
-      omega (arith, at-place t m, place-within S noJobs w follows t (omega (arith, size)), s .going .known .fit .few)
+  at-place : (k : ℕ) → k < part .placed → getD w k 0 ≡ getD (part .order) k 0
+  at-place = word-at (s .going .known)
 
   behind-block : (u : List ℕ) (i : ℕ) (q x : List ℕ) → x ≡ u ++ (i ∷ q) → Follows S noJobs x → SettledAt S target u i job
       → Block S u i x job → Fails S target (x ++ (job ∷ []))
@@ -151,8 +140,7 @@ module _ {need minutes earlier related tails worth most lanes : List ℕ} {jobs 
       → Fails S target (x ++ (job ∷ []))) (sym e)
       (λ f a k. block-cut S lasting narrow u i q f job (a .may-come) k (suc target) (a .fails))
 
-  module _ (awaited : ℕ) (all : AllAwaited earlier (part .unplaced) jobs awaited)
-      (b : EndsInBlock minutes (part .ends) (part .order) by awaited (part .placed) (getD at job 0) job) where
+  module _ (awaited : ℕ) (all : AllAwaited t (part .unplaced) awaited) (b : EndsInBlock t part by awaited at job) where
     abbrev m : ℕ
     m = b .at
 
@@ -181,7 +169,7 @@ module _ {need minutes earlier related tails worth most lanes : List ℕ} {jobs 
     onward = subst (λ (v : List ℕ). Follows S noJobs v) word follows
 
     settled-at : SettledAt S target u i job
-    settled-at = s .settled .each u i q job word l (rw i-is (b .block .settled))
+    settled-at = s .settled-so .each u i q job word l (rw i-is (b .block .settled-then))
 
     i-in : i < jobs
     i-in = place-within S noJobs w follows m inside
@@ -211,11 +199,11 @@ module _ {need minutes earlier related tails worth most lanes : List ℕ} {jobs 
         let is : getD (part .order) (z .0) 0 ≡ k =
         sym (at-place (z .0) small) ∙ ap (λ (v : List ℕ). getD v (z .0) 0) (sym (append-nil w)) ∙ z .2 in
         let e = rw is at (b .ended (z .0) small) in
-        omega (arith, e, end-of k x p, starts-at job l low)
+        omega (arith, e, end-of k x p, starts-at)
 
     not-awaited : (k x : ℕ) → k < jobs → x < jobs → partOf S u .placed k ≡ false → P .placed k ≡ true → P .placed x ≡ false
-        → bit (getD earlier x 0) k ≡ false
-    not-awaited k x y v new p left = go (true-or-false (bit (getD earlier x 0) k))
+        → bit (earlierAt t x) k ≡ false
+    not-awaited k x y v new p left = go (true-or-false (bit (earlierAt t x) k))
       where
         z : (t : ℕ) × (length u ≤ t) × (t < length (u ++ (i ∷ q))) × (getD (u ++ (i ∷ q)) t 0 ≡ k)
         z = place-behind S u (i ∷ q) k new (subst (λ (v : List ℕ). partOf S v .placed k ≡ true) word p)
@@ -229,7 +217,7 @@ module _ {need minutes earlier related tails worth most lanes : List ℕ} {jobs 
         free : bit awaited k ≡ false
         free = rw is at (b .block .unawaited (z .0) (omega (arith, z .1, parts .3)) small)
 
-        go : (bit (getD earlier x 0) k ≡ true) ⊎ (bit (getD earlier x 0) k ≡ false) → bit (getD earlier x 0) k ≡ false
+        go : (bit (earlierAt t x) k ≡ true) ⊎ (bit (earlierAt t x) k ≡ false) → bit (earlierAt t x) k ≡ false
         go (inr e) = e
         go (inl e) = clash (bit awaited k) (all x v (s .going .known .is .figures .set x v ∙ ap not left) k e) free
 
@@ -244,25 +232,19 @@ module _ {need minutes earlier related tails worth most lanes : List ℕ} {jobs 
       here = λ k x p. zero-le;
     })
 
-  pub passed-cut : PassedOver related minutes earlier (part .ends) (part .order) by same (part .unplaced) (part .placed) tried (part .last)
-      (getD at job 0) jobs job
-      → Fails S target (w ++ (job ∷ []))
-  passed-cut (inl (i, t, b)) = let pair = s .going .tabled .related-is job l .alike i b in come-first i (pair .0) t (pair .1)
-  passed-cut (inr (inl (z, b))) = same-minute (sym z) (s .settled .same-start job l b)
-  passed-cut (inr (inr (inl (i, m, b, (e, (p, x)))))) = swapped i m (s .going .tabled .related-is job l .turning i b .1) e p x
+  pub passed-cut : PassedOver t (relatedIn prepared) part by same tried at job → Fails S target (w ++ (job ∷ []))
+  passed-cut (inl (i, h, b)) = let pair = s .going .tabled .related job l .alike i b in come-first i (pair .0) h (pair .1)
+  passed-cut (inr (inl (z, b))) = same-minute (sym z) (s .settled-so .same-start job l b)
+  passed-cut (inr (inr (inl (i, m, b, (e, (p, x)))))) = swapped i m (s .going .tabled .related job l .swapping i b .1) e p x
   passed-cut (inr (inr (inr (awaited, all, b)))) = blocked awaited all b
 
   -- ---- one job more
 
   -- a tried job is settled where this one is chosen
   settled-here : (x : ℕ) → x < jobs → bit tried x ≡ true → SettledAt S target w job x
-  settled-here x m t =
-      let f = before x m t in
-      record {
-        may-come = may-come x m (f .1 .0);
-        soon = omega (arith, f .0, starts-at x m (f .1 .0), starts-at job l low);
-        fails = f .1 .1;
-      }
+  settled-here x m h =
+      let f = before x m h in
+      record { may-come = f .0; soon = omega (arith, f .1 .0, starts-at); fails = f .1 .1 }
 
   -- a job of w is another
   not-job : (u : List ℕ) (i : ℕ) (q : List ℕ) → w ≡ u ++ (i ∷ q) → ¬ (i ≡ job)
@@ -283,36 +265,36 @@ module _ {need minutes earlier related tails worth most lanes : List ℕ} {jobs 
   last-here : partOf S (w ++ (job ∷ [])) .last ≡ startOf S P job
   last-here = ap (λ (Q : PartPlan). Q .last) (part-more S w job)
 
-  same-more : (x : ℕ) → x < jobs → bit (settledNow same tried (getD at job 0) (part .last)) x ≡ true
+  same-more : (x : ℕ) → x < jobs → bit (settledNow same tried at (part .last)) x ≡ true
       → SameStart S target (w ++ (job ∷ [])) x
-  same-more x m = go (eqb (getD at job 0) (part .last)) refl
+  same-more x m = go (eqb at (part .last)) refl
     where
       by-tried : bit tried x ≡ true → SameStart S target (w ++ (job ∷ [])) x
       by-tried b = (w, job, [], refl, (start-here ∙ sym last-here, settled-here x m b))
 
-      by-same : getD at job 0 ≡ part .last → SameStart S target w x → SameStart S target (w ++ (job ∷ [])) x
+      by-same : at ≡ part .last → SameStart S target w x → SameStart S target (w ++ (job ∷ [])) x
       by-same z (u, i, q, e, (f, a)) = (
         u,
         i,
         q ++ (job ∷ []),
         ap (λ (v : List ℕ). v ++ (job ∷ [])) e ∙ append-assoc u (i ∷ q) (job ∷ []),
-        (omega (arith, start-stays i (not-job u i q e), last-here, f, z, starts-at job l low, s .going .known .is .figures .last), a),
+        (omega (arith, start-stays i (not-job u i q e), last-here, f, z, starts-at, s .going .known .is .figures .last), a),
       )
 
-      either : getD at job 0 ≡ part .last → (p : Bool) → bit same x ≡ p → (p || bit tried x) ≡ true
+      either : at ≡ part .last → (p : Bool) → bit same x ≡ p → (p || bit tried x) ≡ true
           → SameStart S target (w ++ (job ∷ [])) x
-      either z true e b = by-same z (s .settled .same-start x m e)
+      either z true e b = by-same z (s .settled-so .same-start x m e)
       either z false e b = by-tried b
 
-      go : (t : Bool) → eqb (getD at job 0) (part .last) ≡ t → bit (cond t (bitOr same tried) tried) x ≡ true
+      go : (t : Bool) → eqb at (part .last) ≡ t → bit (cond t (bitOr same tried) tried) x ≡ true
           → SameStart S target (w ++ (job ∷ [])) x
       go true e b = either (eqb-true _ _ e) (bit same x) refl (sym (bit-or same tried x) ∙ b)
       go false e b = by-tried b
 
   settled-more : SettledSo S target (w ++ (job ∷ [])) (set by job tried)
-      (settledNow same tried (getD at job 0) (part .last))
+      (settledNow same tried at (part .last))
   settled-more = record {
-    size = length-set by job tried ∙ s .settled .size;
+    size = length-set by job tried ∙ s .settled-so .size;
     each = λ u i q x e m b. go u i q x m b (split-last w job u i q e);
     same-start = same-more;
   }
@@ -320,27 +302,27 @@ module _ {need minutes earlier related tails worth most lanes : List ℕ} {jobs 
       go : (u : List ℕ) (i : ℕ) (q : List ℕ) (x : ℕ) → x < jobs → bit (getD (set by job tried) i 0) x ≡ true
           → ((w ≡ u) × (job ≡ i)) ⊎ ((p : List ℕ) × (w ≡ u ++ (i ∷ p))) → SettledAt S target u i x
       go u i q x m b (inl (e, j)) =
-          let here = getD-set-same by job tried 0 (omega (arith, s .settled .size, s .going .known .fit .few)) in
-          let t : bit tried x ≡ true = ap (λ (y : ℕ). bit y x) (sym here ∙ ap (λ (k : ℕ). getD (set by job tried) k 0) j) ∙ b in
-          subst (λ (v : List ℕ). SettledAt S target v i x) e (subst (λ (k : ℕ). SettledAt S target w k x) j (settled-here x m t))
+          let here = getD-set-same by job tried 0 (omega (arith, s .settled-so .size, s .going .known .fit .few)) in
+          let here-too : bit tried x ≡ true = ap (λ (y : ℕ). bit y x) (sym here ∙ ap (λ (k : ℕ). getD (set by job tried) k 0) j) ∙ b in
+          subst (λ (v : List ℕ). SettledAt S target v i x) e (subst (λ (k : ℕ). SettledAt S target w k x) j (settled-here x m here-too))
       go u i q x m b (inr (p, e)) =
-          s .settled .each u i p x e m
+          s .settled-so .each u i p x e m
           (ap (λ (y : ℕ). bit y x) (sym (getD-set-other by job i tried 0 (not-job u i p e))) ∙ b)
 
-  pub choice-placeable : Placeable part job (getD at job 0) (getD need job 0) (getD minutes job 0) modules
+  pub choice-placeable : Placeable t part job at
   choice-placeable = child-placeable (s .going .known) l start low
 
   -- ---- the part-plan with the job
 
-  module _ {child : Part} (placed : Placed part job (getD at job 0) (getD need job 0) (getD minutes job 0) modules child) where
+  module _ {child : Part} (placed : Placed t part job at child) where
     pub choice-fewer : suc (ones (child .unplaced)) ≡ ones (part .unplaced)
     choice-fewer = child-fewer (s .going .known) l start low placed
 
     pub choice-word : wordOf child ≡ w ++ (job ∷ [])
     choice-word = child-word (s .going .known) l start low placed
 
-    pub choice-searching : Searching need minutes earlier related tails worth most lanes jobs modules child (set by job tried)
-        (settledNow same tried (getD at job 0) (part .last)) target memory
+    pub choice-searching : Searching t prepared child target memory (set by job tried)
+        (settledNow same tried at (part .last))
     choice-searching = record {
       going = record {
         low = s .going .low;
@@ -348,7 +330,7 @@ module _ {need minutes earlier related tails worth most lanes : List ℕ} {jobs 
         tabled = s .going .tabled;
         remembered = s .going .remembered;
       };
-      settled = rw choice-word settled-more;
+      settled-so = rw choice-word settled-more;
     }
 
     -- what is settled of the longer word is settled of the shorter one
@@ -359,5 +341,5 @@ module _ {need minutes earlier related tails worth most lanes : List ℕ} {jobs 
           size = longer .size;
           each = λ u i q x e. longer .each u i (q ++ (job ∷ [])) x
               (ap (λ (v : List ℕ). v ++ (job ∷ [])) e ∙ append-assoc u (i ∷ q) (job ∷ []));
-          same-start = s .settled .same-start;
+          same-start = s .settled-so .same-start;
         }

@@ -11,43 +11,37 @@ use lib.Seq.{getD-at, getD-take}
 use Rattle.counting.proofs.Tests.{last-or-below, less-or-not}
 use Rattle.schedule.specs.Plan.{Sheet}
 use Rattle.schedule.specs.ListPlan.{Order, ready, partOf}
-use Rattle.schedule.specs.TieRule as tie
 use Rattle.schedule.specs.TieRule.{endOf, DictionaryLe}
 use Rattle.schedule.proofs.Starts.{ready-says}
 use Rattle.schedule.proofs.Prefixes.{next-ready}
 use Rattle.schedule.proofs.Places.{Begins, Before, Upto, before-upto, CannotBeat}
-use Rattle.tables.specs.Tables.{sheetOf}
-use Rattle.placement.specs.declared.Part.{Part}
-use Rattle.placement.specs.Part.{wordOf, Placed, firstPart}
-use Rattle.placement.proofs.Parts.{left-count, start-short}
+use Rattle.tables.specs.Tables.{sheetOf, countOf, Fit}
+use Rattle.tables.specs.Part.{Part, wordOf}
+use Rattle.placement.specs.Part.{FirstPart, Placed}
+use Rattle.placement.proofs.Parts.{start-short}
 use Rattle.candidates.specs.Candidates.{Known, theoryPart, JobStart}
-use Rattle.candidates.proofs.Children.{child-known}
+use Rattle.candidates.proofs.Children.{first-known, first-word, word-length, child-known}
+use Rattle.preparing.specs.Preparing.{Tabled}
 use Rattle.listing.specs.declared.Found.{Found}
-use Rattle.search.specs.Search.{Remembered, Fails, Outcome, Searching, Lowest, Going, Placing}
+use Rattle.search.specs.Search.{Remembered, Fails, Outcome, Searching, Lowest, Going, Placing, TieRuled}
 use Rattle.search.proofs.Whole.{none-settled}
-
--- as many jobs are in the word as are placed
-pub word-length : {need minutes earlier : List ℕ} {jobs modules : ℕ} {part : Part} → Known need minutes earlier jobs modules part
-    → length (wordOf part) ≡ part .placed
-word-length {need} {minutes} {earlier} {jobs} {modules} {part} k =
-    omega (arith, left-count need minutes earlier jobs modules (k .fit) part (wordOf part) (k .is), k .is .figures .sizes)
 
 -- ---- one job tried at a place
 
-module _ {need minutes earlier related tails worth most lanes : List ℕ} {jobs modules : ℕ} {part : Part} {target : ℕ} {memory : List ℕ}
-    (g : Going need minutes earlier related tails worth most lanes jobs modules part target memory) {j s : ℕ} (l : j < jobs)
-    (start : JobStart need minutes earlier jobs modules part j s) where
+module _ {t prepared : List ℕ} {part : Part} {target : ℕ} {memory : List ℕ}
+    (g : Going t prepared part target memory) {j s : ℕ} (l : j < countOf t)
+    (start : JobStart t part j s) where
   -- a job that may not come next leads nowhere
-  pub not-next : s ≡ 65535 → Fails (sheetOf need minutes earlier jobs modules) target (wordOf part ++ (j ∷ []))
+  pub not-next : s ≡ 65535 → Fails (sheetOf t) target (wordOf part ++ (j ∷ []))
   unfolding CannotBeat
   not-next e o d (p, q) =
-      let S = sheetOf need minutes earlier jobs modules in
+      let S = sheetOf t in
       let r = next-ready S (wordOf part) j p (subst (λ (x : List ℕ). Order S x) q d) in
-      let short = start-short need minutes earlier jobs modules (g .known .fit) part (wordOf part) (g .known .is) j r in
+      let short = start-short t (g .known .fit) part (wordOf part) (g .known .is) j r in
       absurd (omega (arith, start .here r))
 
-  pub place-enter : (low : s < 65535) {child : Part} → Placed part j s (getD need j 0) (getD minutes j 0) modules child
-      → Searching need minutes earlier related tails worth most lanes jobs modules child (replicate 20 0) 0 target memory
+  pub place-enter : (low : s < 65535) {child : Part} → Placed t part j s child
+      → Searching t prepared child target memory (replicate 20 0) 0
   place-enter low {child} placed = record {
     going = record {
       low = g .low;
@@ -55,7 +49,7 @@ module _ {need minutes earlier related tails worth most lanes : List ℕ} {jobs 
       tabled = g .tabled;
       remembered = g .remembered;
     };
-    settled = none-settled (sheetOf need minutes earlier jobs modules) target (wordOf child);
+    settled-so = none-settled (sheetOf t) target (wordOf child);
   }
 
 -- ---- all jobs below one
@@ -155,17 +149,16 @@ dictionary (b ∷ v) (a ∷ o) e h = go (less-or-not b a) (dictionary v o (omega
         again (inl m) = absurd (h (inl m))
         again (inr m) = let q : a ≡ b = omega arith in inr (sym q, r (λ x. h (inr (q, x))))
 
-pub placing-best : {S : Sheet} {w : List ℕ} {r : Found} → Placing S w r → length w ≡ S .jobs
-    → tie.Best S (take (S .jobs) (r .order)) × (r .end ≡ endOf S (take (S .jobs) (r .order)))
-placing-best {S} {w} {r} h l = (
-  record {
+pub placing-best : {S : Sheet} {w : List ℕ} {r : Found} → Placing S w r → length w ≡ S .jobs → TieRuled S r
+placing-best {S} {w} {r} h l = record {
+  best = record {
     order = h .lowest .is .order;
     early = λ o d. omega (arith, h .lowest .is .end, h .lowest .least o d);
     first = λ o d e. dictionary (take (S .jobs) (r .order)) o (omega (arith, h .lowest .is .order .all, d .all))
         (λ b. omega (arith, h .before o d (subst (λ (v : List ℕ). Before v o) same b), h .lowest .is .end, e));
-  },
-  sym (h .lowest .is .end),
-)
+  };
+  end = sym (h .lowest .is .end);
+}
   where
     same : take (S .jobs) (r .order) ≡ w
     same = go (h .begins)
@@ -181,54 +174,52 @@ placing-first {S} {r} h = record { lowest = h; begins = (take (S .jobs) (r .orde
 -- ---- a turn of the loop
 
 -- k jobs of the order stand in their places
-pub record Standing (need minutes earlier related tails worth most lanes : List ℕ) (jobs modules : ℕ) (part : Part) (best : Found) (memory : List ℕ)
-    (k : ℕ) : Type 0 where
-  pub inside : k ≤ jobs
-  pub going : Going need minutes earlier related tails worth most lanes jobs modules part (best .end) memory
+pub record Standing (t prepared : List ℕ) (part : Part) (best : Found) (memory : List ℕ) (k : ℕ) : Type 0 where
+  pub inside : k ≤ countOf t
+  pub going : Going t prepared part (best .end) memory
   pub count : part .placed ≡ k
-  pub placing : Placing (sheetOf need minutes earlier jobs modules) (wordOf part) best
+  pub placing : Placing (sheetOf t) (wordOf part) best
 
-pub stands-first : {need minutes earlier related tails worth most lanes : List ℕ} {jobs modules : ℕ} {least : Found} {memory : List ℕ}
-    → Lowest (sheetOf need minutes earlier jobs modules) least
-    → Going need minutes earlier related tails worth most lanes jobs modules (firstPart need minutes jobs modules) (least .end) memory
-    → Standing need minutes earlier related tails worth most lanes jobs modules (firstPart need minutes jobs modules) least memory 0
-unfolding firstPart
-stands-first h g = record { inside = zero-le; going = g; count = refl; placing = placing-first h }
+pub stands-first : {t prepared : List ℕ} {part : Part} {least : Found} {memory : List ℕ} → Fit t → Tabled t prepared → FirstPart t part
+    → Lowest (sheetOf t) least → Remembered (sheetOf t) memory (suc (least .end)) → Standing t prepared part least memory 0
+stands-first {t} {part = part} {least} fit tabled first h m = record {
+  inside = zero-le;
+  going = record { low = h .is .low; known = first-known t part fit first; tabled = tabled; remembered = m };
+  count = first .placed;
+  placing = rw (first-word t part fit first) (placing-first h);
+}
 
-module _ {need minutes earlier related tails worth most lanes : List ℕ} {jobs modules : ℕ} {part : Part} {best : Found} {memory : List ℕ} {k : ℕ}
-    (h : Standing need minutes earlier related tails worth most lanes jobs modules part best memory k) (l : k < jobs) where
-  pub stands-below : part .placed < jobs
+module _ {t prepared : List ℕ} {part : Part} {best : Found} {memory : List ℕ} {k : ℕ}
+    (h : Standing t prepared part best memory k) (l : k < countOf t) where
+  pub stands-below : part .placed < countOf t
   stands-below = omega (arith, h .count)
 
   -- the job that is settled in the place may come next
   pub settled-next : {r : Found}
-      → Placing (sheetOf need minutes earlier jobs modules) (wordOf part ++ (getD (r .order) (part .placed) 0 ∷ [])) r
-      → ready (sheetOf need minutes earlier jobs modules) (theoryPart need minutes earlier jobs modules part .placed) (getD
-      (r .order) k 0) ≡ true
+      → Placing (sheetOf t) (wordOf part ++ (getD (r .order) (part .placed) 0 ∷ [])) r
+      → ready (sheetOf t) (theoryPart t part .placed) (getD (r .order) k 0) ≡ true
   settled-next {r} q =
-      let S = sheetOf need minutes earlier jobs modules in
+      let S = sheetOf t in
       let w = wordOf part in
       let b = q .begins in
       subst (λ (n : ℕ). ready S (partOf S w .placed) (getD (r .order) n 0) ≡ true) (h .count)
       (next-ready S w (getD (r .order) (part .placed) 0) (b .0) (subst (λ (x : List ℕ). Order S x) (b .1) (q .lowest .is .order)))
 
   pub stands-next : {r : Found} (memory′ : List ℕ)
-      → Placing (sheetOf need minutes earlier jobs modules) (wordOf part ++ (getD (r .order) (part .placed) 0 ∷ [])) r
-      → Remembered (sheetOf need minutes earlier jobs modules) memory′ (suc (r .end)) → {j : ℕ} → j ≡ getD (r .order) k 0 → {next : Part}
-      → Known need minutes earlier jobs modules next → wordOf next ≡ wordOf part ++ (j ∷ []) → next .placed ≡ part .placed + 1
-      → Standing need minutes earlier related tails worth most lanes jobs modules next r memory′ (k + 1)
+      → Placing (sheetOf t) (wordOf part ++ (getD (r .order) (part .placed) 0 ∷ [])) r
+      → Remembered (sheetOf t) memory′ (suc (r .end)) → {j : ℕ} → j ≡ getD (r .order) k 0 → {next : Part}
+      → Known t next → wordOf next ≡ wordOf part ++ (j ∷ []) → next .placed ≡ part .placed + 1
+      → Standing t prepared next r memory′ (k + 1)
   stands-next {r} memory′ q m {j} e {next} known word placed = record {
     inside = omega arith;
     going = record { low = q .lowest .is .low; known = known; tabled = h .going .tabled; remembered = m };
     count = omega (arith, h .count);
-    placing = subst (λ (v : List ℕ). Placing (sheetOf need minutes earlier jobs modules) v r) same q;
+    placing = subst (λ (v : List ℕ). Placing (sheetOf t) v r) same q;
   }
     where
       same : wordOf part ++ (getD (r .order) (part .placed) 0 ∷ []) ≡ wordOf next
       same = ap (λ (x : ℕ). wordOf part ++ (x ∷ [])) (ap (λ (n : ℕ). getD (r .order) n 0) (h .count) ∙ sym e) ∙ sym word
 
-pub stands-all : {need minutes earlier related tails worth most lanes : List ℕ} {jobs modules : ℕ} {part : Part} {best : Found} {memory : List ℕ} {k : ℕ}
-    → Standing need minutes earlier related tails worth most lanes jobs modules part best memory k → k ≡ jobs
-    → tie.Best (sheetOf need minutes earlier jobs modules) (take jobs (best .order))
-    × (best .end ≡ endOf (sheetOf need minutes earlier jobs modules) (take jobs (best .order)))
-stands-all h e = placing-best (h .placing) (omega (arith, word-length (h .going .known), h .count))
+pub stands-all : {t prepared : List ℕ} {part : Part} {best : Found} {memory : List ℕ} {k : ℕ} → Standing t prepared part best memory k
+    → countOf t ≤ k → TieRuled (sheetOf t) best
+stands-all h e = placing-best (h .placing) (omega (arith, word-length (h .going .known), h .count, h .inside))

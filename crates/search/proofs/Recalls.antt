@@ -15,9 +15,8 @@ use Rattle.schedule.specs.ListPlan.{Order, partOf}
 use Rattle.schedule.specs.TieRule.{endOf}
 use Rattle.schedule.proofs.Places.{CannotBeat}
 use Rattle.schedule.proofs.Cuts.{ahead-cut, NoneBefore}
-use Rattle.tables.specs.Tables.{sheetOf}
-use Rattle.placement.specs.declared.Part.{Part}
-use Rattle.placement.specs.Part.{wordOf}
+use Rattle.tables.specs.Tables.{sheetOf, countOf}
+use Rattle.tables.specs.Part.{Part, wordOf}
 use Rattle.placement.proofs.Parts.{left-count}
 use Rattle.memory.specs.Entries.{Entry, entries, entryAt, endAt, EntryOf, Hit, Adds}
 use Rattle.memory.proofs.Slots.{zero-sets}
@@ -49,9 +48,12 @@ some-ones : (x : ℕ) → 0 < ones x → 0 < x
 some-ones ℕ.zero h = absurd (omega (arith, ones-none))
 some-ones (suc x) h = omega arith
 
-module _ {need minutes earlier : List ℕ} {jobs modules : ℕ} {part : Part} (known : Known need minutes earlier jobs modules part) where
+module _ {t : List ℕ} {part : Part} (known : Known t part) where
   abbrev S : Sheet
-  S = sheetOf need minutes earlier jobs modules
+  S = sheetOf t
+
+  abbrev jobs : ℕ
+  jobs = countOf t
 
   abbrev w : List ℕ
   w = wordOf part
@@ -85,20 +87,20 @@ module _ {need minutes earlier : List ℕ} {jobs modules : ℕ} {part : Part} (k
   pub hit-cut : {m : List ℕ} {l : ℕ} (e : ℕ) → 0 < ones (part .unplaced) → NoneBefore S (known .fit .narrow) w (known .is .follows) l
       → Remembered S m e → Hit m jobs (part .ends) (part .unplaced) l → CannotBeat S e w
   unfolding Remembered
-  hit-cut {m} {l} e pos none h t =
-      let x = entryAt m (t .at) in
-      let q : x .set ≡ part .unplaced = t .ahead .set in
-      let r = h (t .at) (t .inside) (rw q (some-ones (part .unplaced) pos)) in
+  hit-cut {m} {l} e pos none h found =
+      let x = entryAt m (found .at) in
+      let q : x .set ≡ part .unplaced = found .ahead .set in
+      let r = h (found .at) (found .inside) (rw q (some-ones (part .unplaced) pos)) in
       let v = r .0 in
       let st = r .1 in
       let same : (i : ℕ) → i < jobs → partOf S v .placed i ≡ partOf S w .placed i =
       λ i k. same-not _ _ (sym (st .set i k) ∙ ap (λ (y : ℕ). bit y i) q ∙ known .is .figures .set i k) in
       ahead-cut S (known .fit .narrow) w (known .is .follows) v (st .follows) l e (record {
         same = same;
-        last = omega (arith, st .last, t .ahead .last);
+        last = omega (arith, st .last, found .ahead .last);
         ends = λ i k a.
             let b : partOf S w .placed i ≡ true = sym (same i k) ∙ a in
             let y : endAt (x .figures) i ≡ finish S (partOf S v .plan) i = rw a at (st .ends i k) in
             let z : getD (part .ends) i 0 ≡ finish S (partOf S w .plan) i = rw b at (known .is .figures .ends i k) in
-            omega (arith, t .ahead .end i k);
-      }) none (omega (arith, left-count need minutes earlier jobs modules (known .fit) part w (known .is))) (r .2)
+            omega (arith, found .ahead .end i k);
+      }) none (omega (arith, left-count t (known .fit) part w (known .is))) (r .2)

@@ -16,13 +16,12 @@ use Rattle.bits.proofs.Members.{bit-with, bit-without}
 use Rattle.bits.proofs.Sets.{and-empty}
 use Rattle.bits.proofs.Ones.{ones-without}
 use Rattle.schedule.specs.Plan.{Sheet}
-use Rattle.schedule.specs.ListPlan.{PartPlan, ready, partOf}
+use Rattle.schedule.specs.ListPlan.{PartPlan, ready, startOf, partOf}
 use Rattle.schedule.proofs.Starts.{ready-says}
 use Rattle.schedule.proofs.Idle.{idle-cut}
 use Rattle.schedule.proofs.Alone.{alone-cut}
-use Rattle.tables.specs.Tables.{sheetOf}
-use Rattle.placement.specs.declared.Part.{Part}
-use Rattle.placement.specs.Part.{wordOf}
+use Rattle.tables.specs.Tables.{sheetOf, needAt, countOf, modulesOf}
+use Rattle.tables.specs.Part.{Part, wordOf}
 use Rattle.placement.proofs.Parts.{start-short}
 use Rattle.candidates.specs.declared.Choice.{Choice}
 use Rattle.relations.specs.Relations.{rowAt, Related}
@@ -53,15 +52,13 @@ found-below v j {r} h e =
     }
 
 -- those of the first set that are no longer left lead nowhere, and c is the next
-pub record Sweep (need minutes earlier : List ℕ) (jobs modules : ℕ) (part : Part) (target : ℕ) (at : List ℕ) (first left tried : ℕ)
-    (c : Choice)
-    : Type 0 where
-  pub choice : ChoiceOf at left jobs c
-  pub before : TriedSo need minutes earlier jobs modules part target at tried (c .start)
-  pub gone : (j : ℕ) → j < jobs → bit first j ≡ true → bit left j ≡ false
-      → ready (sheetOf need minutes earlier jobs modules) (partOf (sheetOf need minutes earlier jobs modules)
+pub record Sweep (t : List ℕ) (part : Part) (target : ℕ) (at : List ℕ) (first left tried : ℕ) (c : Choice) : Type 0 where
+  pub choice : ChoiceOf at left (countOf t) c
+  pub before : TriedSo t part target tried (c .start)
+  pub gone : (j : ℕ) → j < countOf t → bit first j ≡ true → bit left j ≡ false
+      → ready (sheetOf t) (partOf (sheetOf t)
       (wordOf part) .placed) j ≡ true
-      → Fails (sheetOf need minutes earlier jobs modules) target (wordOf part ++ (j ∷ []))
+      → Fails (sheetOf t) target (wordOf part ++ (j ∷ []))
 
 -- the chosen job is in its set
 pub chosen-in : {at : List ℕ} {left jobs : ℕ} {c : Choice} → ChoiceOf at left jobs c → c .start < 65535
@@ -72,10 +69,13 @@ chosen-in {left = left} {c = c} h l = ones-without left (c .job) (h .some l .1 .
 pub chosen-low : {at : List ℕ} {left jobs : ℕ} {c : Choice} → ChoiceOf at left jobs c → ¬ (c .start ≡ 65535) → c .start < 65535
 chosen-low h n = omega (arith, h .low, n)
 
-module _ {need minutes earlier : List ℕ} {jobs modules : ℕ} {part : Part} (known : Known need minutes earlier jobs modules part)
-    {at : List ℕ} {least : ℕ} (starts : JobStarts need minutes earlier jobs modules part at least) where
+module _ {t : List ℕ} {part : Part} (known : Known t part)
+    {at : List ℕ} {least : ℕ} (starts : JobStarts t part at least) where
   abbrev S : Sheet
-  S = sheetOf need minutes earlier jobs modules
+  S = sheetOf t
+
+  abbrev jobs : ℕ
+  jobs = countOf t
 
   abbrev w : List ℕ
   w = wordOf part
@@ -84,7 +84,7 @@ module _ {need minutes earlier : List ℕ} {jobs modules : ℕ} {part : Part} (k
   P = partOf S w
 
   abbrev Now : ℕ → ℕ → ℕ → ℕ → Choice → Type 0
-  Now target first = Sweep need minutes earlier jobs modules part target at first
+  Now target first = Sweep t part target at first
 
   pub sweep-first : {target first : ℕ} {c : Choice} → ChoiceOf at first jobs c → Now target first first 0 c
   sweep-first {target} {first} h = record {
@@ -98,8 +98,7 @@ module _ {need minutes earlier : List ℕ} {jobs modules : ℕ} {part : Part} (k
       → Now target first (withoutBit left (c .job)) (withBit tried (c .job)) d
   sweep-next {target} {first} {left} {tried} {c} {d} s l f h = record {
     choice = h;
-    before = λ x m b. earlier-ones x m b (eqb x
-        (c .job)) refl;
+    before = λ x m b. earlier-ones x m b (eqb x (c .job)) refl;
     gone = λ j m a b. go j m a b (eqb j (c .job)) refl;
   }
     where
@@ -114,21 +113,26 @@ module _ {need minutes earlier : List ℕ} {jobs modules : ℕ} {part : Part} (k
           let b : bit left (d .job) ≡ true = and-left (bit left (d .job)) _ (sym (bit-without left (c .job) (d .job)) ∙ z .1 .0) in
           omega (arith, s .choice .first (d .job) (z .0) b, z .1 .1)
 
+      c-ready : ready S (P .placed) (c .job) ≡ true
+      c-ready = started (starts .each (c .job) (s .choice .some l .0)) (omega (arith, c-at))
+
       earlier-ones : (x : ℕ) → x < jobs → bit (withBit tried (c .job)) x ≡ true → (e : Bool) → eqb x (c .job) ≡ e
-          → (getD at x 0 ≤ d .start) × ((getD at x 0 < 65535) × Fails S target (w ++ (x ∷ [])))
-      earlier-ones x m b true e = rw (eqb-true x (c .job) e)
-          (omega (arith, c-at, rising (less-or-not (d .start) 65535)), (omega (arith, c-at), f))
+          → (ready S (P .placed) x ≡ true) × ((startOf S P x ≤ d .start) × Fails S target (w ++ (x ∷ [])))
+      earlier-ones x m b true e = rw (eqb-true x (c .job) e) (
+        c-ready,
+        (omega (arith, c-at, starts .each (c .job) (s .choice .some l .0) .here c-ready, rising (less-or-not (d .start) 65535)), f),
+      )
       earlier-ones x m b false e =
-          let t : bit tried x ≡ true = rw e at (sym (bit-with tried (c .job) x) ∙ b) in
-          let r = s .before x m t in
-          (omega (arith, r .0, rising (less-or-not (d .start) 65535)), r .1)
+          let was : bit tried x ≡ true = rw e at (sym (bit-with tried (c .job) x) ∙ b) in
+          let r = s .before x m was in
+          (r .0, (omega (arith, r .1 .0, rising (less-or-not (d .start) 65535)), r .1 .1))
 
       go : (j : ℕ) → j < jobs → bit first j ≡ true → bit (withoutBit left (c .job)) j ≡ false → (e : Bool) → eqb j (c .job) ≡ e
           → ready S (P .placed) j ≡ true → Fails S target (w ++ (j ∷ []))
       go j m a b true e r = rw (eqb-true j (c .job) e) f
       go j m a b false e r =
-          let t : bit left j && true ≡ false = rw e at (sym (bit-without left (c .job) j) ∙ b) in
-          s .gone j m a (sym (and-true (bit left j)) ∙ t) r
+          let was : bit left j && true ≡ false = rw e at (sym (bit-without left (c .job) j) ∙ b) in
+          s .gone j m a (sym (and-true (bit left j)) ∙ was) r
 
   pub sweep-all : {target first left tried : ℕ} {c : Choice} → Now target first left tried c → c .start ≡ 65535
       → (j : ℕ) → j < jobs → bit first j ≡ true → ready S (P .placed) j ≡ true → Fails S target (w ++ (j ∷ []))
@@ -137,19 +141,19 @@ module _ {need minutes earlier : List ℕ} {jobs modules : ℕ} {part : Part} (k
       go : (bit left j ≡ true) ⊎ (bit left j ≡ false) → Fails S target (w ++ (j ∷ []))
       go (inr b) = s .gone j l a b r
       go (inl b) =
-          let short = start-short need minutes earlier jobs modules (known .fit) part w (known .is) j r in
+          let short = start-short t (known .fit) part w (known .is) j r in
           absurd (omega (arith, s .choice .first j l b, starts .each j l .here r))
 
   -- Where the jobs to be tried lead nowhere, no job does.
-  pub all-tried : (target first : ℕ) (related : List ℕ) → Related need minutes earlier jobs modules related
-      → ToTry minutes related at (part .unplaced) jobs first
+  pub all-tried : (target first : ℕ) (related : List ℕ) → Related t related
+      → ToTry t related at (part .unplaced) first
       → ((j : ℕ) → j < jobs → bit first j ≡ true → ready S (P .placed) j ≡ true → Fails S target (w ++ (j ∷ [])))
       → (j : ℕ) → j < jobs → ready S (P .placed) j ≡ true → Fails S target (w ++ (j ∷ []))
   all-tried target first related is-related try h j l r = go (try j l (known .is .figures .set j l ∙ ap not (ready-says S (P .placed) j r .new)))
     where
       go : (bit first j ≡ true)
           ⊎ ((i : ℕ) × (i < jobs)
-          × ((bit first i ≡ true) × ((getD at i 0 < 65535) × ComesBefore minutes related at (part .unplaced) i j)))
+          × ((bit first i ≡ true) × ((getD at i 0 < 65535) × ComesBefore t related at (part .unplaced) i j)))
           → Fails S target (w ++ (j ∷ []))
       go (inl b) = h j l b r
       go (inr (i, m, (b, (low, before)))) = which before
@@ -158,13 +162,13 @@ module _ {need minutes earlier : List ℕ} {jobs modules : ℕ} {part : Part} (k
           ri = started (starts .each i m) low
 
           -- the job and another unplaced one need more modules than there are
-          apart : Alone related (part .unplaced) i → (x : ℕ) → x < jobs → P .placed x ≡ false → ¬ (x ≡ i) → modules < getD need i 0 + getD need x 0
+          apart : Alone related (part .unplaced) i → (x : ℕ) → x < jobs → P .placed x ≡ false → ¬ (x ≡ i) → modulesOf t < needAt t i + needAt t x
           apart alone x y p d =
               let free : bit (rowAt related i .beside) x ≡ false =
               and-empty (part .unplaced) (rowAt related i .beside) alone x (known .is .figures .set x y ∙ ap not p) in
               omega (arith, is-related i m .beside x y free d)
 
-          which : ComesBefore minutes related at (part .unplaced) i j → Fails S target (w ++ (j ∷ []))
+          which : ComesBefore t related at (part .unplaced) i j → Fails S target (w ++ (j ∷ []))
           which (inl e) =
               idle-cut S (known .fit .lasting) (known .fit .narrow) w (known .is .follows) i j ri
               (omega (arith, starts .each i m .here ri, starts .each j l .here r)) (suc target) (h i m b ri)
@@ -174,7 +178,7 @@ module _ {need minutes earlier : List ℕ} {jobs modules : ℕ} {part : Part} (k
               (apart alone) (suc target) (h i m b ri)
 
   -- what is known of the starts
-  pub trying : Trying minutes at least (part .unplaced) jobs
+  pub trying : Trying t at least (part .unplaced)
   trying = record {
     few = known .fit .few;
     low = starts .first;
@@ -185,6 +189,6 @@ module _ {need minutes earlier : List ℕ} {jobs modules : ℕ} {part : Part} (k
     where
       top : (j : ℕ) → (l : j < jobs) → (ready S (P .placed) j ≡ true) ⊎ (ready S (P .placed) j ≡ false) → getD at j 0 ≤ 65535
       top j l (inl r) =
-          let short = start-short need minutes earlier jobs modules (known .fit) part w (known .is) j r in
+          let short = start-short t (known .fit) part w (known .is) j r in
           omega (arith, starts .each j l .here r)
       top j l (inr r) = omega (arith, starts .each j l .none r)

@@ -2,7 +2,7 @@
 use mathlib.Core.Path.{_≡_, refl, sym, ap, _∙_}
 use mathlib.Core.Logic.{_⊎_, inl, inr}
 use mathlib.Core.Bool.{true, false}
-use mathlib.Core.List.{List, [], _++_}
+use mathlib.Core.List.{List, []}
 use Prim.Native.Nat.{ℕ, suc, _+_, _-_, _≤_, _<_}
 use native.Mathlib.Omega.{arith}
 use lib.ListN.{replicate, length-replicate}
@@ -15,15 +15,16 @@ use Rattle.schedule.specs.ListPlan.{Order}
 use Rattle.schedule.specs.TieRule.{endOf}
 use Rattle.schedule.proofs.Places.{CannotBeat}
 use Rattle.schedule.proofs.EndSums.{end-sum}
-use Rattle.tables.specs.Tables.{sheetOf, Fit}
+use Rattle.tables.specs.Tables.{sheetOf, countOf, Fit}
+use Rattle.tables.specs.Part.{Part, wordOf}
 use Rattle.tables.proofs.Laws.{zeros}
-use Rattle.placement.specs.Part.{wordOf, firstPart}
+use Rattle.placement.specs.Part.{FirstPart}
 use Rattle.candidates.proofs.Children.{first-known}
 use Rattle.sums.specs.Sums.{Rounded}
 use Rattle.listing.specs.declared.Found.{Found}
-use Rattle.listing.specs.Listing.{Listed, OrderOf}
-use Rattle.listing.proofs.Listing.{listed-circle}
-use Rattle.search.specs.Search.{Remembered, Outcome, SettledSo, Searching, keptAs, Lowering, Lowered, Lowest, Answer}
+use Rattle.listing.specs.Listing.{OrderOf}
+use Rattle.preparing.specs.Preparing.{Tabled}
+use Rattle.search.specs.Search.{Remembered, Outcome, SettledSo, Searching, keptAs, Lowering, Lowered, Lowest}
 use Rattle.search.proofs.Recalls.{remembered-less}
 
 -- ---- nothing is settled
@@ -35,33 +36,17 @@ none-settled S target v = record {
   same-start = λ x l b. clash (bit 0 x) b (bit-none x);
 }
 
--- ---- no order
-
-pub listed-circular : {S : Sheet} {r : Found} → Listed S r → r .end ≡ 65535 → Answer S r
-listed-circular h e = record { best = λ c. absurd (c (listed-circle h e)); end = λ c. absurd (c (listed-circle h e)) }
-
 -- ---- the earliest end
-
-pub first-word : (need minutes : List ℕ) (jobs modules : ℕ) → wordOf (firstPart need minutes jobs modules) ≡ []
-unfolding firstPart
-first-word need minutes jobs modules = refl
 
 kept-is : {S : Sheet} {best : Found} → OrderOf S best → OrderOf S (keptAs best)
 kept-is h = record { size = h .size; order = h .order; end = h .end; low = h .low }
 
 -- an order that is to end by the target
-pub enter : {need minutes earlier related tails worth most lanes : List ℕ} {jobs modules : ℕ} {best : Found} {memory : List ℕ} (target : ℕ)
-    → Lowering need minutes earlier related tails worth most lanes jobs modules best memory → target < best .end
-    → Searching need minutes earlier related tails worth most lanes jobs modules (firstPart need minutes jobs modules) (replicate 20 0) 0
-    target memory
-enter {need} {minutes} {earlier} {jobs = jobs} {modules} {memory = memory} target s l = record {
-  going = record {
-    low = omega (arith, s .best-is .low);
-    known = first-known need minutes earlier jobs modules (s .fit);
-    tabled = s .tabled;
-    remembered = remembered-less _ memory l (s .remembered);
-  };
-  settled = none-settled _ target _;
+pub enter : {t prepared : List ℕ} {part : Part} {memory : List ℕ} (target : ℕ) → Fit t → Tabled t prepared → target < 65535
+    → Remembered (sheetOf t) memory (suc target) → FirstPart t part → Searching t prepared part target memory (replicate 20 0) 0
+enter {t} {part = part} target fit tabled low m first = record {
+  going = record { low = low; known = first-known t part fit first; tabled = tabled; remembered = m };
+  settled-so = none-settled (sheetOf t) target (wordOf part);
 }
 
 -- an order that ends by the target, and so earlier
@@ -78,11 +63,14 @@ lower-hit {S} {best} {r} memory target s l o e m =
     )
 
 -- no order ends between the target and the best
-module _ (need minutes earlier : List ℕ) (jobs modules end target : ℕ) where
+module _ (t : List ℕ) (end target : ℕ) where
   abbrev S : Sheet
-  S = sheetOf need minutes earlier jobs modules
+  S = sheetOf t
 
-  pub none-between : Fit need minutes jobs modules → ¬ (end ≡ 0) → Rounded minutes jobs (end - 1) target
+  abbrev jobs : ℕ
+  jobs = countOf t
+
+  pub none-between : Fit t → ¬ (end ≡ 0) → Rounded t (end - 1) target
       → (o : List ℕ) → Order S o → suc target ≤ endOf S o → end ≤ endOf S o
   none-between fit z h o d l = go (less-or-not (endOf S o) end)
     where
@@ -97,24 +85,23 @@ pub lower-miss : {S : Sheet} {best : Found} → OrderOf S best → ((o : List �
     → Lowered S best (keptAs best)
 lower-miss s least = record { is = kept-is s; hit = λ x. clash false x refl; miss = λ x. (refl, least) }
 
-pub none-by : {S : Sheet} {target : ℕ} {r : Found} {v : List ℕ} → v ≡ [] → Outcome S target v r → r .hit ≡ false
+pub none-by : {S : Sheet} {target : ℕ} {r : Found} → Outcome S target [] r → r .hit ≡ false
     → (o : List ℕ) → Order S o → suc target ≤ endOf S o
 unfolding CannotBeat
-none-by e m h o d = m .miss h o d (o, ap (λ (x : List ℕ). x ++ o) (sym e))
+none-by m h o d = m .miss h o d (o, refl)
 
 -- ---- a turn of the loop
 
 -- while earlier ends are looked for, an order and what is remembered; then no order ends earlier
-pub record Turn (need minutes earlier related tails worth most lanes : List ℕ) (jobs modules : ℕ) (best : Found) (memory : List ℕ)
-    : Type 0 where
-  pub state : Lowering need minutes earlier related tails worth most lanes jobs modules best memory
-  pub done : best .hit ≡ false → (o : List ℕ) → Order (sheetOf need minutes earlier jobs modules) o
-      → best .end ≤ endOf (sheetOf need minutes earlier jobs modules) o
+pub record Turn (t prepared : List ℕ) (best : Found) (memory : List ℕ) : Type 0 where
+  pub state : Lowering t prepared best memory
+  pub done : best .hit ≡ false → (o : List ℕ) → Order (sheetOf t) o
+      → best .end ≤ endOf (sheetOf t) o
 
-pub turn-next : {need minutes earlier related tails worth most lanes : List ℕ} {jobs modules : ℕ} {best r : Found} {memory : List ℕ}
-    (memory′ : List ℕ) → Lowering need minutes earlier related tails worth most lanes jobs modules best memory
-    → Lowered (sheetOf need minutes earlier jobs modules) best r → Remembered (sheetOf need minutes earlier jobs modules) memory′ (r .end)
-    → Turn need minutes earlier related tails worth most lanes jobs modules r memory′
+pub turn-next : {t prepared : List ℕ} {best r : Found} {memory : List ℕ}
+    (memory′ : List ℕ) → Lowering t prepared best memory
+    → Lowered (sheetOf t) best r → Remembered (sheetOf t) memory′ (r .end)
+    → Turn t prepared r memory′
 turn-next memory′ s l m = record {
   state = record { fit = s .fit; tabled = s .tabled; best-is = l .is; remembered = m };
   done = λ e. l .miss e .1;
@@ -128,7 +115,7 @@ turn-less {S} {best} {r} l e = rw e (go (true-or-false (r .hit)))
     go (inl h) = rw h (omega (arith, l .hit h))
     go (inr h) = rw h (omega (arith, l .miss h .0))
 
-pub turn-last : {need minutes earlier related tails worth most lanes : List ℕ} {jobs modules : ℕ} {best : Found} {memory : List ℕ}
-    → Turn need minutes earlier related tails worth most lanes jobs modules best memory → best .hit ≡ false
-    → Lowest (sheetOf need minutes earlier jobs modules) best
+pub turn-last : {t prepared : List ℕ} {best : Found} {memory : List ℕ}
+    → Turn t prepared best memory → best .hit ≡ false
+    → Lowest (sheetOf t) best
 turn-last t e = record { is = t .state .best-is; least = t .done e }

@@ -6,21 +6,18 @@ use Prim.Native.Nat.{ℕ, suc, _≤_, _<_}
 use lib.ListN.{length, getD, take, replicate}
 use Rattle.counting.specs.Counting.{only}
 use Rattle.bits.specs.Bits.{bit}
-use Rattle.schedule.specs.Plan.{Sheet, finish, Circular}
+use Rattle.schedule.specs.Plan.{Sheet, finish}
 use Rattle.schedule.specs.ListPlan.{Order, noJobs, ready, Follows, startOf, partOf}
 use Rattle.schedule.specs.TieRule as tie
 use Rattle.schedule.specs.TieRule.{endOf}
 use Rattle.schedule.proofs.Places.{Begins, Before, CannotBeat}
-use Rattle.tables.specs.Tables.{sheetOf, Fit}
-use Rattle.placement.specs.declared.Part.{Part}
-use Rattle.placement.specs.Part.{wordOf}
-use Rattle.relations.specs.Relations.{Related}
-use Rattle.candidates.specs.Candidates.{Known, EachStart}
+use Rattle.figures.specs.Figures.{mostJobs, noMinute}
+use Rattle.tables.specs.Tables.{sheetOf, countOf, Fit}
+use Rattle.tables.specs.Part.{Part, wordOf}
+use Rattle.candidates.specs.Candidates.{Known, theoryPart, JobStart}
 use Rattle.listing.specs.declared.Found.{Found}
 use Rattle.listing.specs.Listing.{OrderOf}
-use Rattle.weights.specs.Weights.{Weighted}
-use Rattle.values.specs.Values.{Laned}
-use Rattle.bounds.specs.Bounds.{Tails}
+use Rattle.preparing.specs.Preparing.{Tabled}
 use Rattle.memory.specs.Entries.{Entry, entries, entryAt, lastAt, endAt}
 
 -- ---- working memory
@@ -52,12 +49,12 @@ pub record Reaches (S : Sheet) (target : ℕ) (v : List ℕ) (r : Found) : Type 
 
 -- such an order, or none
 pub record Outcome (S : Sheet) (target : ℕ) (v : List ℕ) (r : Found) : Type 0 where
-  pub size : length (r .order) ≡ 20
+  pub size : length (r .order) ≡ mostJobs
   pub hit : r .hit ≡ true → Reaches S target v r
   pub miss : r .hit ≡ false → Fails S target v
 
 abbrev pub noneFound : Found
-noneFound = record { hit = false; end = 65535; order = replicate 20 0 }
+noneFound = record { hit = false; end = noMinute; order = replicate mostJobs 0 }
 
 -- ---- what the search keeps true from call to call
 
@@ -73,47 +70,36 @@ SameStart S target v x = (u : List ℕ) × (i : ℕ) × (q : List ℕ) × (v ≡
     × ((partOf S v .plan .start i ≡ partOf S v .last) × SettledAt S target u i x)
 
 -- by each job of v, those that were settled when it was chosen; `same` has those of the jobs that start at the last start
-pub record SettledSo (S : Sheet) (target : ℕ) (v by : List ℕ) (same : ℕ) : Type 0 where
-  pub size : length by ≡ 20
-  pub each : (u : List ℕ) (i : ℕ) (q : List ℕ) (x : ℕ) → v ≡ u ++ (i ∷ q) → x < S .jobs → bit (getD by i 0) x ≡ true
+pub record SettledSo (S : Sheet) (target : ℕ) (v settled : List ℕ) (same : ℕ) : Type 0 where
+  pub size : length settled ≡ mostJobs
+  pub each : (u : List ℕ) (i : ℕ) (q : List ℕ) (x : ℕ) → v ≡ u ++ (i ∷ q) → x < S .jobs → bit (getD settled i 0) x ≡ true
       → SettledAt S target u i x
   pub same-start : (x : ℕ) → x < S .jobs → bit same x ≡ true → SameStart S target v x
 
--- the tables are those of the sheet
-pub record Tabled (need minutes earlier related tails worth most lanes : List ℕ) (jobs modules : ℕ) : Type 0 where
-  pub chains : Tails (sheetOf need minutes earlier jobs modules) tails
-  pub related-is : Related need minutes earlier jobs modules related
-  pub weighted : Weighted need minutes jobs modules worth most
-  pub laned : Laned need minutes jobs modules lanes
-
--- an order that ends by the target is looked for from this part-plan on
-pub record Going (need minutes earlier related tails worth most lanes : List ℕ) (jobs modules : ℕ) (part : Part) (target : ℕ)
-    (memory : List ℕ)
-    : Type 0 where
-  pub low : target < 65535
-  pub known : Known need minutes earlier jobs modules part
-  pub tabled : Tabled need minutes earlier related tails worth most lanes jobs modules
-  pub remembered : Remembered (sheetOf need minutes earlier jobs modules) memory (suc target)
+-- an order that ends by the target is looked for from the part-plan p on
+pub record Going (t prepared : List ℕ) (p : Part) (target : ℕ) (memory : List ℕ) : Type 0 where
+  pub low : target < noMinute
+  pub known : Known t p
+  pub tabled : Tabled t prepared
+  pub remembered : Remembered (sheetOf t) memory (suc target)
 
 -- the same, where jobs were settled
-pub record Searching (need minutes earlier related tails worth most lanes : List ℕ) (jobs modules : ℕ) (part : Part) (by : List ℕ)
-    (same target : ℕ) (memory : List ℕ)
-    : Type 0 where
-  pub going : Going need minutes earlier related tails worth most lanes jobs modules part target memory
-  pub settled : SettledSo (sheetOf need minutes earlier jobs modules) target (wordOf part) by same
+pub record Searching (t prepared : List ℕ) (p : Part) (target : ℕ) (memory settled : List ℕ) (same : ℕ) : Type 0 where
+  pub going : Going t prepared p target memory
+  pub settled-so : SettledSo (sheetOf t) target (wordOf p) settled same
 
--- the jobs of this set may come next, start no later than `start`, and lead to no order that ends by the target
-abbrev pub TriedSo : List ℕ → List ℕ → List ℕ → ℕ → ℕ → Part → ℕ → List ℕ → ℕ → ℕ → Type 0
-TriedSo need minutes earlier jobs modules part target at tried start = (x : ℕ) → x < jobs → bit tried x ≡ true
-    → (getD at x 0 ≤ start) × ((getD at x 0 < 65535) × Fails (sheetOf need minutes earlier jobs modules) target (wordOf part ++ (x ∷ [])))
+-- each job of this set may come next, starts no later than `start`, and leads to no order that ends by the target
+abbrev pub TriedSo : List ℕ → Part → ℕ → ℕ → ℕ → Type 0
+TriedSo t p target tried start = (x : ℕ) → x < countOf t → bit tried x ≡ true
+    → (ready (sheetOf t) (theoryPart t p .placed) x ≡ true)
+    × ((startOf (sheetOf t) (theoryPart t p) x ≤ start) × Fails (sheetOf t) target (wordOf p ++ (x ∷ [])))
 
--- job `job` is the next to be tried: these are the starts, and these jobs were tried before
-pub record Choosing (need minutes earlier : List ℕ) (jobs modules : ℕ) (part : Part) (target : ℕ) (at : List ℕ) (tried job : ℕ)
-    : Type 0 where
-  pub starts : EachStart need minutes earlier jobs modules part at
-  pub before : TriedSo need minutes earlier jobs modules part target at tried (getD at job 0)
-  pub inside : job < jobs
-  pub may-come : getD at job 0 < 65535
+-- job `job`, which starts at `start`, is the next to be tried, and these jobs were tried before
+pub record Choosing (t : List ℕ) (p : Part) (target tried job start : ℕ) : Type 0 where
+  pub inside : job < countOf t
+  pub starts : JobStart t p job start
+  pub may-come : start < noMinute
+  pub before : TriedSo t p target tried start
 
 -- ---- the whole search
 
@@ -122,12 +108,11 @@ abbrev pub keptAs : Found → Found
 keptAs best = record { hit = false; end = best .end; order = best .order }
 
 -- the tables, an order, and what is remembered of orders that end earlier
-pub record Lowering (need minutes earlier related tails worth most lanes : List ℕ) (jobs modules : ℕ) (best : Found) (memory : List ℕ)
-    : Type 0 where
-  pub fit : Fit need minutes jobs modules
-  pub tabled : Tabled need minutes earlier related tails worth most lanes jobs modules
-  pub best-is : OrderOf (sheetOf need minutes earlier jobs modules) best
-  pub remembered : Remembered (sheetOf need minutes earlier jobs modules) memory (best .end)
+pub record Lowering (t prepared : List ℕ) (best : Found) (memory : List ℕ) : Type 0 where
+  pub fit : Fit t
+  pub tabled : Tabled t prepared
+  pub best-is : OrderOf (sheetOf t) best
+  pub remembered : Remembered (sheetOf t) memory (best .end)
 
 -- an order that ends earlier, or the same end, before which no order ends
 pub record Lowered (S : Sheet) (best r : Found) : Type 0 where
@@ -146,7 +131,7 @@ pub record Placing (S : Sheet) (w : List ℕ) (r : Found) : Type 0 where
   pub begins : Begins w (take (S .jobs) (r .order))
   pub before : (o : List ℕ) → Order S o → Before w o → r .end < endOf S o
 
--- the answer: the tie rule's order and its end, wherever there is an order
-pub record Answer (S : Sheet) (r : Found) : Type 0 where
-  pub best : ¬ Circular S → tie.Best S (take (S .jobs) (r .order))
-  pub end : ¬ Circular S → r .end ≡ endOf S (take (S .jobs) (r .order))
+-- the tie rule's order and its end
+pub record TieRuled (S : Sheet) (r : Found) : Type 0 where
+  pub best : tie.Best S (take (S .jobs) (r .order))
+  pub end : r .end ≡ endOf S (take (S .jobs) (r .order))

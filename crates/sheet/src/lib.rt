@@ -6,11 +6,11 @@ ghost use Rattle.sheet_format.specs.Figures.{mostJobs, recordSize, trailerSize,
 ghost use Rattle.sheet_format.specs.Format.{jobsIn, sheetBytes};
 ghost use Rattle.sheet.specs.Read.{refused, reading};
 ghost use Rattle.sheet.specs.Write.{over, writeRefusal, writeAnswer, writeLeaves};
+use figures::MOST_JOBS;
+use figures::MOST_MODULES;
 pub use sheet_format::Job;
-use sheet_format::figures::MOST_JOBS;
-use sheet_format::figures::MOST_MODULES;
-use sheet_format::figures::RECORD_SIZE;
-use sheet_format::figures::TRAILER_SIZE;
+use sheet_format::layout::RECORD_SIZE;
+use sheet_format::layout::TRAILER_SIZE;
 
 // What reading answers: refusal 0 with the jobs, n and N, or the number of the refusal with all else 0.
 #[repr(C)]

@@ -4,7 +4,7 @@ use cases::print;
 use cases::print_case;
 use cases::print_figure;
 use cases::print_number;
-use sheet::Job;
+use sheet_format::Job;
 
 // The length of the sheet of one job with a label of one byte, and where its parts begin.
 const SMALL: usize = 19;

@@ -1,13 +1,8 @@
--- The figures of document 01, 'The job sheet' and 'Checking order'. Each stands here once; src/lib.rt has a constant for each.
+-- The figures of document 01, 'The job sheet' and 'Checking order'. Each stands here or in `figures` once; src/layout.rt has a
+-- constant for each.
 use Prim.Native.Nat.{ℕ}
-
--- n is 0 to 20
-abbrev pub mostJobs : ℕ
-mostJobs = 20
-
--- N is 1 to 64
-abbrev pub mostModules : ℕ
-mostModules = 64
+-- n is 0 to 20, N is 1 to 64, a job takes 1 to 1440 minutes
+pub use Rattle.figures.specs.Figures.{mostJobs, mostModules, mostMinutes}
 
 -- the longest sheet has 448 bytes
 abbrev pub longestSheet : ℕ
@@ -35,10 +30,6 @@ lastLabelByte = 126
 -- a job needs 1 to 255 modules
 abbrev pub widestJob : ℕ
 widestJob = 255
-
--- a job takes 1 to 1440 minutes
-abbrev pub mostMinutes : ℕ
-mostMinutes = 1440
 
 -- a departure is 0 to 2880
 abbrev pub lastDeparture : ℕ

@@ -9,12 +9,12 @@ ghost use Rattle.checking.specs.Checking.{firstFailing};
 ghost use Rattle.sheet_format.specs.Figures.{mostJobs};
 ghost use Rattle.sheet_format.specs.Checks.{outside, faulty, wrongBytes};
 use super::Job;
-use super::figures::FIRST_LABEL_BYTE;
-use super::figures::LAST_DEPARTURE;
-use super::figures::LAST_LABEL_BYTE;
-use super::figures::LONGEST_LABEL;
-use super::figures::MOST_MINUTES;
-use super::figures::WIDEST_JOB;
+use super::layout::FIRST_LABEL_BYTE;
+use super::layout::LAST_DEPARTURE;
+use super::layout::LAST_LABEL_BYTE;
+use super::layout::LONGEST_LABEL;
+use super::layout::WIDEST_JOB;
+use figures::MOST_MINUTES;
 
 pub fn outside(low: usize, high: usize, x: usize) -> bool
     ensures { λ r. ⌜ r ≡ outside low high x ⌝ }

@@ -10,8 +10,8 @@ ghost use Rattle.sheet_format.specs.Checks.{someFaulty};
 use super::Job;
 use super::checks::either;
 use super::checks::faulty;
-use super::figures::MOST_JOBS;
-use super::figures::RECORD_SIZE;
+use super::layout::RECORD_SIZE;
+use figures::MOST_JOBS;
 use words::read16;
 use words::read32;
 

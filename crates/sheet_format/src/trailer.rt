@@ -7,11 +7,11 @@ ghost use Rattle.sheet_format.specs.Figures.{trailerSize};
 ghost use Rattle.sheet_format.specs.Format.{trailerBytes, offsetOf, countOf, modulesOf};
 ghost use Rattle.sheet_format.specs.Checks.{trailerChecks};
 use super::checks::outside;
-use super::figures::LONGEST_SHEET;
-use super::figures::MOST_JOBS;
-use super::figures::MOST_MODULES;
-use super::figures::RECORD_SIZE;
-use super::figures::TRAILER_SIZE;
+use super::layout::LONGEST_SHEET;
+use super::layout::RECORD_SIZE;
+use super::layout::TRAILER_SIZE;
+use figures::MOST_JOBS;
+use figures::MOST_MODULES;
 use words::read16;
 use words::read32;
 

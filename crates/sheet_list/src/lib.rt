@@ -6,9 +6,9 @@ ghost use Rattle.sheet_format.specs.Figures.{mostJobs};
 ghost use Rattle.sheet_format.specs.Format.{noJob, jobsIn};
 ghost use Rattle.sheet.specs.Write.{writeAnswer, writeLeaves};
 ghost use Rattle.sheet_list.specs.Gather.{gathered, listed, placed};
+use figures::MOST_JOBS;
 use sheet::Written;
 use sheet_format::Job;
-use sheet_format::figures::MOST_JOBS;
 
 // A list of fixed length, as a value.
 pub struct Jobs {

@@ -12,11 +12,13 @@ use lib.Seq.{getD-set-same, getD-set-other}
 use Rattle.counting.specs.Counting.{only, sum}
 use borrow.Author.Tests.{ne-eqb}
 use Rattle.counting.proofs.Tests.{true-or-false, less-or-not, same-or-not, clash, and-left, and-both}
+use Rattle.figures.specs.Figures.{mostJobs, mostMinutes}
 use Rattle.bits.specs.Bits.{bit, withoutBit, setOf}
 use Rattle.bits.proofs.Digits.{bit-none}
 use Rattle.bits.proofs.Members.{bit-without-same, bit-without}
 use Rattle.bits.proofs.Sets.{bit-setOf}
 use Rattle.bits.proofs.Walks.{Walk, walk-first, walk-next}
+use Rattle.tables.specs.Tables.{minutesAt}
 use Rattle.sums.specs.Sums.{together, Within, SumsOf, Room, Doubled}
 
 -- ---- writing the new sums
@@ -64,15 +66,15 @@ module _ {sums₀ sums : List ℕ} {count minutes i : ℕ} (d : Doubling sums₀
 
 -- ---- one job more
 
-together-more : (minutes : List ℕ) (j : ℕ) (X : ℕ → Bool)
-    → together minutes (j + 1) X ≡ together minutes j X + only (X j) (getD minutes j 0)
+together-more : (t : List ℕ) (j : ℕ) (X : ℕ → Bool)
+    → together t (j + 1) X ≡ together t j X + only (X j) (minutesAt t j)
 unfolding sum
-together-more minutes j X = rw add-one
+together-more t j X = rw add-one
 
 -- of no jobs there is the sum 0
-pub sums-start : (minutes : List ℕ) (chosen : ℕ) (sums : List ℕ) → 0 < length sums → SumsOf minutes chosen 0 (set sums 0 0) 1
+pub sums-start : (t : List ℕ) (chosen : ℕ) (sums : List ℕ) → 0 < length sums → SumsOf t chosen 0 (set sums 0 0) 1
 unfolding sum
-sums-start minutes chosen sums e = record {
+sums-start t chosen sums e = record {
   few = omega (arith, length-set sums 0 0);
   short = λ i l. let z : i ≡ 0 = omega arith in rw z (omega (arith, first));
   each = λ _ X w. (0, omega arith, first);
@@ -81,43 +83,43 @@ sums-start minutes chosen sums e = record {
     first : getD (set sums 0 0) 0 0 ≡ 0
     first = getD-set-same sums 0 0 0 (omega (arith, e))
 
-module _ {minutes : List ℕ} {chosen j : ℕ} {sums : List ℕ} {count : ℕ} (s : SumsOf minutes chosen j sums count) where
+module _ {t : List ℕ} {chosen j : ℕ} {sums : List ℕ} {count : ℕ} (s : SumsOf t chosen j sums count) where
   -- a job that is not in the set adds none
-  pub sums-skip : bit chosen j ≡ false → SumsOf minutes chosen (j + 1) sums count
+  pub sums-skip : bit chosen j ≡ false → SumsOf t chosen (j + 1) sums count
   sums-skip out = record {
     few = s .few;
     short = λ i l. omega (arith, s .short i l);
     each = λ some X w. go X w (s .each some X w) (true-or-false (X j));
   }
     where
-      go : (X : ℕ → Bool) → Within X chosen → (i : ℕ) × (i < count) × (getD sums i 0 ≡ together minutes j X) → (X j ≡ true) ⊎ (X j ≡ false)
-          → (i : ℕ) × (i < count) × (getD sums i 0 ≡ together minutes (j + 1) X)
+      go : (X : ℕ → Bool) → Within X chosen → (i : ℕ) × (i < count) × (getD sums i 0 ≡ together t j X) → (X j ≡ true) ⊎ (X j ≡ false)
+          → (i : ℕ) × (i < count) × (getD sums i 0 ≡ together t (j + 1) X)
       go X w (i, l, e) (inl y) = clash (bit chosen j) (w j y) out
       go X w (i, l, e) (inr y) =
-          let none : only (X j) (getD minutes j 0) ≡ 0 = rw y in
-          (i, l, omega (arith, together-more minutes j X))
+          let none : only (X j) (minutesAt t j) ≡ 0 = rw y in
+          (i, l, omega (arith, together-more t j X))
 
   -- there are none where they have no room
-  pub sums-none : SumsOf minutes chosen (j + 1) sums 0
+  pub sums-none : SumsOf t chosen (j + 1) sums 0
   sums-none = record {
     few = zero-le;
     short = λ i l. absurd (not-suc-le-zero l);
     each = λ some X w. absurd (not-suc-le-zero some);
   }
 
-  pub sums-room : j < 20 → getD minutes j 0 ≤ 1440 → 2 * count ≤ length sums → Room sums count (getD minutes j 0)
+  pub sums-room : j < mostJobs → minutesAt t j ≤ mostMinutes → 2 * count ≤ length sums → Room sums count (minutesAt t j)
   sums-room a b few = record { few = few; fits = λ i l. omega (arith, s .short i l) }
 
   -- each choice takes the job or leaves it
-  pub sums-more : {sums′ : List ℕ} → getD minutes j 0 ≤ 1440 → 2 * count ≤ length sums′ → Doubled sums sums′ count (getD minutes j 0)
-      → SumsOf minutes chosen (j + 1) sums′ (2 * count)
+  pub sums-more : {sums′ : List ℕ} → minutesAt t j ≤ mostMinutes → 2 * count ≤ length sums′ → Doubled sums sums′ count (minutesAt t j)
+      → SumsOf t chosen (j + 1) sums′ (2 * count)
   sums-more {sums′} day few d = record {
     few = few;
     short = λ i l. short i l (less-or-not i count);
     each = λ some X w. go X (s .each (omega arith) X w) (true-or-false (X j));
   }
     where
-      short : (i : ℕ) → i < 2 * count → (i < count) ⊎ (count ≤ i) → getD sums′ i 0 ≤ 1440 * (j + 1)
+      short : (i : ℕ) → i < 2 * count → (i < count) ⊎ (count ≤ i) → getD sums′ i 0 ≤ mostMinutes * (j + 1)
       short i l (inl m) = omega (arith, d .kept i m, s .short i m)
       short i l (inr m) =
           let k = i - count in
@@ -125,48 +127,48 @@ module _ {minutes : List ℕ} {chosen j : ℕ} {sums : List ℕ} {count : ℕ} (
           let n : k < count = omega arith in
           rw e (omega (arith, d .more k n, s .short k n))
 
-      go : (X : ℕ → Bool) → (i : ℕ) × (i < count) × (getD sums i 0 ≡ together minutes j X) → (X j ≡ true) ⊎ (X j ≡ false)
-          → (i : ℕ) × (i < 2 * count) × (getD sums′ i 0 ≡ together minutes (j + 1) X)
+      go : (X : ℕ → Bool) → (i : ℕ) × (i < count) × (getD sums i 0 ≡ together t j X) → (X j ≡ true) ⊎ (X j ≡ false)
+          → (i : ℕ) × (i < 2 * count) × (getD sums′ i 0 ≡ together t (j + 1) X)
       go X (i, l, e) (inl y) =
-          let one : only (X j) (getD minutes j 0) ≡ getD minutes j 0 = rw y in
-          (count + i, omega arith, omega (arith, together-more minutes j X, d .more i l))
+          let one : only (X j) (minutesAt t j) ≡ minutesAt t j = rw y in
+          (count + i, omega arith, omega (arith, together-more t j X, d .more i l))
       go X (i, l, e) (inr y) =
-          let none : only (X j) (getD minutes j 0) ≡ 0 = rw y in
-          (i, omega arith, omega (arith, together-more minutes j X, d .kept i l))
+          let none : only (X j) (minutesAt t j) ≡ 0 = rw y in
+          (i, omega arith, omega (arith, together-more t j X, d .kept i l))
 
 -- ---- the walk over the set's jobs
 
 -- jobs that are not in the set add none
-sums-past : {minutes : List ℕ} {chosen : ℕ} {sums : List ℕ} {count : ℕ} (j d : ℕ) → SumsOf minutes chosen j sums count
-    → ((i : ℕ) → j ≤ i → i < j + d → bit chosen i ≡ false) → SumsOf minutes chosen (j + d) sums count
+sums-past : {t : List ℕ} {chosen : ℕ} {sums : List ℕ} {count : ℕ} (j d : ℕ) → SumsOf t chosen j sums count
+    → ((i : ℕ) → j ≤ i → i < j + d → bit chosen i ≡ false) → SumsOf t chosen (j + d) sums count
 sums-past j zero s out = rw (add-zero j) s
-sums-past {minutes} {chosen} {sums} {count} j (suc d) s out =
+sums-past {t} {chosen} {sums} {count} j (suc d) s out =
     let e : j + suc d ≡ (j + d) + 1 = omega arith in
     rw e (sums-skip (sums-past j d s (λ i a b. out i a (omega arith))) (out (j + d) (omega arith) (omega arith)))
 
 -- the sums of the set's first jobs, up to a place from which on all its jobs are still to come
-pub record Summing (minutes : List ℕ) (chosen jobs rest : ℕ) (sums : List ℕ) (count : ℕ) : Type 0 where
-  pub walk : Walk chosen jobs rest
+pub record Summing (t : List ℕ) (chosen jobs todo : ℕ) (sums : List ℕ) (count : ℕ) : Type 0 where
+  pub walk : Walk chosen jobs todo
   pub place : ℕ
   pub inside : place ≤ jobs
-  pub done : SumsOf minutes chosen place sums count
-  pub ahead : (i : ℕ) → bit rest i ≡ true → place ≤ i
-  pub all : (i : ℕ) → place ≤ i → i < jobs → bit chosen i ≡ true → bit rest i ≡ true
+  pub done : SumsOf t chosen place sums count
+  pub ahead : (i : ℕ) → bit todo i ≡ true → place ≤ i
+  pub all : (i : ℕ) → place ≤ i → i < jobs → bit chosen i ≡ true → bit todo i ≡ true
 
-module _ (minutes : List ℕ) (chosen jobs : ℕ) where
-  pub summing-none : (sums : List ℕ) → 0 < length sums → Summing minutes chosen jobs (setOf jobs (bit chosen)) (set sums 0 0) 1
+module _ (t : List ℕ) (chosen jobs : ℕ) where
+  pub summing-none : (sums : List ℕ) → 0 < length sums → Summing t chosen jobs (setOf jobs (bit chosen)) (set sums 0 0) 1
   summing-none sums e = record {
     walk = walk-first jobs chosen;
     place = 0;
     inside = zero-le;
-    done = sums-start minutes chosen sums e;
+    done = sums-start t chosen sums e;
     ahead = λ i b. zero-le;
     all = λ i a l b. bit-setOf jobs (bit chosen) i l ∙ b;
   }
 
-  module _ {rest : ℕ} {sums : List ℕ} {count : ℕ} (s : Summing minutes chosen jobs rest sums count) where
+  module _ {todo : ℕ} {sums : List ℕ} {count : ℕ} (s : Summing t chosen jobs todo sums count) where
     -- up to the lowest job that is still to come
-    pub summing-to : (j : ℕ) → bit rest j ≡ true → ((i : ℕ) → i < j → bit rest i ≡ false) → SumsOf minutes chosen j sums count
+    pub summing-to : (j : ℕ) → bit todo j ≡ true → ((i : ℕ) → i < j → bit todo i ≡ false) → SumsOf t chosen j sums count
     summing-to j b low =
         let d = j - s .place in
         let e : s .place + d ≡ j = omega (arith, s .ahead j b) in
@@ -174,29 +176,29 @@ module _ (minutes : List ℕ) (chosen jobs : ℕ) where
       where
         go : (i : ℕ) → s .place ≤ i → i < j → (bit chosen i ≡ true) ⊎ (bit chosen i ≡ false) → bit chosen i ≡ false
         go i p l (inr x) = x
-        go i p l (inl x) = clash (bit rest i) (s .all i p (omega (arith, s .walk .below j b)) x) (low i l)
+        go i p l (inl x) = clash (bit todo i) (s .all i p (omega (arith, s .walk .below j b)) x) (low i l)
 
-    pub summing-step : (j : ℕ) {sums′ : List ℕ} {count′ : ℕ} → bit rest j ≡ true → ((i : ℕ) → i < j → bit rest i ≡ false)
-        → SumsOf minutes chosen (j + 1) sums′ count′ → Summing minutes chosen jobs (withoutBit rest j) sums′ count′
-    summing-step j b low t = record {
+    pub summing-step : (j : ℕ) {sums′ : List ℕ} {count′ : ℕ} → bit todo j ≡ true → ((i : ℕ) → i < j → bit todo i ≡ false)
+        → SumsOf t chosen (j + 1) sums′ count′ → Summing t chosen jobs (withoutBit todo j) sums′ count′
+    summing-step j b low more = record {
       walk = walk-next j (s .walk);
       place = j + 1;
       inside = omega (arith, s .walk .below j b);
-      done = t;
+      done = more;
       ahead = λ i x. from i x (less-or-not i (j + 1));
-      all = λ i p l x. bit-without rest j i ∙ and-both (bit rest i) _ (s .all i (omega (arith, s .ahead j b)) l x)
+      all = λ i p l x. bit-without todo j i ∙ and-both (bit todo i) _ (s .all i (omega (arith, s .ahead j b)) l x)
           (ap not (ne-eqb i j (λ e. omega arith)));
     }
       where
-        from : (i : ℕ) → bit (withoutBit rest j) i ≡ true → (i < j + 1) ⊎ (j + 1 ≤ i) → j + 1 ≤ i
+        from : (i : ℕ) → bit (withoutBit todo j) i ≡ true → (i < j + 1) ⊎ (j + 1 ≤ i) → j + 1 ≤ i
         from i x (inr l) = l
         from i x (inl l) = lower (same-or-not i j)
           where
             lower : (i ≡ j) ⊎ (¬ (i ≡ j)) → j + 1 ≤ i
-            lower (inl e) = clash (bit (withoutBit rest j) i) x (rw e (bit-without-same rest j))
-            lower (inr d) = clash (bit rest i) (and-left (bit rest i) _ (sym (bit-without rest j i) ∙ x)) (low i (omega arith))
+            lower (inl e) = clash (bit (withoutBit todo j) i) x (rw e (bit-without-same todo j))
+            lower (inr d) = clash (bit todo i) (and-left (bit todo i) _ (sym (bit-without todo j i) ∙ x)) (low i (omega arith))
 
-    pub summing-all : rest ≡ 0 → SumsOf minutes chosen jobs sums count
+    pub summing-all : todo ≡ 0 → SumsOf t chosen jobs sums count
     summing-all e =
         let d = jobs - s .place in
         let f : s .place + d ≡ jobs = omega (arith, s .inside) in
@@ -204,4 +206,4 @@ module _ (minutes : List ℕ) (chosen jobs : ℕ) where
       where
         go : (i : ℕ) → s .place ≤ i → i < jobs → (bit chosen i ≡ true) ⊎ (bit chosen i ≡ false) → bit chosen i ≡ false
         go i p l (inr x) = x
-        go i p l (inl x) = clash (bit rest i) (s .all i p l x) (rw e (bit-none i))
+        go i p l (inl x) = clash (bit todo i) (s .all i p l x) (rw e (bit-none i))

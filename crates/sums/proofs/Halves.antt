@@ -11,53 +11,62 @@ use Rattle.counting.specs.Counting.{only, every, largest}
 use Rattle.counting.proofs.Tests.{and-right, only-within}
 use Rattle.counting.proofs.Sums.{sum-same, sum-add}
 use Rattle.counting.proofs.Ranges.{le-largest, largest-le, every-at}
+use Rattle.figures.specs.Figures.{mostJobs}
 use Rattle.bits.specs.Bits.{bit}
+use Rattle.tables.specs.Tables.{minutesAt, countOf}
 use Rattle.sums.specs.Sums.{together, SumsOf, longest, longestPair, Rounded}
 use Rattle.sums.proofs.Longest.{longest-le, longest-bounds}
 
+-- jobs 0 to 9, and jobs 10 to 19
+abbrev pub lowJobs : ℕ
+lowJobs = 1023
+
+abbrev pub highJobs : ℕ
+highJobs = 1047552
+
 in-one : ℕ → Bool
-in-one k = cond (bit 1023 k) (not (bit 1047552 k)) (bit 1047552 k)
+in-one k = cond (bit lowJobs k) (not (bit highJobs k)) (bit highJobs k)
 
 -- each of 20 jobs is in one half only
-halves : every 20 in-one ≡ true
+halves : every mostJobs in-one ≡ true
 unfolding every bit in-one
 halves = refl
 
-one-half : (b : Bool) (k x : ℕ) → k < 20 → only b x ≡ only (b && bit 1023 k) x + only (b && bit 1047552 k) x
+one-half : (b : Bool) (k x : ℕ) → k < mostJobs → only b x ≡ only (b && bit lowJobs k) x + only (b && bit highJobs k) x
 unfolding in-one
 one-half false k x l = omega arith
-one-half true k x l = go (bit 1023 k) (bit 1047552 k) (every-at 20 in-one halves k l)
+one-half true k x l = go (bit lowJobs k) (bit highJobs k) (every-at mostJobs in-one halves k l)
   where
     go : (p q : Bool) → cond p (not q) q ≡ true → x ≡ only p x + only q x
     go true q e = rw (not-true q e) (omega arith)
     go false q e = rw e (omega arith)
 
-module _ {minutes : List ℕ} {jobs : ℕ} {low : List ℕ} {lows : ℕ} {high : List ℕ} {highs : ℕ}
-    (a : SumsOf minutes 1023 jobs low lows) (b : SumsOf minutes 1047552 jobs high highs) (t : ℕ) where
+module _ {t : List ℕ} {low : List ℕ} {lows : ℕ} {high : List ℕ} {highs : ℕ}
+    (a : SumsOf t lowJobs (countOf t) low lows) (b : SumsOf t highJobs (countOf t) high highs) (x : ℕ) where
   -- what the i-th low sum and a high one give together
   with-low : ℕ → ℕ
-  with-low i = only (leb (getD low i 0) t) (getD low i 0 + longest high highs (t - getD low i 0))
+  with-low i = only (leb (getD low i 0) x) (getD low i 0 + longest high highs (x - getD low i 0))
 
   -- a sum of all jobs is one of each half
-  pub rounded-pair : jobs ≤ 20 → 0 < lows → 0 < highs → Rounded minutes jobs t (longestPair low lows high highs t)
+  pub rounded-pair : countOf t ≤ mostJobs → 0 < lows → 0 < highs → Rounded t x (longestPair low lows high highs x)
   unfolding longestPair with-low
   rounded-pair few l h = record {
-    below = largest-le lows with-low t (λ i m. only-within (leb (getD low i 0) t) (getD low i 0 + longest high highs (t - getD low i 0)) t
-        (λ e. omega (arith, leb-true (getD low i 0) t e, longest-le high highs (t - getD low i 0))));
-    none-between = λ X m. go X m (a .each l (λ k. X k && bit 1023 k) (λ k. and-right (X k) (bit 1023 k)));
+    below = largest-le lows with-low x (λ i m. only-within (leb (getD low i 0) x) (getD low i 0 + longest high highs (x - getD low i 0)) x
+        (λ e. omega (arith, leb-true (getD low i 0) x e, longest-le high highs (x - getD low i 0))));
+    none-between = λ X m. go X m (a .each l (λ k. X k && bit lowJobs k) (λ k. and-right (X k) (bit lowJobs k)));
   }
     where
-      go : (X : ℕ → Bool) → together minutes jobs X ≤ t
-          → (i : ℕ) × (i < lows) × (getD low i 0 ≡ together minutes jobs (λ k. X k && bit 1023 k))
-          → together minutes jobs X ≤ largest lows with-low
+      go : (X : ℕ → Bool) → together t (countOf t) X ≤ x
+          → (i : ℕ) × (i < lows) × (getD low i 0 ≡ together t (countOf t) (λ k. X k && bit lowJobs k))
+          → together t (countOf t) X ≤ largest lows with-low
       go X m (i, n, e) =
-          let split : together minutes jobs X
-          ≡ together minutes jobs (λ k. X k && bit 1023 k) + together minutes jobs (λ k. X k && bit 1047552 k) =
-          sum-same jobs _ (λ k. only (X k && bit 1023 k) (getD minutes k 0) + only (X k && bit 1047552 k) (getD minutes k 0))
-          (λ k y. one-half (X k) k (getD minutes k 0) (omega arith))
-          ∙ sum-add jobs (λ k. only (X k && bit 1023 k) (getD minutes k 0)) (λ k. only (X k && bit 1047552 k) (getD minutes k 0)) in
-          let rest = longest-bounds high highs b h (λ k. X k && bit 1047552 k) (t - getD low i 0)
-          (λ k. and-right (X k) (bit 1047552 k)) (omega arith) in
-          let most : getD low i 0 + longest high highs (t - getD low i 0) ≤ largest lows with-low =
-          rw (le-leb (getD low i 0) t (omega arith)) at (le-largest lows with-low i n) in
+          let split : together t (countOf t) X
+          ≡ together t (countOf t) (λ k. X k && bit lowJobs k) + together t (countOf t) (λ k. X k && bit highJobs k) =
+          sum-same (countOf t) _ (λ k. only (X k && bit lowJobs k) (minutesAt t k) + only (X k && bit highJobs k) (minutesAt t k))
+          (λ k y. one-half (X k) k (minutesAt t k) (omega arith))
+          ∙ sum-add (countOf t) (λ k. only (X k && bit lowJobs k) (minutesAt t k)) (λ k. only (X k && bit highJobs k) (minutesAt t k)) in
+          let rest = longest-bounds high highs b h (λ k. X k && bit highJobs k) (x - getD low i 0)
+          (λ k. and-right (X k) (bit highJobs k)) (omega arith) in
+          let most : getD low i 0 + longest high highs (x - getD low i 0) ≤ largest lows with-low =
+          rw (le-leb (getD low i 0) x (omega arith)) at (le-largest lows with-low i n) in
           omega arith

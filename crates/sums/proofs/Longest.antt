@@ -29,9 +29,9 @@ module _ (sums : List ℕ) (count : ℕ) where
   longest-rises a b h = largest-le count _ (longest sums count b) (λ i l. only-within (leb (getD sums i 0) a) (getD sums i 0) _
       (λ e. le-longest b i l (omega (arith, leb-true (getD sums i 0) a e))))
 
-  pub longest-bounds : {minutes : List ℕ} {set jobs : ℕ} → SumsOf minutes set jobs sums count → 0 < count
-      → (X : ℕ → Bool) (x : ℕ) → Within X set → together minutes jobs X ≤ x → together minutes jobs X ≤ longest sums count x
-  longest-bounds {minutes} {jobs = jobs} s some X x w h = go (s .each some X w)
+  pub longest-bounds : {t : List ℕ} {set jobs : ℕ} → SumsOf t set jobs sums count → 0 < count
+      → (X : ℕ → Bool) (x : ℕ) → Within X set → together t jobs X ≤ x → together t jobs X ≤ longest sums count x
+  longest-bounds {t} {jobs = jobs} s some X x w h = go (s .each some X w)
     where
-      go : (i : ℕ) × (i < count) × (getD sums i 0 ≡ together minutes jobs X) → together minutes jobs X ≤ longest sums count x
+      go : (i : ℕ) × (i < count) × (getD sums i 0 ≡ together t jobs X) → together t jobs X ≤ longest sums count x
       go (i, l, e) = omega (arith, le-longest x i l (omega arith))

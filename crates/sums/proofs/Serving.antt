@@ -1,93 +1,116 @@
 -- What the modules can serve up to the target.
 use mathlib.Core.Path.{_≡_, sym, ap, _∙_}
+use mathlib.Core.Logic.{_⊎_, inl, inr}
 use mathlib.Core.List.{List}
 use Prim.Native.Nat.{ℕ, _+_, _-_, _*_, _≤_, _<_, zero-le}
 use native.Mathlib.Omega.{arith}
 use native.Mathlib.Nat.{le-trans, le-refl, mul-le-mul-left, mul-le-mul-right}
 use native.Mathlib.Numerals.{add-one}
-use lib.Dec.{leb}
+use lib.Dec.{ltb, leb}
 use lib.ListN.{getD}
-use borrow.Author.Tests.{lt-ltb, le-ltb, le-leb}
+use borrow.Author.Tests.{lt-ltb, le-ltb, le-leb, lt-leb}
 use Rattle.counting.specs.Counting.{only, sum}
+use Rattle.counting.proofs.Tests.{less-or-not}
 use Rattle.counting.proofs.Sums.{sum-same, sum-zero, le-sum}
-use Rattle.placement.specs.Profile.{heldAt, heldFrom}
+use Rattle.figures.specs.Figures.{mostModules}
+use Rattle.tables.specs.Tables.{countOf, modulesOf, Fit}
+use Rattle.tables.specs.Part.{Part}
+use Rattle.placement.specs.Profile.{heldOf, heldFrom}
 use Rattle.placement.proofs.Profiles.{held-at-le, held-from-le}
-use Rattle.sums.specs.Sums.{SumsOf, longest, Running, servedBy, Unserved}
+use Rattle.sums.specs.Sums.{SumsOf, longest}
+use Rattle.sums.specs.Serving.{Running, Narrow, servedFrom, most16, cabinetServes, Unserved}
 use Rattle.sums.proofs.Longest.{longest-le, longest-rises, longest-bounds}
 
--- what at most 64 modules serve in at most 65535 minutes
-pub few-modules : (w x : ℕ) → w ≤ 64 → x ≤ 65535 → w * x ≤ 4194240
-few-modules w x a b = le-trans (mul-le-mul-left w b) (mul-le-mul-right 65535 a)
+-- what at most a cabinet's modules serve in minutes of 16 bits
+pub few-modules : (w x : ℕ) → w ≤ mostModules → x ≤ most16 → w * x ≤ cabinetServes
+few-modules w x a b = le-trans (mul-le-mul-left w b) (mul-le-mul-right most16 a)
 
--- a job that runs holds no more than all modules
-held-few : {until held : List ℕ} {placed gone free modules l : ℕ} → Running until held placed gone free modules l
-    → (k : ℕ) → gone ≤ k → k < placed → getD held k 0 ≤ 64
-unfolding heldFrom
-held-few {held = held} {placed} {gone} r k m n =
-    let one : getD held k 0 ≤ heldFrom held placed gone =
-    rw (le-leb gone k m) at (le-sum placed (λ i. only (leb gone i) (getD held i 0)) k n) in
-    omega (arith, r .profile .rest, r .most)
+-- what the modules of the k-th placed job serve from its end up to T
+abbrev servedAt : (ℕ → ℕ) → Part → ℕ → ℕ → ℕ
+servedAt reach p T k = getD (p .held) k 0 * reach (T - getD (p .until) k 0)
 
--- the sum over the first i
-pub record Serving (sums : List ℕ) (count : ℕ) (until held : List ℕ) (placed gone free modules l T total i : ℕ) : Type 0 where
-  pub running : Running until held placed gone free modules l
-  pub target : T ≤ 65535
+-- ---- the sum, job by job
+
+-- the sum over the first i jobs
+pub record Serving (sums : List ℕ) (count : ℕ) (p : Part) (gone T total i : ℕ) : Type 0 where
+  pub held : Narrow p gone
+  pub target : T ≤ most16
   pub from : gone ≤ i
-  pub inside : i ≤ placed
-  pub total-is : total ≡ servedBy (longest sums count) until held i l T
-  pub small : total ≤ 4194240 * i
+  pub inside : i ≤ p .placed
+  pub total-is : total ≡ sum i (λ k. only (leb gone k) (servedAt (longest sums count) p T k))
+  pub small : total ≤ cabinetServes * i
 
 -- what has ended adds nothing
-pub serving-start : {sums : List ℕ} {count : ℕ} {until held : List ℕ} {placed gone free modules l T : ℕ}
-    → Running until held placed gone free modules l → T ≤ 65535 → Serving sums count until held placed gone free modules l T 0 gone
-unfolding servedBy
-serving-start {sums} {count} {until} {held} {placed} {gone} {l = l} {T = T} r t = record {
-  running = r;
+pub serving-start : {sums : List ℕ} {count : ℕ} {p : Part} {gone T : ℕ} → Narrow p gone → T ≤ most16 → Serving sums count p gone T 0 gone
+serving-start {sums} {count} {p} {gone} {T} n t = record {
+  held = n;
   target = t;
   from = le-refl gone;
-  inside = r .profile .inside;
-  total-is = sym (sum-same gone _ (λ k. 0) (λ k m. ap (λ b. only b (getD held k 0 * longest sums count (T - getD until k 0)))
-      (le-ltb l (getD until k 0) (r .profile .ended k m))) ∙ sum-zero gone);
+  inside = n .inside;
+  total-is = sym (sum-same gone _ (λ k. 0) (λ k m. ap (λ b. only b (servedAt (longest sums count) p T k)) (lt-leb gone k m)) ∙ sum-zero gone);
   small = zero-le;
 }
 
-module _ {sums : List ℕ} {count : ℕ} {until held : List ℕ} {placed gone free modules l T total i : ℕ}
-    (s : Serving sums count until held placed gone free modules l T total i) where
-  pub serving-fits : i < placed → getD held i 0 * longest sums count (T - getD until i 0) ≤ 4194240
-  serving-fits m = few-modules (getD held i 0) _ (held-few (s .running) i (s .from) m)
-      (omega (arith, longest-le sums count (T - getD until i 0), s .target))
+module _ {sums : List ℕ} {count : ℕ} {p : Part} {gone T total i : ℕ} (s : Serving sums count p gone T total i) where
+  pub serving-fits : i < p .placed → servedAt (longest sums count) p T i ≤ cabinetServes
+  serving-fits m = few-modules (getD (p .held) i 0) _ (s .held .narrow i (s .from) m)
+      (omega (arith, longest-le sums count (T - getD (p .until) i 0), s .target))
 
-  pub serving-step : i < placed
-      → Serving sums count until held placed gone free modules l T
-      (total + getD held i 0 * longest sums count (T - getD until i 0)) (i + 1)
-  unfolding servedBy sum
+  pub serving-step : i < p .placed → Serving sums count p gone T (total + servedAt (longest sums count) p T i) (i + 1)
+  unfolding sum
   serving-step m = record {
-    running = s .running;
+    held = s .held;
     target = s .target;
     from = omega (arith, s .from);
     inside = omega arith;
-    total-is = rw (add-one, lt-ltb l (getD until i 0) (s .running .live i (s .from) m))
-        (ap (λ (x : ℕ). x + getD held i 0 * longest sums count (T - getD until i 0)) (s .total-is));
+    total-is = rw (add-one, le-leb gone i (s .from)) (ap (λ (x : ℕ). x + servedAt (longest sums count) p T i) (s .total-is));
     small = omega (arith, s .small, serving-fits m);
   }
 
--- the modules that no job holds are free
-free-modules : {until held : List ℕ} {placed gone free modules l : ℕ} → Running until held placed gone free modules l
-    → free ≡ modules - heldAt until held placed l
-free-modules {until} {held} {placed} {gone} {l = l} r =
-    let most = held-at-le until held placed gone l (r .profile .ended) in
-    omega (arith, r .profile .rest, held-from-le until held placed gone l (r .live))
+  pub serving-all : p .placed ≤ i → total ≡ servedFrom (longest sums count) p gone T
+  unfolding servedFrom
+  serving-all m =
+      let e : i ≡ p .placed = omega (arith, s .inside) in
+      s .total-is ∙ ap (λ (n : ℕ). sum n (λ k. only (leb gone k) (servedAt (longest sums count) p T k))) e
 
--- the sums show that some module-minutes stay unserved
-pub too-little : {minutes : List ℕ} {jobs set : ℕ} {sums : List ℕ} {count : ℕ} {until held : List ℕ}
-    {placed gone free modules l : ℕ} (T left : ℕ) → SumsOf minutes set jobs sums count → 0 < count
-    → Running until held placed gone free modules l
-    → servedBy (longest sums count) until held placed l T + free * longest sums count (T - l) < left
-    → Unserved minutes until held jobs modules placed set left l T
-unfolding servedBy
-too-little {sums = sums} {count} T left s some r h = record {
-  reach = longest sums count;
-  rises = longest-rises sums count;
-  bounds = longest-bounds sums count s some;
-  short = rw (free-modules r) at h;
-}
+-- ---- the whole bound
+
+module _ {t : List ℕ} {p : Part} {gone free l : ℕ} (fit : Fit t) (r : Running t p gone free l) where
+  -- a job that runs holds no more than all modules
+  pub running-narrow : Narrow p gone
+  unfolding heldFrom
+  running-narrow = record {
+    few = r .profile .few;
+    inside = r .profile .inside;
+    narrow = λ k m n.
+        let one : getD (p .held) k 0 ≤ heldFrom (p .held) (p .placed) gone =
+        rw (le-leb gone k m) at (le-sum (p .placed) (λ i. only (leb gone i) (getD (p .held) i 0)) k n) in
+        omega (arith, r .profile .balance, fit .most);
+  }
+
+  -- the modules that no job holds are free
+  free-modules : free ≡ modulesOf t - heldOf p l
+  free-modules =
+      let most = held-at-le (p .until) (p .held) (p .placed) gone l (r .profile .ended) in
+      omega (arith, r .profile .balance, held-from-le (p .until) (p .held) (p .placed) gone l (r .live))
+
+  -- those that run are those behind the first `gone`
+  running-served : (reach : ℕ → ℕ) (T : ℕ)
+      → servedFrom reach p gone T ≡ sum (p .placed) (λ k. only (ltb l (getD (p .until) k 0)) (servedAt reach p T k))
+  unfolding servedFrom
+  running-served reach T = sum-same (p .placed) _ _ (λ k m. one k m (less-or-not k gone))
+    where
+      one : (k : ℕ) → k < p .placed → (k < gone) ⊎ (gone ≤ k)
+          → only (leb gone k) (servedAt reach p T k) ≡ only (ltb l (getD (p .until) k 0)) (servedAt reach p T k)
+      one k m (inl n) = rw (lt-leb gone k n, le-ltb l (getD (p .until) k 0) (r .profile .ended k n))
+      one k m (inr n) = rw (le-leb gone k n, lt-ltb l (getD (p .until) k 0) (r .live k n m))
+
+  -- the sums show that some module-minutes stay unserved
+  pub too-little : {sums : List ℕ} {count : ℕ} (T : ℕ) → SumsOf t (p .unplaced) (countOf t) sums count → 0 < count
+      → servedFrom (longest sums count) p gone T + free * longest sums count (T - l) < p .left → Unserved t p l T
+  too-little {sums} {count} T s some h = record {
+    reach = longest sums count;
+    rises = longest-rises sums count;
+    bounds = longest-bounds sums count s some;
+    short = rw (free-modules, running-served (longest sums count) T) at h;
+  }

@@ -1,2 +1,3 @@
--- What the sums of the minutes of some of the jobs are.
+-- What the sums of the minutes of some of the jobs are, and what modules serve with them.
 pub mod Sums
+pub mod Serving

@@ -3,9 +3,17 @@ ghost use mathlib.Core.Path.{_≡_};
 ghost use mathlib.Core.Bool.{true};
 ghost use Prim.Native.Nat.{_+_, _-_, _*_, _<_, _≤_};
 ghost use lib.Dec.{leb};
-ghost use lib.ListN.{length, getD};
+ghost use lib.ListN.{length};
 ghost use Rattle.counting.specs.Counting.{only};
-ghost use Rattle.sums.specs.Sums.{ShortJobs, SumsOf, Room, Doubled, longest, longestPair, Rounded, Running, servedBy, Unserved};
+ghost use Rattle.figures.specs.Figures.{mostJobs, mostMinutes};
+ghost use Rattle.tables.specs.Tables.{minutesAt, countOf, Fit};
+ghost use Rattle.tables.specs.Part.{partIn};
+ghost use Rattle.sums.specs.Sums.{SumsOf, Room, Doubled, longest, longestPair, Rounded};
+ghost use Rattle.sums.specs.Serving.{Running, Narrow, servedFrom, mostServed, Unserved};
+use tables::Jobs;
+use tables::Part;
+
+// ---- the sums of all choices from a set
 
 // The sums with those of one job more, which lasts so many minutes, behind them.
 fn add_job(at: &mut [u16], count: usize, minutes: u16)
@@ -20,9 +28,9 @@ fn add_job(at: &mut [u16], count: usize, minutes: u16)
 }
 
 // The same where job j is in the set; the number of sums after it, 0 where there is no room for them.
-fn with_job(at: &mut [u16], count: usize, minutes: &[u16; 20], set: u32, j: usize) -> usize
-    requires { ⌜ (SumsOf (now minutes) set j (now at) count) × ((j < 20) × (getD (now minutes) j 0 ≤ 1440)) ⌝ }
-    ensures { λ r. ⌜ SumsOf (now (minutes .entry)) set (j + 1) (now (at .exit)) r ⌝ }
+fn with_job(at: &mut [u16], count: usize, jobs: &Jobs, set: u32, j: usize) -> usize
+    requires { ⌜ (SumsOf (now jobs) set j (now at) count) × ((j < mostJobs) × (minutesAt (now jobs) j ≤ mostMinutes)) ⌝ }
+    ensures { λ r. ⌜ SumsOf (now (jobs .entry)) set (j + 1) (now (at .exit)) r ⌝ }
 {
     if !bits::test32(set, j) {
         return count;
@@ -30,25 +38,27 @@ fn with_job(at: &mut [u16], count: usize, minutes: &[u16; 20], set: u32, j: usiz
     if 2 * count > at.len() {
         return 0;
     }
-    add_job(at, count, minutes[j]);
+    add_job(at, count, tables::minutes(jobs, j));
     2 * count
 }
 
 // The sums of the set's jobs and their number, or 0 where they have no room.
-pub fn subset_sums(at: &mut [u16], minutes: &[u16; 20], set: u32, jobs: usize) -> usize
-    requires { ⌜ (0 < length (now at)) × (ShortJobs (now minutes) jobs) ⌝ }
-    ensures { λ r. ⌜ SumsOf (now (minutes .entry)) set jobs (now (at .exit)) r ⌝ }
+pub fn subset_sums(at: &mut [u16], jobs: &Jobs, set: u32) -> usize
+    requires { ⌜ (0 < length (now at)) × (Fit (now jobs)) ⌝ }
+    ensures { λ r. ⌜ SumsOf (now (jobs .entry)) set (countOf (now (jobs .entry))) (now (at .exit)) r ⌝ }
 {
     at[0] = 0;
     let mut count: usize = 1;
-    let mut rest = bits::below32(set, jobs);
-    while rest != 0 {
-        let j = bits::lowest32(rest);
-        count = with_job(at, count, minutes, set, j);
-        rest = bits::without_lowest32(rest);
+    let mut todo = bits::below32(set, tables::count(jobs));
+    while todo != 0 {
+        let j = bits::lowest32(todo);
+        count = with_job(at, count, jobs, set, j);
+        todo = bits::without_lowest32(todo);
     }
     count
 }
+
+// ---- the largest sum that fits
 
 // A sum that is not above x, or 0.
 fn fitting(s: u16, x: u16) -> u16
@@ -65,7 +75,7 @@ fn longest_fit(at: &[u16], count: usize, x: u16) -> u16
     let mut r: u16 = 0;
     let mut i: usize = 0;
     while i < count {
-        r = placement::later(r, fitting(at[i], x));
+        r = counting::larger(r, fitting(at[i], x));
         i += 1;
     }
     r
@@ -90,21 +100,29 @@ fn longest_pair(low: &[u16], lows: usize, high: &[u16], highs: usize, x: u16) ->
     let mut r: u16 = 0;
     let mut i: usize = 0;
     while i < lows {
-        r = placement::later(r, paired(high, highs, low[i], x));
+        r = counting::larger(r, paired(high, highs, low[i], x));
         i += 1;
     }
     r
 }
 
+// Two halves of the jobs: jobs 0 to 9, and jobs 10 to 19.
+const LOW_JOBS: u32 = 1023;
+
+const HIGH_JOBS: u32 = 1047552;
+
+// The sums of all choices from ten jobs.
+const HALF_SUMS: usize = 1024;
+
 // The largest sum of minutes of all jobs that is not above the target, or the target where the sums have no room.
-pub fn rounded(minutes: &[u16; 20], jobs: usize, target: u16) -> u16
-    requires { ⌜ ShortJobs (now minutes) jobs ⌝ }
-    ensures { λ r. ⌜ Rounded (now (minutes .entry)) jobs target r ⌝ }
+pub fn rounded(jobs: &Jobs, target: u16) -> u16
+    requires { ⌜ Fit (now jobs) ⌝ }
+    ensures { λ r. ⌜ Rounded (now (jobs .entry)) target r ⌝ }
 {
-    let mut low = [0u16; 1024];
-    let lows = subset_sums(&mut low, minutes, 1023, jobs);
-    let mut high = [0u16; 1024];
-    let highs = subset_sums(&mut high, minutes, 1047552, jobs);
+    let mut low = [0u16; HALF_SUMS];
+    let lows = subset_sums(&mut low, jobs, LOW_JOBS);
+    let mut high = [0u16; HALF_SUMS];
+    let highs = subset_sums(&mut high, jobs, HIGH_JOBS);
     if lows == 0 {
         return target;
     }
@@ -113,6 +131,13 @@ pub fn rounded(minutes: &[u16; 20], jobs: usize, target: u16) -> u16
     }
     longest_pair(&low, lows, &high, highs, target)
 }
+
+// ---- the bound by modules
+
+// The jobs of a set whose sums are made for this bound, at most, and the sums of all choices from so many.
+const SERVED_JOBS: u32 = 8;
+
+const SERVED_SUMS: usize = 256;
 
 // The largest of the sums that fits between minute t and the target.
 fn reach_from(at: &[u16], count: usize, t: u16, target: u16) -> u16
@@ -125,79 +150,38 @@ fn reach_from(at: &[u16], count: usize, t: u16, target: u16) -> u16
     longest_fit(at, count, target - t)
 }
 
-// The module-minutes of so many modules in so many minutes.
-fn module_minutes(modules: u16, minutes: u16) -> u32
-    ensures { λ r. ⌜ r ≡ modules * minutes ⌝ }
+// What the modules of the placed jobs but the first `gone`, sorted by their ends, serve from those ends up to the target.
+fn served_behind(at: &[u16], count: usize, part: &Part, gone: usize, target: u16) -> u32
+    requires { ⌜ (Narrow (partIn (now part)) gone) × (count ≤ length (now at)) ⌝ }
+    ensures { λ r. ⌜ (r ≡ servedFrom (longest (now (at .entry)) count) (partIn (now (part .entry))) gone target) × (r ≤ mostServed) ⌝ }
 {
-    (modules as u32) * (minutes as u32)
-}
-
-// What the modules of the placed jobs that run at minute l serve from their ends up to the target.
-fn served_behind<'a>(
-    at: &[u16],
-    count: usize,
-    until: &'a [u16; 20],
-    held: &'a [u16; 20],
-    placed: usize,
-    gone: usize,
-    free: u16,
-    modules: u16,
-    l: u16,
-    target: u16,
-) -> u32
-    requires { ⌜ (Running (now until) (now held) placed gone free modules l) × (count ≤ length (now at)) ⌝ }
-    ensures { λ r. ⌜ (r ≡ servedBy (longest (now (at .entry)) count) (now (until .entry)) (now (held .entry)) placed l target)
-        × (r ≤ 83884800) ⌝ }
-{
+    let placed = tables::placed(part);
     let mut total: u32 = 0;
     let mut i = gone;
     while i < placed {
-        total += module_minutes(held[i], reach_from(at, count, until[i], target));
+        let reach = reach_from(at, count, tables::until(part, i), target);
+        total += counting::times(tables::held(part, i), reach);
         i += 1;
     }
     total
 }
 
-// Whether some of the module-minutes that are left cannot be served by the target. `gone` of the placed jobs have ended by minute
-// `least`, and `free` modules are free then. A set of more than 8 jobs is not looked at.
-pub fn unserved<'a>(
-    minutes: &[u16; 20],
-    until: &'a [u16; 20],
-    held: &'a [u16; 20],
-    placed: usize,
-    gone: usize,
-    free: u16,
-    modules: u16,
-    set: u32,
-    left: u32,
-    jobs: usize,
-    least: u16,
-    target: u16,
-) -> bool
-    requires { ⌜ (ShortJobs (now minutes) jobs) × (Running (now until) (now held) placed gone free modules least) ⌝ }
-    ensures { λ r. ⌜ (r ≡ true
-        → Unserved (now (minutes .entry)) (now (until .entry)) (now (held .entry)) jobs modules placed set left least target) ⌝ }
+// Whether some of the module-minutes of the unplaced jobs cannot be served by the target. `gone` of the placed jobs have ended by minute
+// `least`, and `free` modules are free then. More than SERVED_JOBS unplaced jobs are not looked at.
+pub fn unserved(jobs: &Jobs, part: &Part, gone: usize, free: u16, least: u16, target: u16) -> bool
+    requires { ⌜ (Fit (now jobs)) × (Running (now jobs) (partIn (now part)) gone free least) ⌝ }
+    ensures { λ r. ⌜ (r ≡ true → Unserved (now (jobs .entry)) (partIn (now (part .entry))) least target) ⌝ }
 {
-    if bits::ones32(set) > 8 {
+    let set = tables::unplaced(part);
+    if bits::ones32(set) > SERVED_JOBS {
         return false;
     }
-    let mut at = [0u16; 256];
-    let count = subset_sums(&mut at, minutes, set, jobs);
+    let mut at = [0u16; SERVED_SUMS];
+    let count = subset_sums(&mut at, jobs, set);
     if count == 0 {
         return false;
     }
-    let served = served_behind(
-        &at,
-        count,
-        until,
-        held,
-        placed,
-        gone,
-        free,
-        modules,
-        least,
-        target,
-    );
-    let rest = module_minutes(free, reach_from(&at, count, least, target));
-    served + rest < left
+    let behind = served_behind(&at, count, part, gone, target);
+    let at_once = counting::times(free, reach_from(&at, count, least, target));
+    behind + at_once < tables::left(part)
 }

@@ -1,2 +1,4 @@
--- A job sheet as tables of numbers.
+-- The tables that the search is lent.
 pub mod Tables
+pub mod Part
+pub mod Prepared

@@ -1,26 +1,53 @@
--- A job sheet as tables: job j's figures stand at place j. Earlier jobs are a set, one bit to a job.
-use Prim.Native.Nat.{ℕ, _≤_, _<_}
+-- The job table: what a sheet says of its jobs, in one list of numbers. A set has one bit to a job, and takes two places, its lower half first.
+use Prim.Native.Nat.{ℕ, _+_, _*_, _≤_, _<_}
 use mathlib.Core.List.{List}
-use lib.ListN.{getD}
+use lib.ListN.{getD, drop}
+use Rattle.figures.specs.Figures.{mostJobs, mostModules, mostMinutes}
 use Rattle.bits.specs.Bits.{bit}
 use Rattle.schedule.specs.Plan.{Sheet}
 
-abbrev pub sheetOf : List ℕ → List ℕ → List ℕ → ℕ → ℕ → Sheet
-sheetOf need minutes earlier jobs modules = record {
-  jobs = jobs;
-  modules = modules;
-  need = λ j. getD need j 0;
-  minutes = λ j. getD minutes j 0;
-  before = λ i j. bit (getD earlier j 0) i;
+-- what stands in a table from place k on
+unfoldable pub listFrom : ℕ → List ℕ → List ℕ
+listFrom k t = drop k t
+
+-- the number whose halves stand at places k and k + 1
+abbrev pub wholeAt : List ℕ → ℕ → ℕ
+wholeAt t k = getD t k 0 + getD t (k + 1) 0 * 65536
+
+-- the modules that job j needs, its minutes, and its earlier jobs
+abbrev pub needAt : List ℕ → ℕ → ℕ
+needAt t j = getD t j 0
+
+abbrev pub minutesAt : List ℕ → ℕ → ℕ
+minutesAt t j = getD t (20 + j) 0
+
+unfoldable pub earlierAt : List ℕ → ℕ → ℕ
+earlierAt t j = wholeAt t (60 + 2 * j)
+
+-- how many jobs there are, and how many modules
+abbrev pub countOf : List ℕ → ℕ
+countOf t = getD t 100 0
+
+abbrev pub modulesOf : List ℕ → ℕ
+modulesOf t = getD t 101 0
+
+-- the sheet of the table; places 40 to 59 are kept for arrivals, and place 102 for the changeover
+abbrev pub sheetOf : List ℕ → Sheet
+sheetOf t = record {
+  jobs = countOf t;
+  modules = modulesOf t;
+  need = needAt t;
+  minutes = minutesAt t;
+  before = λ i j. bit (earlierAt t j) i;
   arrival = λ j. 0;
   rest = 0;
 }
 
--- What the checks of reading and planning (2, 3, 5 and 8) say of the tables.
-pub record Fit (need minutes : List ℕ) (jobs modules : ℕ) : Type 0 where
-  pub few : jobs ≤ 20
-  pub some : 0 < modules
-  pub most : modules ≤ 64
-  pub narrow : (j : ℕ) → j < jobs → getD need j 0 ≤ modules
-  pub lasting : (j : ℕ) → j < jobs → 0 < getD minutes j 0
-  pub short : (j : ℕ) → j < jobs → getD minutes j 0 ≤ 1440
+-- What the checks of reading and planning (2, 3, 5 and 8) say of the table.
+pub record Fit (t : List ℕ) : Type 0 where
+  pub few : countOf t ≤ mostJobs
+  pub some : 0 < modulesOf t
+  pub most : modulesOf t ≤ mostModules
+  pub narrow : (j : ℕ) → j < countOf t → needAt t j ≤ modulesOf t
+  pub lasting : (j : ℕ) → j < countOf t → 0 < minutesAt t j
+  pub short : (j : ℕ) → j < countOf t → minutesAt t j ≤ mostMinutes

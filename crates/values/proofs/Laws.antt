@@ -5,91 +5,90 @@ use mathlib.Core.List.{List}
 use Prim.Native.Nat.{ℕ, _+_, _-_, _*_, _/_, _≤_, _<_}
 use native.Mathlib.Omega.{arith}
 use native.Mathlib.Nat.{mul-le-mul, mul-le-mul-right, lt-div-mul-add}
-use lib.ListN.{length, getD, set, replicate, length-set, length-replicate}
+use lib.ListN.{length, getD, set, replicate, length-replicate}
 use lib.Seq.{getD-set-same, getD-set-other}
 use Rattle.counting.specs.Counting.{only, sum}
 use Rattle.counting.proofs.Tests.{same-or-not, less-or-not}
 use Rattle.counting.proofs.Sums.{sum-same}
-use Rattle.tables.specs.Tables.{Fit}
+use Rattle.figures.specs.Figures.{mostJobs, mostModules}
+use Rattle.tables.specs.Tables.{needAt, minutesAt, countOf, modulesOf, Fit}
 use Rattle.tables.proofs.Laws.{zeros}
-use Rattle.weights.specs.Weights.{weightIn, mostWith, Put, Weighs, MostOf}
-use Rattle.weights.proofs.Knapsack.{weight-light, most-with-narrow, most-with-wide, knapsack-none, knapsack-more}
-use Rattle.values.specs.Values.{Narrow, Chosen, Valued, Reached, Joined, Laned}
+use Rattle.weights.specs.Weights.{weightings, widths, allWeight, weightIn, mostWith, Put, Weighs, MostOf}
+use Rattle.weights.proofs.Knapsack.{job-light, most-with-narrow, most-with-wide, knapsack-none, knapsack-more}
+use Rattle.values.specs.Values.{steps, mostPlace, worthPlace, stepPlace, lanesSize, mostValue, Chosen, Valued, Reached, Joined, Laned}
 
 -- ---- weights
 
 -- a weight for each job, put in, and the most that can stand
-chosen-by : {need weight most : List ℕ} {jobs modules : ℕ} (y : ℕ → ℕ) → Put (λ k. k) (replicate 20 0) weight jobs y
-    → ((k : ℕ) → k < jobs → y k ≤ 64) → Weighs need jobs modules y (λ x. getD most x 0)
-    → ((a b : ℕ) → a ≤ b → b ≤ modules → getD most a 0 ≤ getD most b 0) → ((x : ℕ) → getD most x 0 ≤ 720)
-    → Chosen need jobs modules weight most
-chosen-by {need} {weight} {most} {jobs} {modules} y put light weighs rises small = record {
+chosen-by : {t weight most : List ℕ} (y : ℕ → ℕ) → Put (λ k. k) (replicate mostJobs 0) weight (countOf t) y
+    → ((k : ℕ) → k < countOf t → y k ≤ mostModules) → Weighs t y (λ x. getD most x 0)
+    → ((a b : ℕ) → a ≤ b → b ≤ modulesOf t → getD most a 0 ≤ getD most b 0) → ((x : ℕ) → getD most x 0 ≤ allWeight)
+    → Chosen t weight most
+chosen-by {t} {weight} {most} y put light weighs rises small = record {
   weighs = λ X x l fits. omega (
     arith,
     weighs X x l fits,
-    sum-same jobs (λ k. only (X k) (getD weight k 0)) (λ k. only (X k) (y k))
+    sum-same (countOf t) (λ k. only (X k) (getD weight k 0)) (λ k. only (X k) (y k))
         (λ k m. ap (λ (v : ℕ). only (X k) v) (put .each k m)),
   );
   rises = rises;
-  light = put .small 64 (λ p. omega (arith, zeros 20 p)) light;
+  light = put .small mostModules (λ p. omega (arith, zeros mostJobs p)) light;
   small = small;
 }
 
 -- each job weighs as much as it needs
-pub chosen-own : {need weight most : List ℕ} {jobs modules : ℕ} → Narrow need jobs modules
-    → Put (λ k. k) (replicate 20 0) weight jobs (λ k. getD need k 0) → Put (λ x. x) (replicate 65 0) most (modules + 1) (λ x. x)
-    → Chosen need jobs modules weight most
-chosen-own {need} {weight} {most} {jobs} {modules} narrow put put′ =
-    chosen-by (λ k. getD need k 0) put (λ k l. omega (arith, narrow .0 .1, narrow .1 .0 k l))
+pub chosen-own : {t weight most : List ℕ} → Fit t → Put (λ k. k) (replicate mostJobs 0) weight (countOf t) (needAt t)
+    → Put (λ x. x) (replicate widths 0) most (modulesOf t + 1) (λ x. x) → Chosen t weight most
+chosen-own {t} {weight} {most} fit put put′ =
+    chosen-by (needAt t) put (λ k l. omega (arith, fit .most, fit .narrow k l))
     (λ X x l fits. omega (arith, at x l)) (λ a b l m. omega (arith, at a (omega arith), at b m))
-    (put′ .small 720 (λ p. omega (arith, zeros 65 p)) (λ x l. omega (arith, narrow .0 .1)))
+    (put′ .small allWeight (λ p. omega (arith, zeros widths p)) (λ x l. omega (arith, fit .most)))
   where
-    at : (x : ℕ) → x ≤ modules → getD most x 0 ≡ x
+    at : (x : ℕ) → x ≤ modulesOf t → getD most x 0 ≡ x
     at x l = put′ .each x (omega arith)
 
 -- each job weighs what it weighs in weighting q
-pub chosen-in : {need weight most : List ℕ} {jobs modules q : ℕ} → Narrow need jobs modules → q < 5
-    → Put (λ k. k) (replicate 20 0) weight jobs (λ k. weightIn modules q (getD need k 0)) → MostOf need jobs modules q most
-    → Chosen need jobs modules weight most
-chosen-in {need} {weight} {most} {jobs} {modules} {q} narrow low put table =
-    chosen-by (λ k. weightIn modules q (getD need k 0)) put
-    (λ k l. omega (arith, weight-light modules q (getD need k 0) (narrow .0 .1) (narrow .1 .0 k l) low)) (table .holds) (table .rises)
-    (λ x. omega (arith, table .small x, narrow .1 .1))
+pub chosen-in : {t weight most : List ℕ} {q : ℕ} → Fit t → q < weightings
+    → Put (λ k. k) (replicate mostJobs 0) weight (countOf t) (λ k. weightIn (modulesOf t) q (needAt t k)) → MostOf t (countOf t) q most
+    → Chosen t weight most
+chosen-in {t} {q = q} fit low put table =
+    chosen-by (λ k. weightIn (modulesOf t) q (needAt t k)) put (λ k l. omega (arith, job-light fit q low k l))
+    (table .holds) (table .rises) (λ x. omega (arith, table .small x, fit .few))
 
 -- one of two choices
-pub chosen-of : {need weight most weight₁ most₁ weight₂ most₂ : List ℕ} {jobs modules : ℕ}
-    → ((weight ≡ weight₁) × (most ≡ most₁)) ⊎ ((weight ≡ weight₂) × (most ≡ most₂)) → Chosen need jobs modules weight₁ most₁
-    → Chosen need jobs modules weight₂ most₂ → Chosen need jobs modules weight most
+pub chosen-of : {t weight most weight₁ most₁ weight₂ most₂ : List ℕ}
+    → ((weight ≡ weight₁) × (most ≡ most₁)) ⊎ ((weight ≡ weight₂) × (most ≡ most₂)) → Chosen t weight₁ most₁
+    → Chosen t weight₂ most₂ → Chosen t weight most
 chosen-of (inl e) h h′ = rw (e .0, e .1) h
 chosen-of (inr e) h h′ = rw (e .0, e .1) h′
 
 -- ---- values
 
-pub valued-none : (minutes : List ℕ) (step : ℕ) → Valued minutes step (replicate 20 0)
-valued-none minutes step = record {
-  small = λ k. omega (arith, zeros 20 k);
-  short = λ k l. omega (arith, zeros 20 k);
+pub valued-none : (t : List ℕ) (step : ℕ) → Valued t step (replicate mostJobs 0)
+valued-none t step = record {
+  small = λ k. omega (arith, zeros mostJobs k);
+  short = λ k l. omega (arith, zeros mostJobs k);
 }
 
 -- one job's value set
-pub valued-more : {minutes : List ℕ} {step : ℕ} {value : List ℕ} → Valued minutes step value → (k v : ℕ) → k < length value → v ≤ 255
-    → (getD minutes k 0 < step → v ≡ 0) → Valued minutes step (set value k v)
-valued-more {minutes} {step} {value} h k v l low none = record {
+pub valued-more : {t : List ℕ} {step : ℕ} {value : List ℕ} → Valued t step value → (k v : ℕ) → k < length value → v ≤ mostValue
+    → (minutesAt t k < step → v ≡ 0) → Valued t step (set value k v)
+valued-more {t} {step} {value} h k v l low none = record {
   small = λ p. small p (same-or-not p k);
   short = λ p m. short p m (same-or-not p k);
 }
   where
-    small : (p : ℕ) → (p ≡ k) ⊎ (p ≢ k) → getD (set value k v) p 0 ≤ 255
+    small : (p : ℕ) → (p ≡ k) ⊎ (p ≢ k) → getD (set value k v) p 0 ≤ mostValue
     small p (inl e) = rw e (omega (arith, getD-set-same value k v 0 l))
     small p (inr d) = omega (arith, getD-set-other value k p v 0 d, h .small p)
 
-    short : (p : ℕ) → getD minutes p 0 < step → (p ≡ k) ⊎ (p ≢ k) → getD (set value k v) p 0 ≡ 0
+    short : (p : ℕ) → minutesAt t p < step → (p ≡ k) ⊎ (p ≢ k) → getD (set value k v) p 0 ≡ 0
     short p m (inl e) = rw e (getD-set-same value k v 0 l ∙ none (rw e at m))
     short p m (inr d) = getD-set-other value k p v 0 d ∙ h .short p m
 
 -- one of two lists of values
-pub valued-of : {minutes value value₁ value₂ : List ℕ} {step : ℕ} → (value ≡ value₁) ⊎ (value ≡ value₂) → Valued minutes step value₁
-    → Valued minutes step value₂ → Valued minutes step value
+pub valued-of : {t value value₁ value₂ : List ℕ} {step : ℕ} → (value ≡ value₁) ⊎ (value ≡ value₂) → Valued t step value₁
+    → Valued t step value₂ → Valued t step value
 valued-of (inl e) h h′ = rw e h
 valued-of (inr e) h h′ = rw e h′
 
@@ -104,30 +103,29 @@ put-narrow old width value = record {
   small = λ b before after p. before p;
 }
 
-pub reached-none : (minutes value : List ℕ) (step : ℕ) → Reached minutes value 0 step (replicate 1024 0)
-reached-none minutes value step = record {
-  size = length-replicate {A = ℕ} 1024 0;
-  table = knapsack-none (λ k. getD minutes k 0 / step) (λ k. getD value k 0) 1023 255 1024;
-  none = omega (arith, zeros 1024 0);
+pub reached-none : (t value : List ℕ) (step : ℕ) → Reached t value 0 step (replicate steps 0)
+reached-none t value step = record {
+  size = length-replicate {A = ℕ} steps 0;
+  table = knapsack-none (λ k. minutesAt t k / step) (λ k. getD value k 0) (steps - 1) mostValue steps;
+  none = omega (arith, zeros steps 0);
 }
 
-pub reached-more : {minutes value old new : List ℕ} {n step : ℕ} → 0 < step → Valued minutes step value
-    → Reached minutes value n step old → Put (λ x. x) old new 1024 (mostWith old (getD minutes n 0 / step) (getD value n 0))
-    → Reached minutes value (n + 1) step new
-reached-more {minutes} {value} {old} {new} {n} {step} some valued h put = record {
+pub reached-more : {t value old new : List ℕ} {n step : ℕ} → 0 < step → Valued t step value → Reached t value n step old
+    → Put (λ x. x) old new steps (mostWith old (minutesAt t n / step) (getD value n 0)) → Reached t value (n + 1) step new
+reached-more {t} {value} {old} {new} {n} {step} some valued h put = record {
   size = put .size ∙ h .size;
   table = knapsack-more (h .table) (h .table .small) put (valued .small n);
-  none = put .each 0 (omega arith) ∙ none (less-or-not 0 (getD minutes n 0 / step));
+  none = put .each 0 (omega arith) ∙ none (less-or-not 0 (minutesAt t n / step));
 }
   where
     width : ℕ
-    width = getD minutes n 0 / step
+    width = minutesAt t n / step
 
     none : (0 < width) ⊎ (width ≤ 0) → mostWith old width (getD value n 0) 0 ≡ 0
     none (inl l) = most-with-narrow old width (getD value n 0) 0 l ∙ h .none
     none (inr l) =
         let most = mul-le-mul-right step l in
-        let short : getD minutes n 0 < step = omega (arith, lt-div-mul-add {a = getD minutes n 0} some) in
+        let short : minutesAt t n < step = omega (arith, lt-div-mul-add {a = minutesAt t n} some) in
         let here : 0 - width ≡ 0 = omega arith in
         omega (
           arith,
@@ -139,28 +137,25 @@ reached-more {minutes} {value} {old} {new} {n} {step} some valued h put = record
 
 -- ---- the tables side by side
 
-pub joined-of : {reach most weight value first second third : List ℕ} (step : ℕ)
-    → Put (λ x. x) (replicate 1110 0) first 1024 (λ x. getD reach x 0) → Put (λ x. 1024 + x) first second 65 (λ x. getD most x 0)
-    → Put (λ k. 1089 + k) second third 20 (λ k. getD weight k 0 * getD value k 0)
-    → Joined reach most weight value step (set third 1109 step)
-joined-of {third = third} step put put′ put″ = record {
-  size = length-set third 1109 step ∙ size;
-  reach-is = λ x l. getD-set-other third 1109 x step 0 (λ e. omega arith) ∙ put″ .kept x (λ k m e. omega arith)
-      ∙ put′ .kept x (λ k m e. omega arith) ∙ put .each x l;
-  most-is = λ x l. getD-set-other third 1109 (1024 + x) step 0 (λ e. omega arith) ∙ put″ .kept (1024 + x) (λ k m e. omega arith)
-      ∙ put′ .each x l;
-  worth-is = λ k l. getD-set-other third 1109 (1089 + k) step 0 (λ e. omega arith) ∙ put″ .each k l;
-  step-is = getD-set-same third 1109 step 0 (omega (arith, size));
+pub joined-of : {reach most weight value zero first second third : List ℕ} (step : ℕ) → length third ≡ lanesSize
+    → Put (λ x. 0 + x) zero first steps (λ x. getD reach x 0) → Put (λ x. mostPlace + x) first second widths (λ x. getD most x 0)
+    → Put (λ k. worthPlace + k) second third mostJobs (λ k. getD weight k 0 * getD value k 0)
+    → Joined reach most weight value step (set third stepPlace step)
+joined-of {first = first} {third = third} step size put put′ put″ = record {
+  reach-is = λ x l. getD-set-other third stepPlace x step 0 (λ e. omega arith) ∙ put″ .kept x (λ k m e. omega arith)
+      ∙ put′ .kept x (λ k m e. omega arith) ∙ at x ∙ put .each x l;
+  most-is = λ x l. getD-set-other third stepPlace (mostPlace + x) step 0 (λ e. omega arith)
+      ∙ put″ .kept (mostPlace + x) (λ k m e. omega arith) ∙ put′ .each x l;
+  worth-is = λ k l. getD-set-other third stepPlace (worthPlace + k) step 0 (λ e. omega arith) ∙ put″ .each k l;
+  step-is = getD-set-same third stepPlace step 0 (omega (arith, size));
 }
   where
-    size : length third ≡ 1110
-    size = put″ .size ∙ put′ .size ∙ put .size ∙ length-replicate {A = ℕ} 1110 0
+    at : (x : ℕ) → getD first x 0 ≡ getD first (0 + x) 0
+    at x = ap (λ (i : ℕ). getD first i 0) (omega arith)
 
-pub laned : {need minutes reach most weight value lanes : List ℕ} {jobs modules step : ℕ} → Fit need minutes jobs modules → 0 < step
-    → Chosen need jobs modules weight most → Valued minutes step value → Reached minutes value jobs step reach
-    → Joined reach most weight value step lanes → Laned need minutes jobs modules lanes
-laned {minutes = minutes} {weight = weight} {value = value} {jobs = jobs} fit some choice valued reached joined = record {
-  size = joined .size;
+pub laned : {t reach most weight value lanes : List ℕ} {step : ℕ} → Fit t → 0 < step → Chosen t weight most → Valued t step value
+    → Reached t value (countOf t) step reach → Joined reach most weight value step lanes → Laned t lanes
+laned {t} {weight = weight} {value = value} fit some choice valued reached joined = record {
   weight = λ k. getD weight k 0;
   value = λ k. getD value k 0;
   worth-is = λ k l. joined .worth-is k (omega (arith, fit .few));
@@ -176,7 +171,7 @@ laned {minutes = minutes} {weight = weight} {value = value} {jobs = jobs} fit so
     arith,
     joined .reach-is x l,
     reached .table .holds X x (omega arith)
-        (subst (λ (s : ℕ). sum jobs (λ k. only (X k) (getD minutes k 0 / s)) ≤ x) (joined .step-is) fits),
+        (subst (λ (s : ℕ). sum (countOf t) (λ k. only (X k) (minutesAt t k / s)) ≤ x) (joined .step-is) fits),
   );
   reach-rises = λ a b l m. omega (
     arith,
@@ -185,7 +180,47 @@ laned {minutes = minutes} {weight = weight} {value = value} {jobs = jobs} fit so
     joined .reach-is b m,
   );
   reach-none = joined .reach-is 0 (omega arith) ∙ reached .none;
-  worth-small = λ k l. omega (arith, joined .worth-is k l, mul-le-mul {n₂ = 64} {m₂ = 255} (choice .light k) (valued .small k));
+  worth-small = λ k l. omega (
+    arith,
+    joined .worth-is k l,
+    mul-le-mul {n₂ = mostModules} {m₂ = mostValue} (choice .light k) (valued .small k),
+  );
   most-small = λ x l. omega (arith, joined .most-is x l, choice .small x);
   reach-small = λ x l. omega (arith, joined .reach-is x l, reached .table .small x, fit .few);
 }
+
+-- a list that agrees at the places of the table is such a table too
+pub laned-alike : {t lanes lanes′ : List ℕ} → Fit t → ((p : ℕ) → p < lanesSize → getD lanes′ p 0 ≡ getD lanes p 0) → Laned t lanes
+    → Laned t lanes′
+laned-alike {t} {lanes} {lanes′} fit same h = record {
+  weight = h .weight;
+  value = h .value;
+  worth-is = λ k l. same (worthPlace + k) (omega (arith, fit .few)) ∙ h .worth-is k l;
+  weighs = λ X x l fits. omega (arith, most x (omega (arith, fit .most)), h .weighs X x l fits);
+  most-rises = λ a b l m. omega (
+    arith,
+    most a (omega (arith, fit .most)),
+    most b (omega (arith, fit .most)),
+    h .most-rises a b l m,
+  );
+  step-some = omega (arith, step, h .step-some);
+  serves = λ X x l fits. omega (
+    arith,
+    reach x l,
+    h .serves X x l (subst (λ (s : ℕ). sum (countOf t) (λ k. only (X k) (minutesAt t k / s)) ≤ x) step fits),
+  );
+  reach-rises = λ a b l m. omega (arith, reach a (omega arith), reach b m, h .reach-rises a b l m);
+  reach-none = reach 0 (omega arith) ∙ h .reach-none;
+  worth-small = λ k l. omega (arith, same (worthPlace + k) (omega arith), h .worth-small k l);
+  most-small = λ x l. omega (arith, most x l, h .most-small x l);
+  reach-small = λ x l. omega (arith, reach x l, h .reach-small x l);
+}
+  where
+    reach : (x : ℕ) → x < steps → getD lanes′ x 0 ≡ getD lanes x 0
+    reach x l = same x (omega arith)
+
+    most : (x : ℕ) → x < widths → getD lanes′ (mostPlace + x) 0 ≡ getD lanes (mostPlace + x) 0
+    most x l = same (mostPlace + x) (omega arith)
+
+    step : getD lanes′ stepPlace 0 ≡ getD lanes stepPlace 0
+    step = same stepPlace (omega arith)

@@ -3,10 +3,53 @@
 use mathlib.Core.Path.{_≡_}
 use mathlib.Core.Bool.{Bool}
 use mathlib.Core.List.{List}
-use Prim.Native.Nat.{ℕ, _+_, _*_, _/_, _≤_, _<_}
+use Prim.Native.Nat.{ℕ, _+_, _-_, _*_, _/_, _≤_, _<_}
 use lib.ListN.{length, getD}
 use Rattle.counting.specs.Counting.{only, sum, Rises}
-use Rattle.weights.specs.Weights.{Weighs, Knapsack}
+use Rattle.figures.specs.Figures.{mostJobs, mostModules}
+use Rattle.tables.specs.Tables.{minutesAt, countOf, modulesOf}
+use Rattle.weights.specs.Weights.{widths, allWeight, Weighs, Knapsack}
+
+-- ---- figures
+
+-- for how many steps the reach of a lane is kept
+abbrev pub steps : ℕ
+steps = 1024
+
+-- the places of the tables side by side, and how many there are
+abbrev pub mostPlace : ℕ
+mostPlace = steps
+
+abbrev pub worthPlace : ℕ
+worthPlace = mostPlace + widths
+
+abbrev pub stepPlace : ℕ
+stepPlace = worthPlace + mostJobs
+
+abbrev pub lanesSize : ℕ
+lanesSize = stepPlace + 1
+
+-- what a job's value is at most, and those of all jobs, and of all but one
+abbrev pub mostValue : ℕ
+mostValue = 255
+
+abbrev pub allValue : ℕ
+allValue = mostValue * mostJobs
+
+abbrev pub fewValue : ℕ
+fewValue = mostValue * (mostJobs - 1)
+
+-- a job's weight times its value, at most
+abbrev pub mostLaneWorth : ℕ
+mostLaneWorth = mostModules * mostValue
+
+-- the products of two numbers of each job, summed up, at most
+abbrev pub mostTotal : ℕ
+mostTotal = 4294967296 * mostJobs
+
+-- rounds in which values are found, at most
+abbrev pub mostRounds : ℕ
+mostRounds = 100
 
 -- ---- the parts of the table
 
@@ -16,67 +59,61 @@ reachAt lanes x = getD lanes x 0
 
 -- how many lanes are open on x free modules: the most weight that can stand on them
 abbrev pub mostAt : List ℕ → ℕ → ℕ
-mostAt lanes x = getD lanes (1024 + x) 0
+mostAt lanes x = getD lanes (mostPlace + x) 0
 
 -- a job's weight times its value
 abbrev pub worthAt : List ℕ → ℕ → ℕ
-worthAt lanes k = getD lanes (1089 + k) 0
+worthAt lanes k = getD lanes (worthPlace + k) 0
 
 -- how many minutes a step has
 abbrev pub stepOf : List ℕ → ℕ
-stepOf lanes = getD lanes 1109 0
+stepOf lanes = getD lanes stepPlace 0
 
 -- ---- what they stand for
 
 -- no set of jobs that last fewer than `size` steps together, each counted in whole steps, has more value than Z of them
-abbrev pub Serves : List ℕ → ℕ → ℕ → ℕ → (ℕ → ℕ) → (ℕ → ℕ) → Type 0
-Serves minutes jobs step size value Z = (X : ℕ → Bool) (x : ℕ) → x < size
-    → sum jobs (λ k. only (X k) (getD minutes k 0 / step)) ≤ x → sum jobs (λ k. only (X k) (value k)) ≤ Z x
+abbrev pub Serves : List ℕ → ℕ → ℕ → (ℕ → ℕ) → (ℕ → ℕ) → Type 0
+Serves t step size value Z = (X : ℕ → Bool) (x : ℕ) → x < size
+    → sum (countOf t) (λ k. only (X k) (minutesAt t k / step)) ≤ x → sum (countOf t) (λ k. only (X k) (value k)) ≤ Z x
 
--- the table of some weights and values
-pub record Laned (need minutes : List ℕ) (jobs modules : ℕ) (lanes : List ℕ) : Type 0 where
-  pub size : length lanes ≡ 1110
+-- the table of some weights and values; what stands behind its places is not spoken of
+pub record Laned (t lanes : List ℕ) : Type 0 where
   pub weight : ℕ → ℕ
   pub value : ℕ → ℕ
-  pub worth-is : (k : ℕ) → k < jobs → worthAt lanes k ≡ weight k * value k
-  pub weighs : Weighs need jobs modules weight (mostAt lanes)
-  pub most-rises : Rises modules (mostAt lanes)
+  pub worth-is : (k : ℕ) → k < countOf t → worthAt lanes k ≡ weight k * value k
+  pub weighs : Weighs t weight (mostAt lanes)
+  pub most-rises : Rises (modulesOf t) (mostAt lanes)
   pub step-some : 0 < stepOf lanes
-  pub serves : Serves minutes jobs (stepOf lanes) 1024 value (reachAt lanes)
-  pub reach-rises : (a b : ℕ) → a ≤ b → b < 1024 → reachAt lanes a ≤ reachAt lanes b
+  pub serves : Serves t (stepOf lanes) steps value (reachAt lanes)
+  pub reach-rises : (a b : ℕ) → a ≤ b → b < steps → reachAt lanes a ≤ reachAt lanes b
   pub reach-none : reachAt lanes 0 ≡ 0
-  pub worth-small : (k : ℕ) → k < 20 → worthAt lanes k ≤ 16320
-  pub most-small : (x : ℕ) → x < 65 → mostAt lanes x ≤ 720
-  pub reach-small : (x : ℕ) → x < 1024 → reachAt lanes x ≤ 5100
+  pub worth-small : (k : ℕ) → k < mostJobs → worthAt lanes k ≤ mostLaneWorth
+  pub most-small : (x : ℕ) → x < widths → mostAt lanes x ≤ allWeight
+  pub reach-small : (x : ℕ) → x < steps → reachAt lanes x ≤ allValue
 
 -- ---- what it is made of
 
--- jobs that are no wider than the cabinet
-abbrev pub Narrow : List ℕ → ℕ → ℕ → Type 0
-Narrow need jobs modules = ((0 < modules) × (modules ≤ 64)) × (((j : ℕ) → j < jobs → getD need j 0 ≤ modules) × (jobs ≤ 20))
-
 -- a weight for each job, and the most weight that can stand on each number of modules
-pub record Chosen (need : List ℕ) (jobs modules : ℕ) (weight most : List ℕ) : Type 0 where
-  pub weighs : Weighs need jobs modules (λ k. getD weight k 0) (λ x. getD most x 0)
-  pub rises : Rises modules (λ x. getD most x 0)
-  pub light : (k : ℕ) → getD weight k 0 ≤ 64
-  pub small : (x : ℕ) → getD most x 0 ≤ 720
+pub record Chosen (t weight most : List ℕ) : Type 0 where
+  pub weighs : Weighs t (λ k. getD weight k 0) (λ x. getD most x 0)
+  pub rises : Rises (modulesOf t) (λ x. getD most x 0)
+  pub light : (k : ℕ) → getD weight k 0 ≤ mostModules
+  pub small : (x : ℕ) → getD most x 0 ≤ allWeight
 
 -- a value for each job, and none for a job that is shorter than a step
-pub record Valued (minutes : List ℕ) (step : ℕ) (value : List ℕ) : Type 0 where
-  pub small : (k : ℕ) → getD value k 0 ≤ 255
-  pub short : (k : ℕ) → getD minutes k 0 < step → getD value k 0 ≡ 0
+pub record Valued (t : List ℕ) (step : ℕ) (value : List ℕ) : Type 0 where
+  pub small : (k : ℕ) → getD value k 0 ≤ mostValue
+  pub short : (k : ℕ) → minutesAt t k < step → getD value k 0 ≡ 0
 
 -- the most value of the first n jobs that a lane can serve in each number of steps
-pub record Reached (minutes value : List ℕ) (n step : ℕ) (reach : List ℕ) : Type 0 where
-  pub size : length reach ≡ 1024
-  pub table : Knapsack (λ k. getD minutes k 0 / step) n 1023 255 (λ k. getD value k 0) reach
+pub record Reached (t value : List ℕ) (n step : ℕ) (reach : List ℕ) : Type 0 where
+  pub size : length reach ≡ steps
+  pub table : Knapsack (λ k. minutesAt t k / step) n (steps - 1) mostValue (λ k. getD value k 0) reach
   pub none : getD reach 0 0 ≡ 0
 
 -- the parts of the table side by side
 pub record Joined (reach most weight value : List ℕ) (step : ℕ) (lanes : List ℕ) : Type 0 where
-  pub size : length lanes ≡ 1110
-  pub reach-is : (x : ℕ) → x < 1024 → reachAt lanes x ≡ getD reach x 0
-  pub most-is : (x : ℕ) → x < 65 → mostAt lanes x ≡ getD most x 0
-  pub worth-is : (k : ℕ) → k < 20 → worthAt lanes k ≡ getD weight k 0 * getD value k 0
+  pub reach-is : (x : ℕ) → x < steps → reachAt lanes x ≡ getD reach x 0
+  pub most-is : (x : ℕ) → x < widths → mostAt lanes x ≡ getD most x 0
+  pub worth-is : (k : ℕ) → k < mostJobs → worthAt lanes k ≡ getD weight k 0 * getD value k 0
   pub step-is : stepOf lanes ≡ step

@@ -12,9 +12,11 @@ use borrow.Author.Tests.{le-leb, lt-leb}
 use lib.ListN.{getD, replicate, length-replicate}
 use Rattle.counting.specs.Counting.{only, sum, Holds}
 use Rattle.counting.proofs.Tests.{true-or-false, less-or-not, last-or-below}
-use Rattle.tables.specs.Tables.{Fit}
+use Rattle.figures.specs.Figures.{mostModules, mostMinutes}
+use Rattle.tables.specs.Tables.{needAt, minutesAt, countOf, modulesOf, Fit}
 use Rattle.tables.proofs.Laws.{zeros}
-use Rattle.weights.specs.Weights.{weightIn, mostWith, Put, Knapsack, MostOf, Weighting, WeightedTo}
+use Rattle.weights.specs.Weights.{weightings, widths, worthSize, mostSize, heaviest, allWeight, mostWorth, weightIn, mostWith, Put, Knapsack}
+use Rattle.weights.specs.Weights.{MostOf, Weighting, WeightedTo, Weighted}
 
 -- ---- the weight of one job
 
@@ -22,9 +24,9 @@ use Rattle.weights.specs.Weights.{weightIn, mostWith, Put, Knapsack, Mos
 pub record Figures (modules q width : ℕ) : Type 0 where
   pub product : (q + 2) * width ≤ 384
   pub less : (q + 1) * ((q + 2) * width / modules) ≤ 30
-  pub more : (q + 2) * ((q + 2) * width / modules) ≤ 36
+  pub more : (q + 2) * ((q + 2) * width / modules) ≤ heaviest
 
-pub figures : (modules q width : ℕ) → modules ≤ 64 → width ≤ modules → q < 5 → Figures modules q width
+figures : (modules q width : ℕ) → modules ≤ mostModules → width ≤ modules → q < weightings → Figures modules q width
 figures modules q width m w l =
     let a : (q + 2) * width ≤ 6 * modules = mul-le-mul (omega arith) w in
     let whole : (q + 2) * width / modules ≤ 6 = div-le-of-le-mul modules (omega (arith, mul-comm modules 6)) in
@@ -34,22 +36,24 @@ figures modules q width m w l =
       more = mul-le-mul {n₂ = 6} {m₂ = 6} (omega arith) whole;
     }
 
-pub weight-light : (modules q width : ℕ) → modules ≤ 64 → width ≤ modules → q < 5 → weightIn modules q width ≤ 36
+weight-light : (modules q width : ℕ) → modules ≤ mostModules → width ≤ modules → q < weightings → weightIn modules q width ≤ heaviest
 unfolding weightIn
 weight-light modules q width m w l = go (true-or-false (eqb ((q + 2) * width % modules) 0))
   where
-    go : (eqb ((q + 2) * width % modules) 0 ≡ true) ⊎ (eqb ((q + 2) * width % modules) 0 ≡ false) → weightIn modules q width ≤ 36
+    go : (eqb ((q + 2) * width % modules) 0 ≡ true) ⊎ (eqb ((q + 2) * width % modules) 0 ≡ false) → weightIn modules q width ≤ heaviest
     go (inl e) = rw e (le-trans (figures modules q width m w l .less) (omega arith))
     go (inr e) = rw e (figures modules q width m w l .more)
 
--- the weight of one of the sheet's jobs, alone and times its minutes
-module _ {need minutes : List ℕ} {jobs modules : ℕ} (fit : Fit need minutes jobs modules)
-    (q : ℕ) (low : q < 5) (k : ℕ) (l : k < jobs) where
-  job-light : weightIn modules q (getD need k 0) ≤ 36
-  job-light = weight-light modules q (getD need k 0) (fit .most) (fit .narrow k l) low
+-- the weight of one of the sheet's jobs: its products, alone, and times its minutes
+module _ {t : List ℕ} (fit : Fit t) (q : ℕ) (low : q < weightings) (k : ℕ) (l : k < countOf t) where
+  pub job-figures : {modules width : ℕ} → modules ≡ modulesOf t → width ≡ needAt t k → Figures modules q width
+  job-figures e f = figures _ q _ (omega (arith, fit .most)) (omega (arith, fit .narrow k l)) low
 
-  pub worth-small : getD minutes k 0 * weightIn modules q (getD need k 0) ≤ 51840
-  worth-small = mul-le-mul {n₂ = 1440} {m₂ = 36} (fit .short k l) job-light
+  pub job-light : weightIn (modulesOf t) q (needAt t k) ≤ heaviest
+  job-light = weight-light (modulesOf t) q (needAt t k) (fit .most) (fit .narrow k l) low
+
+  pub worth-small : minutesAt t k * weightIn (modulesOf t) q (needAt t k) ≤ mostWorth
+  worth-small = mul-le-mul {n₂ = mostMinutes} {m₂ = heaviest} (fit .short k l) job-light
 
 -- ---- a table with one job more
 
@@ -140,42 +144,57 @@ knapsack-more {width} {y} {n} {top} {each} {base} {old} {new} h low put light = 
 -- ---- the weightings side by side
 
 -- a weighting of which both parts are kept
-weighting-kept : {need minutes : List ℕ} {jobs modules : ℕ} {worth worth′ most most′ : List ℕ} {q : ℕ}
-    → ((k : ℕ) → getD worth′ (k * 5 + q) 0 ≡ getD worth (k * 5 + q) 0) → ((x : ℕ) → getD most′ (x * 5 + q) 0 ≡ getD most (x * 5 + q) 0)
-    → Weighting need minutes jobs modules worth most q → Weighting need minutes jobs modules worth′ most′ q
+weighting-kept : {t worth worth′ most most′ : List ℕ} {q : ℕ}
+    → ((k : ℕ) → k < countOf t → getD worth′ (k * weightings + q) 0 ≡ getD worth (k * weightings + q) 0)
+    → ((x : ℕ) → x ≤ modulesOf t → getD most′ (x * weightings + q) 0 ≡ getD most (x * weightings + q) 0)
+    → Weighting t worth most q → Weighting t worth′ most′ q
 weighting-kept same same′ h = record {
   weight = h .weight;
-  worth-is = λ k l. same k ∙ h .worth-is k l;
-  weighs = λ X x l fits. omega (arith, same′ x, h .weighs X x l fits);
+  worth-is = λ k l. same k l ∙ h .worth-is k l;
+  weighs = λ X x l fits. omega (arith, same′ x l, h .weighs X x l fits);
 }
 
-pub weighted-none : (need minutes : List ℕ) (jobs modules : ℕ) → WeightedTo need minutes jobs modules (replicate 100 0) (replicate 325 0) 0
-weighted-none need minutes jobs modules = record {
-  worth-length = length-replicate {A = ℕ} 100 0;
-  most-length = length-replicate {A = ℕ} 325 0;
-  worth-small = λ p. omega (arith, zeros 100 p);
-  most-small = λ p. omega (arith, zeros 325 p);
+pub weighted-none : (t : List ℕ) → WeightedTo t (replicate worthSize 0) (replicate mostSize 0) 0
+weighted-none t = record {
+  worth-length = length-replicate {A = ℕ} worthSize 0;
+  most-length = length-replicate {A = ℕ} mostSize 0;
+  worth-small = λ p. omega (arith, zeros worthSize p);
+  most-small = λ p. omega (arith, zeros mostSize p);
   each = λ q l. absurd (not-suc-le-zero l);
 }
 
-pub weighted-more : {need minutes : List ℕ} {jobs modules q : ℕ} {worth worth′ most most′ table : List ℕ} → Fit need minutes jobs modules
-    → q < 5 → WeightedTo need minutes jobs modules worth most q → MostOf need jobs modules q table
-    → Put (λ k. k * 5 + q) worth worth′ jobs (λ k. getD minutes k 0 * weightIn modules q (getD need k 0))
-    → Put (λ x. x * 5 + q) most most′ 65 (λ x. getD table x 0) → WeightedTo need minutes jobs modules worth′ most′ (q + 1)
-weighted-more {need} {minutes} {jobs} {modules} {q} {worth} {worth′} {most} {most′} {table} fit low h table-is put put′ = record {
+pub weighted-more : {t : List ℕ} {q : ℕ} {worth worth′ most most′ table : List ℕ} → Fit t → q < weightings → WeightedTo t worth most q
+    → MostOf t (countOf t) q table
+    → Put (λ k. k * weightings + q) worth worth′ (countOf t) (λ k. minutesAt t k * weightIn (modulesOf t) q (needAt t k))
+    → Put (λ x. x * weightings + q) most most′ widths (λ x. getD table x 0) → WeightedTo t worth′ most′ (q + 1)
+weighted-more {t} {q} {worth} {worth′} {most} {most′} {table} fit low h table-is put put′ = record {
   worth-length = put .size ∙ h .worth-length;
   most-length = put′ .size ∙ h .most-length;
-  worth-small = put .small 51840 (h .worth-small) (worth-small fit q low);
-  most-small = put′ .small 720 (h .most-small) (λ x l. omega (arith, table-is .small x, fit .few));
+  worth-small = put .small mostWorth (h .worth-small) (worth-small fit q low);
+  most-small = put′ .small allWeight (h .most-small) (λ x l. omega (arith, table-is .small x, fit .few));
   each = λ p l. each p (last-or-below q p (omega arith));
 }
   where
-    each : (p : ℕ) → (p ≡ q) ⊎ (p < q) → Weighting need minutes jobs modules worth′ most′ p
+    each : (p : ℕ) → (p ≡ q) ⊎ (p < q) → Weighting t worth′ most′ p
     each p (inl e) = rw e (record {
-      weight = λ k. weightIn modules q (getD need k 0);
+      weight = λ k. weightIn (modulesOf t) q (needAt t k);
       worth-is = put .each;
       weighs = λ X x l fits. omega (arith, put′ .each x (omega (arith, fit .most)), table-is .holds X x l fits);
     })
     each p (inr l) =
-        weighting-kept (λ k. put .kept (k * 5 + p) (λ i m e. omega arith))
-        (λ x. put′ .kept (x * 5 + p) (λ i m e. omega arith)) (h .each p l)
+        weighting-kept (λ k m. put .kept (k * weightings + p) (λ i m e. omega arith))
+        (λ x m. put′ .kept (x * weightings + p) (λ i m e. omega arith)) (h .each p l)
+
+-- all of them put in
+pub weighted-all : {t worth most : List ℕ} → WeightedTo t worth most weightings → Weighted t worth most
+weighted-all h = record { worth-small = λ p l. h .worth-small p; most-small = λ p l. h .most-small p; each = h .each }
+
+-- lists that agree at the places of the weightings are weightings too
+pub weighted-alike : {t worth worth′ most most′ : List ℕ} → Fit t → ((p : ℕ) → p < worthSize → getD worth′ p 0 ≡ getD worth p 0)
+    → ((p : ℕ) → p < mostSize → getD most′ p 0 ≡ getD most p 0) → Weighted t worth most → Weighted t worth′ most′
+weighted-alike fit same same′ h = record {
+  worth-small = λ p l. omega (arith, same p l, h .worth-small p l);
+  most-small = λ p l. omega (arith, same′ p l, h .most-small p l);
+  each = λ q l. weighting-kept (λ k m. same (k * weightings + q) (omega (arith, fit .few)))
+      (λ x m. same′ (x * weightings + q) (omega (arith, fit .most))) (h .each q l);
+}

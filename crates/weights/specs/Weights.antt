@@ -7,12 +7,55 @@ use Prim.Native.Nat.{ℕ, _+_, _-_, _*_, _/_, _%_, _≤_, _<_, max}
 use lib.Dec.{leb, eqb}
 use lib.ListN.{length, getD}
 use Rattle.counting.specs.Counting.{only, sum, Rises, Holds}
+use Rattle.figures.specs.Figures.{mostJobs, mostModules, mostMinutes, noMinute}
 use Rattle.bits.specs.Bits.{bit}
-use Rattle.placement.specs.Profile.{heldAt}
+use Rattle.tables.specs.Tables.{needAt, minutesAt, countOf, modulesOf}
+use Rattle.tables.specs.Part.{Part}
+use Rattle.placement.specs.Profile.{heldOf}
+
+-- ---- figures
+
+-- how many weightings there are
+abbrev pub weightings : ℕ
+weightings = 5
+
+-- numbers of modules, from 0 to the most that a cabinet has
+abbrev pub widths : ℕ
+widths = mostModules + 1
+
+-- the places of the weightings side by side: of each job's worth, and of the most on each number of modules
+abbrev pub worthSize : ℕ
+worthSize = mostJobs * weightings
+
+abbrev pub mostSize : ℕ
+mostSize = widths * weightings
+
+-- what a job weighs at most in a weighting, and what all jobs weigh, and all but one
+abbrev pub heaviest : ℕ
+heaviest = 36
+
+abbrev pub allWeight : ℕ
+allWeight = heaviest * mostJobs
+
+abbrev pub fewWeight : ℕ
+fewWeight = heaviest * (mostJobs - 1)
+
+-- what a job's minutes times its weight are at most, and those of all jobs
+abbrev pub mostWorth : ℕ
+mostWorth = mostMinutes * heaviest
+
+abbrev pub allWorth : ℕ
+allWorth = mostJobs * mostWorth
+
+-- what can stand up to a minute at most
+abbrev pub mostRoom : ℕ
+mostRoom = allWeight * noMinute
+
+-- ---- the weightings
 
 -- no set of jobs that fits on x modules weighs more than K x
-abbrev pub Weighs : List ℕ → ℕ → ℕ → (ℕ → ℕ) → (ℕ → ℕ) → Type 0
-Weighs need jobs modules y K = Holds (λ k. getD need k 0) jobs modules y K
+abbrev pub Weighs : List ℕ → (ℕ → ℕ) → (ℕ → ℕ) → Type 0
+Weighs t y K = Holds (needAt t) (countOf t) (modulesOf t) y K
 
 -- a job that fills j of q + 2 equal parts of the cabinet weighs (q + 1) * j, and one that overruns them (q + 2) * j
 unfoldable pub weightIn : ℕ → ℕ → ℕ → ℕ
@@ -37,35 +80,46 @@ pub record Knapsack (width : ℕ → ℕ) (n top each : ℕ) (y : ℕ → ℕ) (
   pub small : (p : ℕ) → getD table p 0 ≤ each * n
 
 -- the most of the first n jobs that can stand on each number of modules, in weighting q
-abbrev pub MostOf : List ℕ → ℕ → ℕ → ℕ → List ℕ → Type 0
-MostOf need n modules q table = Knapsack (λ k. getD need k 0) n modules 36 (λ k. weightIn modules q (getD need k 0)) table
+abbrev pub MostOf : List ℕ → ℕ → ℕ → List ℕ → Type 0
+MostOf t n q table = Knapsack (needAt t) n (modulesOf t) heaviest (λ k. weightIn (modulesOf t) q (needAt t k)) table
 
--- place k * 5 + q of `worth` is job k's minutes times its weight, place x * 5 + q of `most` the most that can stand on x modules
-pub record Weighting (need minutes : List ℕ) (jobs modules : ℕ) (worth most : List ℕ) (q : ℕ) : Type 0 where
+-- weighting q: in `worth` each job's minutes times its weight, in `most` the most that can stand on each number of modules
+pub record Weighting (t worth most : List ℕ) (q : ℕ) : Type 0 where
   pub weight : ℕ → ℕ
-  pub worth-is : (k : ℕ) → k < jobs → getD worth (k * 5 + q) 0 ≡ getD minutes k 0 * weight k
-  pub weighs : Weighs need jobs modules weight (λ x. getD most (x * 5 + q) 0)
+  pub worth-is : (k : ℕ) → k < countOf t → getD worth (k * weightings + q) 0 ≡ minutesAt t k * weight k
+  pub weighs : Weighs t weight (λ x. getD most (x * weightings + q) 0)
 
--- so many weightings side by side
-pub record WeightedTo (need minutes : List ℕ) (jobs modules : ℕ) (worth most : List ℕ) (count : ℕ) : Type 0 where
-  pub worth-length : length worth ≡ 100
-  pub most-length : length most ≡ 325
-  pub worth-small : (p : ℕ) → getD worth p 0 ≤ 51840
-  pub most-small : (p : ℕ) → getD most p 0 ≤ 720
-  pub each : (q : ℕ) → q < count → Weighting need minutes jobs modules worth most q
+-- so many weightings put in side by side
+pub record WeightedTo (t worth most : List ℕ) (count : ℕ) : Type 0 where
+  pub worth-length : length worth ≡ worthSize
+  pub most-length : length most ≡ mostSize
+  pub worth-small : (p : ℕ) → getD worth p 0 ≤ mostWorth
+  pub most-small : (p : ℕ) → getD most p 0 ≤ allWeight
+  pub each : (q : ℕ) → q < count → Weighting t worth most q
 
--- all five
-abbrev pub Weighted : List ℕ → List ℕ → ℕ → ℕ → List ℕ → List ℕ → Type 0
-Weighted need minutes jobs modules worth most = WeightedTo need minutes jobs modules worth most 5
+-- none of the places is too large
+abbrev pub WorthSmall : List ℕ → Type 0
+WorthSmall worth = (p : ℕ) → p < worthSize → getD worth p 0 ≤ mostWorth
+
+abbrev pub MostSmall : List ℕ → Type 0
+MostSmall most = (p : ℕ) → p < mostSize → getD most p 0 ≤ allWeight
+
+-- all weightings side by side; what stands behind their places is not spoken of
+pub record Weighted (t worth most : List ℕ) : Type 0 where
+  pub worth-small : WorthSmall worth
+  pub most-small : MostSmall most
+  pub each : (q : ℕ) → q < weightings → Weighting t worth most q
+
+-- ---- the test by weights
 
 -- what can stand, from minute l up to minute T, on the modules that are free
-unfoldable pub roomFor : (ℕ → ℕ) → List ℕ → List ℕ → ℕ → ℕ → ℕ → ℕ → ℕ
-roomFor most until held modules placed l T = sum T (λ t. only (leb l t) (most (modules - heldAt until held placed t)))
+unfoldable pub roomFor : (ℕ → ℕ) → ℕ → Part → ℕ → ℕ → ℕ
+roomFor most modules p l T = sum T (λ m. only (leb l m) (most (modules - heldOf p m)))
 
--- the jobs of the set outweigh what can stand on the modules that are free from minute l up to minute T
-pub record Outweighed (need minutes until held : List ℕ) (jobs modules placed set l T : ℕ) : Type 0 where
+-- the unplaced jobs outweigh what can stand on the modules that are free from minute l up to minute T
+pub record Outweighed (t : List ℕ) (p : Part) (l T : ℕ) : Type 0 where
   pub weight : ℕ → ℕ
   pub most : ℕ → ℕ
-  pub weighs : Weighs need jobs modules weight most
-  pub over : sum T (λ t. only (leb l t) (most (modules - heldAt until held placed t)))
-      < sum jobs (λ k. only (bit set k) (getD minutes k 0 * weight k))
+  pub weighs : Weighs t weight most
+  pub over : sum T (λ m. only (leb l m) (most (modulesOf t - heldOf p m)))
+      < sum (countOf t) (λ k. only (bit (p .unplaced) k) (minutesAt t k * weight k))

@@ -4,44 +4,52 @@ ghost use mathlib.Core.Bool.{true};
 ghost use Prim.Native.Nat.{ℕ, _+_, _*_, _<_, _≤_, min, max};
 ghost use lib.ListN.{length, getD, replicate};
 ghost use Rattle.counting.specs.Counting.{only, sum};
+ghost use Rattle.figures.specs.Figures.{mostJobs, mostModules};
 ghost use Rattle.bits.specs.Bits.{bit};
-ghost use Rattle.tables.specs.Tables.{Fit};
-ghost use Rattle.placement.specs.Profile.{Profile};
-ghost use Rattle.weights.specs.Weights.{weightIn, mostWith, Put, MostOf, WeightedTo, Weighted, roomFor, Outweighed};
+ghost use Rattle.tables.specs.Tables.{needAt, countOf, modulesOf, Fit};
+ghost use Rattle.tables.specs.Part.{partIn};
+ghost use Rattle.tables.specs.Prepared.{worthIn, mostIn};
+ghost use Rattle.placement.specs.Profile.{ProfileOf};
+ghost use Rattle.weights.specs.Weights.{weightings, widths, mostSize, heaviest, fewWeight, allWorth, mostRoom, weightIn, mostWith, Put};
+ghost use Rattle.weights.specs.Weights.{MostOf, WeightedTo, Weighted, WorthSmall, MostSmall, roomFor, Outweighed};
+use figures::MOST_JOBS;
+use figures::MOST_MODULES;
+use tables::Jobs;
+use tables::Part;
+use tables::Prepared;
 
-// Five weightings side by side: place k * 5 + q of `worth` is job k's minutes times its weight, place x * 5 + q of `most` the most that
-// can stand on x modules.
+// How many weightings there are.
+pub const WEIGHTINGS: usize = 5;
+
+// Numbers of modules, from 0 to the most that a cabinet has.
+pub const WIDTHS: usize = MOST_MODULES + 1;
+
+// The weightings side by side: place k * WEIGHTINGS + q of `worth` is job k's minutes times its weight, place x * WEIGHTINGS + q of `most`
+// the most that can stand on x modules.
 pub struct Weights {
-    pub worth: [u32; 100],
-    pub most: [u16; 325],
+    pub worth: [u32; MOST_JOBS * WEIGHTINGS],
+    pub most: [u16; WIDTHS * WEIGHTINGS],
 }
 
 // The most that can stand on each number of modules.
 pub struct Most {
-    pub at: [u16; 65],
+    pub at: [u16; WIDTHS],
 }
 
 // A total in each weighting.
 struct Totals {
-    of: [u32; 5],
-}
-
-// The product of two numbers.
-pub fn times(a: u16, b: u16) -> u32
-    ensures { λ r. ⌜ r ≡ a * b ⌝ }
-{
-    (a as u32) * (b as u32)
+    of: [u32; WEIGHTINGS],
 }
 
 // ---- the weightings of a sheet
 
-// The weight of a job in weighting q.
-pub fn weight_of(need: u16, q: usize, modules: u16) -> u16
-    requires { ⌜ ((0 < modules) × (modules ≤ 64)) × ((need ≤ modules) × (q < 5)) ⌝ }
-    ensures { λ r. ⌜ r ≡ weightIn modules q need ⌝ }
+// The weight of job k in weighting q.
+pub fn weight_of(jobs: &Jobs, k: usize, q: usize) -> u16
+    requires { ⌜ (Fit (now jobs)) × ((k < countOf (now jobs)) × (q < weightings)) ⌝ }
+    ensures { λ r. ⌜ r ≡ weightIn (modulesOf (now (jobs .entry))) q (needAt (now (jobs .entry)) k) ⌝ }
 {
-    let m = modules as usize;
-    let a = (q + 2) * (need as usize);
+    let m = tables::modules(jobs) as usize;
+    let a = (q + 2) * (tables::need(jobs, k) as usize);
     if a % m == 0 {
         return ((q + 1) * (a / m)) as u16;
     }
@@ -49,8 +57,8 @@ pub fn weight_of(need: u16, q: usize, modules: u16) -> u16
 }
 
 // The most that can stand on x modules with one job more.
-fn most_with(old: &[u16; 65], width: usize, weight: u16, x: usize) -> u16
-    requires { ⌜ ((p : ℕ) → getD (now old) p 0 ≤ 684) × ((weight ≤ 36) × (x < 65)) ⌝ }
+fn most_with(old: &[u16; WIDTHS], width: usize, weight: u16, x: usize) -> u16
+    requires { ⌜ ((p : ℕ) → getD (now old) p 0 ≤ fewWeight) × ((weight ≤ heaviest) × (x < widths)) ⌝ }
     ensures { λ r. ⌜ r ≡ mostWith (now (old .entry)) width weight x ⌝ }
 {
     let without = old[x];
@@ -66,10 +74,10 @@ fn most_with(old: &[u16; 65], width: usize, weight: u16, x: usize) -> u16
 
 // The same on each number of modules.
 fn with_job(table: Most, width: u16, weight: u16, modules: u16) -> Most
-    requires { ⌜ ((p : ℕ) → getD (table .at) p 0 ≤ 684) × ((weight ≤ 36) × (modules ≤ 64)) ⌝ }
-    ensures { λ r. ⌜ Put (λ x. x) (replicate 65 0) (r .at) (modules + 1) (mostWith (table .at) width weight) ⌝ }
+    requires { ⌜ ((p : ℕ) → getD (table .at) p 0 ≤ fewWeight) × ((weight ≤ heaviest) × (modules ≤ mostModules)) ⌝ }
+    ensures { λ r. ⌜ Put (λ x. x) (replicate widths 0) (r .at) (modules + 1) (mostWith (table .at) width weight) ⌝ }
 {
-    let mut next = [0u16; 65];
+    let mut next = [0u16; WIDTHS];
     let mut x: usize = 0;
     while x <= modules as usize {
         next[x] = most_with(&table.at, width as usize, weight, x);
@@ -79,71 +87,66 @@ fn with_job(table: Most, width: u16, weight: u16, modules: u16) -> Most
 }
 
 // The most of the jobs that can stand on each number of modules, in weighting q.
-pub fn most_of(need: &[u16; 20], jobs: usize, modules: u16, q: usize) -> Most
-    requires { ⌜ ((0 < modules) × (modules ≤ 64)) × (((j : ℕ) → j < jobs → getD (now need) j 0 ≤ modules) × ((jobs ≤ 20) × (q < 5))) ⌝ }
-    ensures { λ r. ⌜ MostOf (now (need .entry)) jobs modules q (r .at) ⌝ }
+pub fn most_of(jobs: &Jobs, q: usize) -> Most
+    requires { ⌜ (Fit (now jobs)) × (q < weightings) ⌝ }
+    ensures { λ r. ⌜ MostOf (now (jobs .entry)) (countOf (now (jobs .entry))) q (r .at) ⌝ }
 {
-    let mut table = Most { at: [0u16; 65] };
+    let count = tables::count(jobs);
+    let modules = tables::modules(jobs);
+    let mut table = Most { at: [0u16; WIDTHS] };
     let mut k: usize = 0;
-    while k < jobs {
-        let width = need[k];
-        let weight = weight_of(width, q, modules);
-        table = with_job(table, width, weight, modules);
+    while k < count {
+        let weight = weight_of(jobs, k, q);
+        table = with_job(table, tables::need(jobs, k), weight, modules);
         k += 1;
     }
     table
 }
 
 // The weightings with the table put in as the q-th.
-fn put_most(all: Weights, q: usize, table: &[u16; 65]) -> Weights
-    requires { ⌜ (q < 5) × (length (all .most) ≡ 325) ⌝ }
-    ensures { λ r. ⌜ (Put (λ x. x * 5 + q) (all .most) (r .most) 65 (λ x. getD (now (table .entry)) x 0)) × (r .worth ≡ all .worth) ⌝ }
+fn put_most(all: Weights, q: usize, table: &[u16; WIDTHS]) -> Weights
+    requires { ⌜ (q < weightings) × (length (all .most) ≡ mostSize) ⌝ }
+    ensures { λ r. ⌜ (Put (λ x. x * weightings + q) (all .most) (r .most) widths (λ x. getD (now (table .entry)) x 0))
+        × (r .worth ≡ all .worth) ⌝ }
 {
     let mut next = all;
     let mut x: usize = 0;
-    while x < 65 {
-        next.most[x * 5 + q] = table[x];
+    while x < WIDTHS {
+        next.most[x * WEIGHTINGS + q] = table[x];
         x += 1;
     }
     next
 }
 
 // The weightings with the q-th put in.
-fn with_weighting(
-    all: Weights,
-    q: usize,
-    need: &[u16; 20],
-    minutes: &[u16; 20],
-    jobs: usize,
-    modules: u16,
-) -> Weights
-    requires { ⌜ (Fit (now need) (now minutes) jobs modules)
-        × ((q < 5) × (WeightedTo (now need) (now minutes) jobs modules (all .worth) (all .most) q)) ⌝ }
-    ensures { λ r. ⌜ WeightedTo (now (need .entry)) (now (minutes .entry)) jobs modules (r .worth) (r .most) (q + 1) ⌝ }
+fn with_weighting(all: Weights, jobs: &Jobs, q: usize) -> Weights
+    requires { ⌜ (Fit (now jobs)) × ((q < weightings) × (WeightedTo (now jobs) (all .worth) (all .most) q)) ⌝ }
+    ensures { λ r. ⌜ WeightedTo (now (jobs .entry)) (r .worth) (r .most) (q + 1) ⌝ }
 {
+    let count = tables::count(jobs);
     let mut next = all;
     let mut k: usize = 0;
-    while k < jobs {
-        let weight = weight_of(need[k], q, modules);
-        next.worth[k * 5 + q] = times(minutes[k], weight);
+    while k < count {
+        let weight = weight_of(jobs, k, q);
+        next.worth[k * WEIGHTINGS + q] = counting::times(tables::minutes(jobs, k), weight);
         k += 1;
     }
-    let table = most_of(need, jobs, modules, q);
+    let table = most_of(jobs, q);
     put_most(next, q, &table.at)
 }
 
-// The five weightings of a sheet.
-pub fn weightings(need: &[u16; 20], minutes: &[u16; 20], jobs: usize, modules: u16) -> Weights
-    requires { ⌜ Fit (now need) (now minutes) jobs modules ⌝ }
-    ensures { λ r. ⌜ Weighted (now (need .entry)) (now (minutes .entry)) jobs modules (r .worth) (r .most) ⌝ }
+// The weightings of a sheet.
+pub fn weightings(jobs: &Jobs) -> Weights
+    requires { ⌜ Fit (now jobs) ⌝ }
+    ensures { λ r. ⌜ Weighted (now (jobs .entry)) (r .worth) (r .most) ⌝ }
 {
     let mut all = Weights {
-        worth: [0u32; 100],
-        most: [0u16; 325],
+        worth: [0u32; MOST_JOBS * WEIGHTINGS],
+        most: [0u16; WIDTHS * WEIGHTINGS],
     };
     let mut q: usize = 0;
-    while q < 5 {
-        all = with_weighting(all, q, need, minutes, jobs, modules);
+    while q < WEIGHTINGS {
+        all = with_weighting(all, jobs, q);
         q += 1;
     }
     all
@@ -152,31 +155,35 @@ pub fn weightings(need: &[u16; 20], minutes: &[u16; 20], jobs: usize, modules: u
 // ---- the test by weights
 
 // What weighs so much in each weighting, and job k.
-fn with_worth(weight: Totals, worth: &[u32; 100], k: usize) -> Totals
-    requires { ⌜ (k < 20) × ((q : ℕ) → q < 5 → getD (weight .of) q 0 + getD (now worth) (k * 5 + q) 0 ≤ 1036800) ⌝ }
-    ensures { λ r. ⌜ ((q : ℕ) → q < 5 → getD (r .of) q 0 ≡ getD (weight .of) q 0 + getD (now (worth .entry)) (k * 5 + q) 0) ⌝ }
+fn with_worth(weight: Totals, prepared: &Prepared, k: usize) -> Totals
+    requires { ⌜ (k < mostJobs)
+        × ((q : ℕ) → q < weightings → getD (weight .of) q 0 + getD (worthIn (now prepared)) (k * weightings + q) 0 ≤ allWorth) ⌝ }
+    ensures { λ r. ⌜ ((q : ℕ) → q < weightings
+        → getD (r .of) q 0 ≡ getD (weight .of) q 0 + getD (worthIn (now (prepared .entry))) (k * weightings + q) 0) ⌝ }
 {
-    let mut next = [0u32; 5];
+    let mut next = [0u32; WEIGHTINGS];
     let mut q: usize = 0;
-    while q < 5 {
-        next[q] = weight.of[q] + worth[k * 5 + q];
+    while q < WEIGHTINGS {
+        next[q] = weight.of[q] + tables::worth(prepared, k * WEIGHTINGS + q);
         q += 1;
     }
     Totals { of: next }
 }
 
-// What the jobs of the set weigh in each weighting.
-fn set_worth(worth: &[u32; 100], set: u32, jobs: usize) -> Totals
-    requires { ⌜ ((p : ℕ) → getD (now worth) p 0 ≤ 51840) × (jobs ≤ 20) ⌝ }
-    ensures { λ r. ⌜ ((q : ℕ) → q < 5
-        → getD (r .of) q 0 ≡ sum jobs (λ k. only (bit set k) (getD (now (worth .entry)) (k * 5 + q) 0))) ⌝ }
+// What the unplaced jobs weigh in each weighting.
+fn set_worth(jobs: &Jobs, prepared: &Prepared, part: &Part) -> Totals
+    requires { ⌜ (countOf (now jobs) ≤ mostJobs) × (WorthSmall (worthIn (now prepared))) ⌝ }
+    ensures { λ r. ⌜ ((q : ℕ) → q < weightings → getD (r .of) q 0 ≡ sum (countOf (now (jobs .entry)))
+        (λ k. only (bit (partIn (now (part .entry)) .unplaced) k) (getD (worthIn (now (prepared .entry))) (k * weightings + q) 0))) ⌝ }
 {
-    let mut weight = Totals { of: [0u32; 5] };
-    let mut rest = bits::below32(set, jobs);
-    while rest != 0 {
-        let k = bits::lowest32(rest);
-        weight = with_worth(weight, worth, k);
-        rest = bits::without_lowest32(rest);
+    let mut weight = Totals {
+        of: [0u32; WEIGHTINGS],
+    };
+    let mut todo = bits::below32(tables::unplaced(part), tables::count(jobs));
+    while todo != 0 {
+        let k = bits::lowest32(todo);
+        weight = with_worth(weight, prepared, k);
+        todo = bits::without_lowest32(todo);
     }
     weight
 }
@@ -185,95 +192,82 @@ fn set_worth(worth: &[u32; 100], set: u32, jobs: usize) -> Totals
 pub fn next_end(at: u16, until: u16, target: u16) -> u16
     ensures { λ r. ⌜ r ≡ max at (min until target) ⌝ }
 {
-    placement::later(at, placement::sooner(until, target))
+    counting::larger(at, counting::smaller(until, target))
 }
 
 // The room in each weighting, with what can stand on x modules for so many minutes more.
-fn with_room(room: Totals, most: &[u16; 325], x: u16, minutes: u16) -> Totals
-    requires { ⌜ (x < 65) × ((q : ℕ) → q < 5 → getD (room .of) q 0 + getD (now most) (x * 5 + q) 0 * minutes ≤ 47185200) ⌝ }
-    ensures { λ r. ⌜ ((q : ℕ) → q < 5 → getD (r .of) q 0 ≡ getD (room .of) q 0 + getD (now (most .entry)) (x * 5 + q) 0 * minutes) ⌝ }
+fn with_room(room: Totals, prepared: &Prepared, x: u16, minutes: u16) -> Totals
+    requires { ⌜ ((x < widths) × (MostSmall (mostIn (now prepared)))) × ((q : ℕ) → q < weightings
+        → getD (room .of) q 0 + getD (mostIn (now prepared)) (x * weightings + q) 0 * minutes ≤ mostRoom) ⌝ }
+    ensures { λ r. ⌜ ((q : ℕ) → q < weightings
+        → getD (r .of) q 0 ≡ getD (room .of) q 0 + getD (mostIn (now (prepared .entry))) (x * weightings + q) 0 * minutes) ⌝ }
 {
-    let row = (x as usize) * 5;
-    let mut next = [0u32; 5];
+    let row = (x as usize) * WEIGHTINGS;
+    let mut next = [0u32; WEIGHTINGS];
     let mut q: usize = 0;
-    while q < 5 {
-        next[q] = room.of[q] + times(most[row + q], minutes);
+    while q < WEIGHTINGS {
+        let most = tables::most(prepared, row + q) as u16;
+        next[q] = room.of[q] + counting::times(most, minutes);
         q += 1;
     }
     Totals { of: next }
 }
 
 // What can stand, in each weighting, on the modules that are free from minute `least` up to the target.
-fn room_for<'a>(
-    most: &[u16; 325],
-    until: &'a [u16; 20],
-    held: &'a [u16; 20],
-    placed: usize,
+fn room_for(
+    jobs: &Jobs,
+    prepared: &Prepared,
+    part: &Part,
     gone: usize,
     free: u16,
-    modules: u16,
     least: u16,
     target: u16,
 ) -> Totals
-    requires { ⌜ (((p : ℕ) → getD (now most) p 0 ≤ 720) × (Profile (now until) (now held) placed gone free modules least))
-        × ((modules ≤ 64) × (least ≤ target)) ⌝ }
-    ensures { λ r. ⌜ ((q : ℕ) → q < 5 → getD (r .of) q 0 ≡ roomFor (λ x. getD (now (most .entry)) (x * 5 + q) 0) (now (until .entry))
-        (now (held .entry)) modules placed least target) ⌝ }
+    requires { ⌜ ((MostSmall (mostIn (now prepared))) × (ProfileOf (partIn (now part)) gone free (modulesOf (now jobs)) least))
+        × ((modulesOf (now jobs) ≤ mostModules) × (least ≤ target)) ⌝ }
+    ensures { λ r. ⌜ ((q : ℕ) → q < weightings → getD (r .of) q 0 ≡ roomFor
+        (λ x. getD (mostIn (now (prepared .entry))) (x * weightings + q) 0) (modulesOf (now (jobs .entry))) (partIn (now (part .entry)))
+        least target) ⌝ }
 {
-    let mut room = Totals { of: [0u32; 5] };
+    let placed = tables::placed(part);
+    let mut room = Totals {
+        of: [0u32; WEIGHTINGS],
+    };
     let mut at = least;
     let mut f = free;
     let mut i = gone;
     while i < placed {
-        let to = next_end(at, until[i], target);
-        room = with_room(room, most, f, to - at);
+        let to = next_end(at, tables::until(part, i), target);
+        room = with_room(room, prepared, f, to - at);
         at = to;
-        f += held[i];
+        f += tables::held(part, i);
         i += 1;
     }
-    with_room(room, most, f, target - at)
+    with_room(room, prepared, f, target - at)
 }
 
-// Whether the jobs of the set outweigh, in one of the weightings, what the free modules can hold between minute `least` and the target.
+// Whether the unplaced jobs outweigh, in one of the weightings, what the free modules can hold between minute `least` and the target.
 // `gone` of the placed jobs are known to have ended by then, and the others leave `free` modules.
-pub fn outweighed<'a>(
-    need: &[u16; 20],
-    minutes: &[u16; 20],
-    worth: &[u32; 100],
-    most: &[u16; 325],
-    until: &'a [u16; 20],
-    held: &'a [u16; 20],
-    placed: usize,
+pub fn outweighed(
+    jobs: &Jobs,
+    prepared: &Prepared,
+    part: &Part,
     gone: usize,
     free: u16,
-    modules: u16,
-    set: u32,
-    jobs: usize,
     least: u16,
     target: u16,
 ) -> bool
-    requires { ⌜ ((Fit (now need) (now minutes) jobs modules) × (Weighted (now need) (now minutes) jobs modules (now worth) (now most)))
-        × (Profile (now until) (now held) placed gone free modules least) ⌝ }
-    ensures { λ r. ⌜ (r ≡ true → Outweighed (now (need .entry)) (now (minutes .entry)) (now (until .entry)) (now (held .entry)) jobs
-        modules placed set least target) ⌝ }
+    requires { ⌜ ((Fit (now jobs)) × (Weighted (now jobs) (worthIn (now prepared)) (mostIn (now prepared))))
+        × (ProfileOf (partIn (now part)) gone free (modulesOf (now jobs)) least) ⌝ }
+    ensures { λ r. ⌜ (r ≡ true → Outweighed (now (jobs .entry)) (partIn (now (part .entry))) least target) ⌝ }
 {
     if target < least {
         return false;
     }
-    let room = room_for(
-        most,
-        until,
-        held,
-        placed,
-        gone,
-        free,
-        modules,
-        least,
-        target,
-    );
-    let weight = set_worth(worth, set, jobs);
+    let room = room_for(jobs, prepared, part, gone, free, least, target);
+    let weight = set_worth(jobs, prepared, part);
     let mut q: usize = 0;
-    while q < 5 {
+    while q < WEIGHTINGS {
         if room.of[q] < weight.of[q] {
             return true;
         }

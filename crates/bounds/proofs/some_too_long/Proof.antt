@@ -4,17 +4,17 @@ use mathlib.Core.Bool.{false}
 use native.Mathlib.Omega.{arith}
 use native.Mathlib.Nat.{pos-of-ne-zero}
 use lib.Count.{ones}
-use borrow.Author.Needs.{needs}
 use Rattle.counting.proofs.Tests.{clash}
 use Rattle.bits.proofs.Walks.{Walk, walk-first, walk-next, walk-less}
+use borrow.Author.Needs.{needs}
 use Rattle.bounds.proofs.some_too_long.Statement.{statement}
 use Rattle.bounds.proofs.some_too_long.Tie as tie
 
 abbrev Inv-loop : tie.InvT-loop
-Inv-loop at tails set jobs end rest₀ rest = Walk set jobs rest
+Inv-loop prepared at set count end todo₀ todo = Walk set count todo
 
 abbrev μ-loop : tie.MeasureT-loop
-μ-loop at tails set jobs end rest₀ rest = ones rest
+μ-loop prepared at set count end todo₀ todo = ones todo
 
 below32-requires : tie.Need-below32-requires Inv-loop μ-loop
 below32-requires c κs = omega (arith, c .pre)
@@ -31,11 +31,8 @@ mul-too-long c = record { fits = omega (arith, c .lowest32 .ensures .0) }
 element-copy-out-too-long : tie.Need-element-copy-out-too-long Inv-loop μ-loop
 element-copy-out-too-long c = omega (arith, c .before .before .loop .inv .below _ (c .lowest32 .ensures .1), c .before .before .before .before .pre)
 
-mul-too-long-2 : tie.Need-mul-too-long-2 Inv-loop μ-loop
-mul-too-long-2 c = record { fits = omega (arith, c .before .lowest32 .ensures .0) }
-
-element-copy-out-too-long-2 : tie.Need-element-copy-out-too-long-2 Inv-loop μ-loop
-element-copy-out-too-long-2 c = omega (arith, c .before .before .before .loop .inv .below _ (c .before .lowest32 .ensures .1), c .before .before .before .before .before .pre)
+tail-requires : tie.Need-tail-requires Inv-loop μ-loop
+tail-requires c κs = omega (arith, c .before .before .before .loop .inv .below _ (c .before .lowest32 .ensures .1), c .before .before .before .before .before .pre)
 
 too-long-requires : tie.Need-too-long-requires Inv-loop μ-loop
 too-long-requires c κs = search needs
@@ -44,7 +41,7 @@ returns : tie.Need-returns Inv-loop μ-loop
 returns c = λ e.
     let f = c .before .too-long .ensures (c .if1 .taken) in
     let j = c .before .before .before .before .lowest32 in
-    (j .result, c .before .before .before .before .before .before .loop .inv .below _ (j .ensures .1), f .0, f .1)
+    (j .result, c .before .before .before .before .before .before .loop .inv .below _ (j .ensures .1), f .0, rw (c .before .before .tail .ensures) at (f .1))
 
 without-lowest32-requires : tie.Need-without-lowest32-requires Inv-loop μ-loop
 without-lowest32-requires c κs = pos-of-ne-zero (c .before .before .before .before .before .loop-test .taken)
@@ -73,8 +70,7 @@ some-too-long-spec =
     lowest32-requires
     mul-too-long
     element-copy-out-too-long
-    mul-too-long-2
-    element-copy-out-too-long-2
+    tail-requires
     too-long-requires
     returns
     without-lowest32-requires

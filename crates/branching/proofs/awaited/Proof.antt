@@ -3,30 +3,37 @@ use native.Mathlib.Omega.{arith}
 use native.Mathlib.Nat.{pos-of-ne-zero}
 use lib.Count.{ones}
 use Rattle.bits.proofs.Walks.{walk-less}
+use Rattle.tables.specs.Part.{partIn}
 use Rattle.branching.proofs.Blocks.{Awaiting, awaiting-none, awaiting-step, awaiting-all}
+use borrow.Author.Needs.{needs}
 use Rattle.branching.proofs.awaited.Statement.{statement}
 use Rattle.branching.proofs.awaited.Tie as tie
 
 abbrev Inv-loop : tie.InvT-loop
-Inv-loop earlier set jobs r₀ rest₀ r rest = Awaiting earlier set jobs r rest
+Inv-loop jobs part r₀ todo₀ r todo = Awaiting jobs (partIn part .unplaced) r todo
 
 abbrev μ-loop : tie.MeasureT-loop
-μ-loop earlier set jobs r₀ rest₀ r rest = ones rest
+μ-loop jobs part r₀ todo₀ r todo = ones todo
+
+unplaced-requires : tie.Need-unplaced-requires Inv-loop μ-loop
+unplaced-requires c κs = search needs
+
+count-requires : tie.Need-count-requires Inv-loop μ-loop
+count-requires c κs = search needs
 
 below32-requires : tie.Need-below32-requires Inv-loop μ-loop
-below32-requires c κs = omega (arith, c .pre)
+below32-requires c κs = omega (arith, c .before .before .pre, c .count .ensures)
 
 loop-holds : tie.Need-loop-holds Inv-loop μ-loop
-loop-holds c = rw (c .below32 .ensures) (awaiting-none _ _ _)
+loop-holds c = rw (c .below32 .ensures, c .before .count .ensures, c .before .before .unplaced .ensures) (awaiting-none _ _)
 
 lowest32-requires : tie.Need-lowest32-requires Inv-loop μ-loop
 lowest32-requires c κs = pos-of-ne-zero (c .loop-test .taken)
 
-mul-r : tie.Need-mul-r Inv-loop μ-loop
-mul-r c = record { fits = omega (arith, c .lowest32 .ensures .0) }
-
-element-copy-out-r : tie.Need-element-copy-out-r Inv-loop μ-loop
-element-copy-out-r c = omega (arith, c .before .before .loop .inv .walk .below _ (c .lowest32 .ensures .1), c .before .before .before .before .pre)
+earlier-requires : tie.Need-earlier-requires Inv-loop μ-loop
+earlier-requires c κs =
+    let head = c .before .before in
+    omega (arith, head .loop .inv .walk .below _ (c .lowest32 .ensures .1), head .before .before .before .before .pre)
 
 without-lowest32-requires : tie.Need-without-lowest32-requires Inv-loop μ-loop
 without-lowest32-requires c κs = pos-of-ne-zero (c .before .before .loop-test .taken)
@@ -38,8 +45,9 @@ loop-less c =
 
 loop-again : tie.Need-loop-again Inv-loop μ-loop
 loop-again c =
-    let low = c .before .before .lowest32 .ensures in
-    rw (c .without-lowest32 .ensures _ (low .1) (low .2)) (awaiting-step (c .before .before .lowest32 .result) (c .before .before .before .before .loop .inv))
+    let low = c .before .before .lowest32 in
+    let inv = c .before .before .before .before .loop .inv in
+    rw (c .without-lowest32 .ensures _ (low .ensures .1) (low .ensures .2), c .before .earlier .ensures) (awaiting-step (low .result) inv)
 
 returns : tie.Need-returns Inv-loop μ-loop
 returns c = awaiting-all (c .before .loop .inv) (c .loop-test .left)
@@ -50,11 +58,12 @@ awaited-spec =
     (tie.spec
     Inv-loop
     μ-loop
+    unplaced-requires
+    count-requires
     below32-requires
     loop-holds
     lowest32-requires
-    mul-r
-    element-copy-out-r
+    earlier-requires
     without-lowest32-requires
     loop-less
     loop-again

@@ -5,7 +5,6 @@ use mathlib.Core.Bool.{false}
 use borrow.Author.Tests.{leb-true, not-false}
 use Rattle.counting.proofs.Tests.{clash}
 use borrow.Author.Needs.{needs}
-use borrow.Author.Needs.{needs}
 use Rattle.branching.proofs.block_with.Statement.{statement}
 use Rattle.branching.proofs.block_with.Tie as tie
 

@@ -6,17 +6,17 @@ use borrow.Author.Needs.{needs}
 use Rattle.branching.proofs.blocked.Statement.{statement}
 use Rattle.branching.proofs.blocked.Tie as tie
 
+placed-requires : tie.Need-placed-requires
+placed-requires c κs = search needs
+
 returns : tie.Need-returns
 returns c = λ e. clash false e refl
 
-sub-if2 : tie.Need-sub-if2
-sub-if2 c = search needs
+sub-until : tie.Need-sub-until
+sub-until c = search needs
 
-mul-if2 : tie.Need-mul-if2
-mul-if2 c = search needs
-
-element-copy-out-if2 : tie.Need-element-copy-out-if2
-element-copy-out-if2 c = search needs
+until-requires : tie.Need-until-requires
+until-requires c κs = search needs
 
 returns-2 : tie.Need-returns-2
 returns-2 c = λ e. clash false e refl
@@ -34,10 +34,10 @@ pub blocked-spec : {M : Type 1} → statement M
 blocked-spec =
     tie.close
     (tie.spec
+    placed-requires
     returns
-    sub-if2
-    mul-if2
-    element-copy-out-if2
+    sub-until
+    until-requires
     returns-2
     awaited-requires
     ends-in-block-requires

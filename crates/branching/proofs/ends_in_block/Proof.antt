@@ -6,61 +6,61 @@ use Prim.Native.Nat.{ℕ, _-_, _≤_, zero-le}
 use native.Mathlib.Omega.{arith}
 use borrow.Author.Tests.{leb-true, not-false}
 use Rattle.counting.proofs.Tests.{clash}
-use Rattle.branching.proofs.Blocks.{Growing, growing-none, growing-step, growing-all}
+use Rattle.tables.specs.Part.{partIn}
+use Rattle.branching.proofs.Blocks.{placed-job, Growing, growing-none, growing-step, growing-all}
 use borrow.Author.Needs.{needs}
 use Rattle.branching.proofs.ends_in_block.Statement.{statement}
 use Rattle.branching.proofs.ends_in_block.Tie as tie
 
 abbrev Inv-loop : tie.InvT-loop
-Inv-loop minutes ends order by set placed start j found₀ latest₀ m₀ found latest m = (m ≤ placed) × Growing minutes ends order by set j found latest m
+Inv-loop jobs part settled set start j placed found₀ latest₀ m₀ found latest m =
+    (placed ≡ partIn part .placed) × ((m ≤ placed) × Growing jobs (partIn part) settled set j found latest m)
 
 abbrev μ-loop : tie.MeasureT-loop
-μ-loop minutes ends order by set placed start j found₀ latest₀ m₀ found latest m = placed - m
+μ-loop jobs part settled set start j placed found₀ latest₀ m₀ found latest m = placed - m
+
+placed-requires : tie.Need-placed-requires Inv-loop μ-loop
+placed-requires c κs = search needs
 
 loop-holds : tie.Need-loop-holds Inv-loop μ-loop
-loop-holds c = (zero-le, growing-none _ _ _ _ _ _)
+loop-holds c = (c .placed .ensures, (zero-le, growing-none _ _ _ _ _))
 
-element-copy-out-a : tie.Need-element-copy-out-a Inv-loop μ-loop
-element-copy-out-a c = search needs
+job-at-requires : tie.Need-job-at-requires Inv-loop μ-loop
+job-at-requires c κs = omega (arith, c .before .before .before .pre .placed, c .before .loop .inv .0, c .loop-test .taken)
 
-cast-a : tie.Need-cast-a Inv-loop μ-loop
-cast-a c = record { fits = omega (arith, c .before .before .before .pre .1 (c .before .before .loop .m) (c .before .loop-test .taken)) }
+end-requires : tie.Need-end-requires Inv-loop μ-loop
+end-requires c κs = placed-job (c .before .before .before .before .pre) (c .before .before .loop .inv .0) (c .before .loop-test .taken) (c .job-at .ensures)
 
 test32-requires : tie.Need-test32-requires Inv-loop μ-loop
-test32-requires c κs = omega (arith, c .before .before .before .pre .1 (c .before .before .loop .m) (c .before .loop-test .taken))
+test32-requires c κs =
+    let tested = c .before .before in
+    let low = placed-job (tested .before .before .before .pre) (tested .before .loop .inv .0) (tested .loop-test .taken) (c .before .job-at .ensures) in
+    omega arith
 
 mul-test32 : tie.Need-mul-test32 Inv-loop μ-loop
-mul-test32 c = record { fits = omega (arith, c .before .before .before .before .pre .1 (c .before .before .before .loop .m) (c .before .before .loop-test .taken)) }
+mul-test32 c =
+    let tested = c .before .before .before in
+    let low = placed-job (tested .before .before .before .pre) (tested .before .loop .inv .0) (tested .loop-test .taken) (c .before .before .job-at .ensures) in
+    record { fits = omega arith }
 
 element-copy-out-test32 : tie.Need-element-copy-out-test32 Inv-loop μ-loop
-element-copy-out-test32 c = c .before .before .before .before .pre .1 (c .before .before .before .loop .m) (c .before .before .loop-test .taken)
+element-copy-out-test32 c =
+    let tested = c .before .before .before in
+    placed-job (tested .before .before .before .pre) (tested .before .loop .inv .0) (tested .loop-test .taken) (c .before .before .job-at .ensures)
 
 test32-requires-2 : tie.Need-test32-requires-2 Inv-loop μ-loop
-test32-requires-2 c κs = omega (arith, c .before .before .before .before .before .pre .0 .1)
+test32-requires-2 c κs = omega (arith, c .before .before .before .before .before .before .before .pre .job)
 
-mul-block-with : tie.Need-mul-block-with Inv-loop μ-loop
-mul-block-with c = record { fits = omega (arith, c .before .before .before .before .before .before .pre .1 (c .before .before .before .before .before .loop .m) (c .before .before .before .before .loop-test .taken)) }
-
-element-copy-out-block-with : tie.Need-element-copy-out-block-with Inv-loop μ-loop
-element-copy-out-block-with c = c .before .before .before .before .before .before .pre .1 (c .before .before .before .before .before .loop .m) (c .before .before .before .before .loop-test .taken)
-
-mul-block-with-2 : tie.Need-mul-block-with-2 Inv-loop μ-loop
-mul-block-with-2 c = record { fits = omega (arith, c .before .before .before .before .before .before .before .pre .1 (c .before .before .before .before .before .before .loop .m) (c .before .before .before .before .before .loop-test .taken)) }
-
-element-copy-out-block-with-2 : tie.Need-element-copy-out-block-with-2 Inv-loop μ-loop
-element-copy-out-block-with-2 c = c .before .before .before .before .before .before .before .pre .1 (c .before .before .before .before .before .before .loop .m) (c .before .before .before .before .before .loop-test .taken)
+minutes-requires : tie.Need-minutes-requires Inv-loop μ-loop
+minutes-requires c κs =
+    let tested = c .before .before .before .before .before in
+    placed-job (tested .before .before .before .pre) (tested .before .loop .inv .0) (tested .loop-test .taken) (c .before .before .before .before .job-at .ensures)
 
 block-with-requires : tie.Need-block-with-requires Inv-loop μ-loop
 block-with-requires c κs = search needs
 
-mul-later : tie.Need-mul-later Inv-loop μ-loop
-mul-later c = record { fits = omega (arith, c .before .before .before .before .before .before .before .before .before .pre .1 (c .before .before .before .before .before .before .before .before .loop .m) (c .before .before .before .before .before .before .before .loop-test .taken)) }
-
-element-copy-out-later : tie.Need-element-copy-out-later Inv-loop μ-loop
-element-copy-out-later c = c .before .before .before .before .before .before .before .before .before .pre .1 (c .before .before .before .before .before .before .before .before .loop .m) (c .before .before .before .before .before .before .before .loop-test .taken)
-
-later-requires : tie.Need-later-requires Inv-loop μ-loop
-later-requires c κs = search needs
+larger-requires : tie.Need-larger-requires Inv-loop μ-loop
+larger-requires c κs = search needs
 
 add-m : tie.Need-add-m Inv-loop μ-loop
 add-m c = search needs
@@ -70,11 +70,25 @@ loop-less c = search needs
 
 loop-again : tie.Need-loop-again Inv-loop μ-loop
 loop-again c =
-    let found = c .before .before .block-with .ensures in (
-      omega (arith, c .before .before .before .before .before .before .before .before .before .loop-test .taken),
-      rw (c .later .ensures) (growing-step _ _ refl (c .before .before .before .before .before .before .before .before .before .before .loop .inv .1) (λ e.
-          let s = found e in
-          (sym (c .before .before .before .before .before .before .before .test32 .ensures) ∙ s .0, ⊎-elim inl (λ q. inr (sym (c .before .before .before .before .before .test322 .ensures) ∙ q .0, q .1)) (s .1)))),
+    let tested = c .before .before .before .before .before .before .before .before in
+    let a = tested .before .before .before .args in
+    let loop = tested .before .loop in
+    let at = c .before .before .before .before .before .before .before .job-at in
+    let end = c .before .before .before .before .before .before .end in
+    let waited = c .before .before .before .before .before .test32 in
+    let settled = c .before .before .before .test322 in
+    let more = c .before .block-with in (
+      loop .inv .0,
+      (
+        omega (arith, tested .loop-test .taken),
+        rw (c .larger .ensures)
+            (growing-step (a .jobs .now) (partIn (a .part .now)) (a .settled .now) (a .set) (a .j) (loop .found) (loop .latest) (loop .m)
+            (at .result) (end .result) (more .result) (at .ensures) (end .ensures) (loop .inv .1 .1) (λ e.
+            let s = more .ensures e in (
+              sym (waited .ensures) ∙ s .0,
+              ⊎-elim inl (λ q. inr (sym (settled .ensures) ∙ q .0, rw (c .before .before .minutes .ensures) at (q .1))) (s .1),
+            ))),
+      ),
     )
 
 returns : tie.Need-returns Inv-loop μ-loop
@@ -82,12 +96,14 @@ returns c = λ e. clash false e refl
 
 returns-2 : tie.Need-returns-2 Inv-loop μ-loop
 returns-2 c = λ e.
-    let a = c .before .before .before .args in
+    let a = c .before .before .before .before .args in
+    let p = partIn (a .part .now) in
     let loop = c .before .before .loop in
-    let same : loop .m ≡ a .placed = omega (arith, loop .inv .0, c .before .loop-test .left) in
-    let grown = subst (λ (m : ℕ). Growing (a .minutes .now) (a .ends .now) (a .order .now) (a .by .now) (a .set) (a .j) (loop .found)
-    (loop .latest) m) same (loop .inv .1) in
-    growing-all grown (not-false _ (c .if1 .left)) (leb-true _ _ e)
+    let same : loop .m ≡ p .placed = omega (arith, loop .inv .0, loop .inv .1 .0, c .before .loop-test .left) in
+    let grown = subst (λ (m : ℕ). Growing (a .jobs .now) p (a .settled .now) (a .set) (a .j) (loop .found) (loop .latest) m) same
+    (loop .inv .1 .1) in
+    growing-all (a .jobs .now) p (a .settled .now) (a .set) (a .j) (loop .found) (loop .latest) (a .start) grown
+    (not-false _ (c .if1 .left)) (leb-true _ _ e)
 
 pub ends-in-block-spec : {M : Type 1} → statement M
 ends-in-block-spec =
@@ -95,21 +111,17 @@ ends-in-block-spec =
     (tie.spec
     Inv-loop
     μ-loop
+    placed-requires
     loop-holds
-    element-copy-out-a
-    cast-a
+    job-at-requires
+    end-requires
     test32-requires
     mul-test32
     element-copy-out-test32
     test32-requires-2
-    mul-block-with
-    element-copy-out-block-with
-    mul-block-with-2
-    element-copy-out-block-with-2
+    minutes-requires
     block-with-requires
-    mul-later
-    element-copy-out-later
-    later-requires
+    larger-requires
     add-m
     loop-less
     loop-again

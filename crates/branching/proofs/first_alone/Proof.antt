@@ -7,10 +7,10 @@ use Rattle.branching.proofs.first_alone.Statement.{statement}
 use Rattle.branching.proofs.first_alone.Tie as tie
 
 abbrev Inv-loop : tie.InvT-loop
-Inv-loop related at least set jobs rest₀ rest = Walk set jobs rest
+Inv-loop prepared at least set count todo₀ todo = Walk set count todo
 
 abbrev μ-loop : tie.MeasureT-loop
-μ-loop related at least set jobs rest₀ rest = ones rest
+μ-loop prepared at least set count todo₀ todo = ones todo
 
 below32-requires : tie.Need-below32-requires Inv-loop μ-loop
 below32-requires c κs = omega (arith, c .pre)
@@ -28,7 +28,9 @@ element-copy-out-alone-at : tie.Need-element-copy-out-alone-at Inv-loop μ-loop
 element-copy-out-alone-at c = omega (arith, c .before .before .loop .inv .below _ (c .lowest32 .ensures .1), c .before .before .before .before .pre)
 
 alone-at-requires : tie.Need-alone-at-requires Inv-loop μ-loop
-alone-at-requires c κs = omega (arith, c .before .before .before .loop .inv .below _ (c .before .lowest32 .ensures .1), c .before .before .before .before .before .pre)
+alone-at-requires c κs =
+    let head = c .before .before .before in
+    omega (arith, head .loop .inv .below _ (c .before .lowest32 .ensures .1), head .before .before .pre)
 
 returns : tie.Need-returns Inv-loop μ-loop
 returns c = λ l. c .before .alone-at .ensures (c .if1 .taken)

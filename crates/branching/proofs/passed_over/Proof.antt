@@ -2,31 +2,42 @@
 use mathlib.Core.Path.{sym, _∙_}
 use mathlib.Core.Logic.{inl, inr}
 use native.Mathlib.Omega.{arith}
+use borrow.Author.Needs.{needs}
 use Rattle.branching.proofs.passed_over.Statement.{statement}
 use Rattle.branching.proofs.passed_over.Tie as tie
 
 alike-tried-requires : tie.Need-alike-tried-requires
-alike-tried-requires c κs = c .pre .0 .1 .1
+alike-tried-requires c κs = search needs
 
 returns : tie.Need-returns
 returns c = λ e. inl (c .before .alike-tried .ensures (c .if1 .taken))
 
+last-requires : tie.Need-last-requires
+last-requires c κs = search needs
+
 test32-requires : tie.Need-test32-requires
-test32-requires c κs = omega (arith, c .before .before .before .pre .0 .1 .1)
+test32-requires c κs = search needs
 
 returns-2 : tie.Need-returns-2
-returns-2 c = λ e. inr (inl (c .before .before .if2 .taken, sym (c .before .test32 .ensures) ∙ c .if3 .taken))
+returns-2 c = λ e.
+    let start = c .before .before .if2 .taken ∙ c .before .before .before .last .ensures in
+    inr (inl (start, sym (c .before .test32 .ensures) ∙ c .if3 .taken))
+
+count-requires : tie.Need-count-requires
+count-requires c κs = search needs
 
 swapped-requires : tie.Need-swapped-requires
 swapped-requires c κs =
-    let pre = c .before .before .before .pre .0 in
-    (pre .0, pre .1 .1)
+    let pre = c .before .before .before .before .before .pre in
+    (omega (arith, c .count .ensures, pre .few), pre .job)
 
 returns-3 : tie.Need-returns-3
-returns-3 c = λ e. inr (inr (inl (c .before .swapped .ensures (c .if4 .taken))))
+returns-3 c = λ e.
+    let behind = c .before .swapped .ensures (c .if4 .taken) in
+    inr (inr (inl (rw (c .before .before .count .ensures) at behind)))
 
 blocked-requires : tie.Need-blocked-requires
-blocked-requires c κs = c .before .before .before .before .before .pre
+blocked-requires c κs = search needs
 
 returns-4 : tie.Need-returns-4
 returns-4 c = λ e. inr (inr (inr (c .blocked .ensures e)))
@@ -37,8 +48,10 @@ passed-over-spec =
     (tie.spec
     alike-tried-requires
     returns
+    last-requires
     test32-requires
     returns-2
+    count-requires
     swapped-requires
     returns-3
     blocked-requires

@@ -1,8 +1,8 @@
 -- `branching::starts_behind` meets its contract.
 use mathlib.Core.Path.{refl, sym, _∙_}
 use mathlib.Core.Bool.{false}
-use borrow.Author.Needs.{needs}
 use Rattle.counting.proofs.Tests.{clash}
+use borrow.Author.Needs.{needs}
 use Rattle.branching.proofs.starts_behind.Statement.{statement}
 use Rattle.branching.proofs.starts_behind.Tie as tie
 
@@ -20,7 +20,9 @@ test32-requires-2 c κs = search needs
 
 returns-3 : tie.Need-returns-3
 returns-3 c = λ e.
-    (c .before .before .before .if1 .left, (sym (c .before .before .test32 .ensures) ∙ c .before .if2 .left, sym (c .test322 .ensures) ∙ e))
+    let placed = sym (c .before .before .test32 .ensures) ∙ c .before .if2 .left in
+    (c .before .before .before .if1 .left, (placed, sym (c .test322 .ensures) ∙ e))
 
 pub starts-behind-spec : {M : Type 1} → statement M
-starts-behind-spec = tie.close (tie.spec returns test32-requires returns-2 test32-requires-2 returns-3)
+starts-behind-spec =
+    tie.close (tie.spec returns test32-requires returns-2 test32-requires-2 returns-3)

@@ -1,27 +1,26 @@
 -- `candidates::next_choice` meets its contract.
 use mathlib.Core.Path.{refl}
+use Prim.Native.Nat.{_%_}
 use native.Mathlib.Omega.{arith}
 use native.Mathlib.Nat.{pos-of-ne-zero}
 use lib.Count.{ones}
-use lib.ListN.{getD}
 use Rattle.bits.proofs.Walks.{walk-less}
 use Rattle.candidates.proofs.Choices.{Choosing, choosing-none, choosing-step, choosing-all}
+use borrow.Author.Needs.{needs}
 use Rattle.candidates.proofs.next_choice.Statement.{statement}
 use Rattle.candidates.proofs.next_choice.Tie as tie
 
 abbrev Inv-loop : tie.InvT-loop
-Inv-loop at weights left jobs c₀ rest₀ c rest = Choosing at left jobs rest (c .job) (c .rank)
+Inv-loop prepared at set count c₀ todo₀ c todo = Choosing at set count todo (c .job) (c .rank)
 
 abbrev μ-loop : tie.MeasureT-loop
-μ-loop at weights left jobs c₀ rest₀ c rest = ones rest
+μ-loop prepared at set count c₀ todo₀ c todo = ones todo
 
 below32-requires : tie.Need-below32-requires Inv-loop μ-loop
 below32-requires c κs = omega (arith, c .pre)
 
 loop-holds : tie.Need-loop-holds Inv-loop μ-loop
-loop-holds c =
-    let a = c .before .args in
-    rw (c .below32 .ensures) (choosing-none (a .at .now) (a .left) (a .jobs))
+loop-holds c = rw (c .below32 .ensures) (choosing-none (c .before .args .at .now) (c .before .args .set) (c .before .args .count))
 
 lowest32-requires : tie.Need-lowest32-requires Inv-loop μ-loop
 lowest32-requires c κs = pos-of-ne-zero (c .loop-test .taken)
@@ -32,17 +31,14 @@ mul-rank-of c = record { fits = omega (arith, c .lowest32 .ensures .0) }
 element-copy-out-rank-of : tie.Need-element-copy-out-rank-of Inv-loop μ-loop
 element-copy-out-rank-of c = omega (arith, c .before .before .loop .inv .walk .below _ (c .lowest32 .ensures .1), c .before .before .before .before .pre)
 
-mul-rank-of-2 : tie.Need-mul-rank-of-2 Inv-loop μ-loop
-mul-rank-of-2 c = record { fits = omega (arith, c .before .lowest32 .ensures .0) }
-
-element-copy-out-rank-of-2 : tie.Need-element-copy-out-rank-of-2 Inv-loop μ-loop
-element-copy-out-rank-of-2 c = omega (arith, c .before .before .before .loop .inv .walk .below _ (c .before .lowest32 .ensures .1), c .before .before .before .before .before .pre)
+tail-requires : tie.Need-tail-requires Inv-loop μ-loop
+tail-requires c κs = omega (arith, c .before .before .before .loop .inv .walk .below _ (c .before .lowest32 .ensures .1), c .before .before .before .before .before .pre)
 
 rank-of-requires : tie.Need-rank-of-requires Inv-loop μ-loop
-rank-of-requires c κs = tt
+rank-of-requires c κs = search needs
 
 choose-requires : tie.Need-choose-requires Inv-loop μ-loop
-choose-requires c κs = tt
+choose-requires c κs = search needs
 
 without-lowest32-requires : tie.Need-without-lowest32-requires Inv-loop μ-loop
 without-lowest32-requires c κs = pos-of-ne-zero (c .before .before .before .before .before .loop-test .taken)
@@ -54,23 +50,24 @@ loop-less c =
 
 loop-again : tie.Need-loop-again Inv-loop μ-loop
 loop-again c =
-    let a = c .before .before .before .before .before .before .before .before .before .args in
+    let past = c .before .before .before .before .before .before .before .before in
+    let a = past .before .args in
     let loop = c .before .before .before .before .before .before .before .loop in
     let j = c .before .before .before .before .before .lowest32 in
     let rank = c .before .before .rank-of .ensures in
     let choose = c .before .choose in
-    rw (c .without-lowest32 .ensures _ (j .ensures .1) (j .ensures .2)) (choosing-step (a .at .now) (a .left) (a .jobs) (loop .rest) (j .result)
-    (getD (a .weights .now) (j .result) 0) (loop .c .job) (loop .c .rank) (choose .result .job) (choose .result .rank) (rank .1) (loop .inv)
-    (j .ensures .1) (rw (rank .0) at (choose .ensures)))
+    rw (c .without-lowest32 .ensures _ (j .ensures .1) (j .ensures .2))
+    (choosing-step (a .at .now) (a .set) (a .count) (loop .todo) (j .result) (c .before .before .before .tail .result % 65536) (loop .c .job) (loop .c .rank)
+    (choose .result .job) (choose .result .rank) (rank .1) (loop .inv) (j .ensures .1) (rw (rank .0) at (choose .ensures)))
 
-cast-t19 : tie.Need-cast-t19 Inv-loop μ-loop
-cast-t19 c = record { fits = omega (arith, c .before .before .loop .inv .low) }
+cast-t16 : tie.Need-cast-t16 Inv-loop μ-loop
+cast-t16 c = search needs
 
 returns : tie.Need-returns Inv-loop μ-loop
 returns c =
     let a = c .before .before .before .before .args in
     let loop = c .before .before .loop in
-    choosing-all (a .at .now) (a .left) (a .jobs) (loop .rest) (loop .c .rank) _ (loop .inv) (c .before .loop-test .left) refl
+    choosing-all (a .at .now) (a .set) (a .count) (loop .todo) (loop .c .rank) _ (loop .inv) (c .before .loop-test .left) refl
 
 pub next-choice-spec : {M : Type 1} → statement M
 next-choice-spec =
@@ -83,12 +80,11 @@ next-choice-spec =
     lowest32-requires
     mul-rank-of
     element-copy-out-rank-of
-    mul-rank-of-2
-    element-copy-out-rank-of-2
+    tail-requires
     rank-of-requires
     choose-requires
     without-lowest32-requires
     loop-less
     loop-again
-    cast-t19
+    cast-t16
     returns)

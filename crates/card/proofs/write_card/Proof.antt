@@ -1,10 +1,10 @@
 -- `card::write_card` meets its contract.
-use mathlib.Core.Path.{ap, ap₂, _∙_}
+use mathlib.Core.Path.{_≡_, ap₂, _∙_}
 use mathlib.Core.List.{List, _++_}
 use Prim.Native.Nat.{ℕ, _+_, _*_}
 use native.Mathlib.Omega.{arith}
 use lib.ListN.{drop}
-use Rattle.card.specs.Card.{cardBytes}
+use Rattle.card.specs.Card.{rowSize, trailerSize, cardSize, cardBytes}
 use Rattle.card.proofs.Parts.{three-parts}
 use borrow.Author.Needs.{needs}
 use Rattle.card.proofs.write_card.Statement.{statement}
@@ -13,8 +13,8 @@ use Rattle.card.proofs.write_card.Tie as tie
 mul-rows : tie.Need-mul-rows
 mul-rows c = search needs
 
-mul-orders : tie.Need-mul-orders
-mul-orders c = search needs
+add-orders : tie.Need-add-orders
+add-orders c = search needs
 
 add-all : tie.Need-add-all
 add-all c = search needs
@@ -61,22 +61,25 @@ same-length c = search needs
 returns : tie.Need-returns
 unfolding cardBytes
 returns c =
-    let a = c .before .before .before .before .before .before .before .before .before .before .before .before .before .args in
+    let past = c .before .before .before .before .before .before .before .before in
+    let a = past .before .before .before .before .before .args in
     let s = a .card .now in
-    let n = a .jobs in
-    let x = c .before .before .before .before .before .before .before .before .before .before .write-rows in
+    let n = a .count in
+    let rows = rowSize * n in
+    let x = past .before .before .write-rows in
     let y = c .before .before .before .before .before .before .write-order in
     let z = c .before .before .write-trailer in
-    three-parts s (x .last .0) (y .last .0) (z .last .0) (12 * n) (13 * n) (13 * n + 8)
+    let size : rows + n + trailerSize ≡ cardSize n = omega arith in
+    three-parts s (x .last .0) (y .last .0) (z .last .0) rows (rows + n) (rows + n + trailerSize)
     (omega (arith, x .kept .0)) (omega (arith, y .kept .0)) (omega (arith, z .kept .0)) (omega arith) (omega arith)
-    ∙ ap (λ (l : List ℕ). l ++ drop (13 * n + 8) s) (ap₂ _++_ (x .ensures) (ap₂ _++_ (y .ensures) (z .ensures)))
+    ∙ ap₂ (λ (l : List ℕ) (e : ℕ). l ++ drop e s) (ap₂ _++_ (x .ensures) (ap₂ _++_ (y .ensures) (z .ensures))) size
 
 pub write-card-spec : {M : Type 1} → statement M
 write-card-spec =
     tie.close
     (tie.spec
     mul-rows
-    mul-orders
+    add-orders
     add-all
     sub-write-rows
     part-write-rows-start

@@ -12,10 +12,10 @@ use Rattle.card.proofs.write_order.Statement.{statement}
 use Rattle.card.proofs.write_order.Tie as tie
 
 abbrev Inv-loop : tie.InvT-loop
-Inv-loop part₀ order jobs k₀ part k = (k ≤ jobs) × (part ≡ take k order ++ drop k part₀) × (length part ≡ length part₀)
+Inv-loop part₀ order count k₀ part k = (k ≤ count) × (part ≡ take k order ++ drop k part₀) × (length part ≡ length part₀)
 
 abbrev μ-loop : tie.MeasureT-loop
-μ-loop part₀ order jobs k₀ part k = jobs - k
+μ-loop part₀ order count k₀ part k = count - k
 
 loop-holds : tie.Need-loop-holds Inv-loop μ-loop
 loop-holds c = (search needs, refl, refl)
@@ -60,7 +60,7 @@ returns c =
     let loop = c .before .loop in
     let s = args .part .now in
     let o = args .order .now in
-    let k : loop .k ≡ args .jobs = omega arith in
+    let k : loop .k ≡ args .count = omega arith in
     loop .inv .1 ∙ whole s (take (loop .k) o) (loop .k) (omega arith) ∙ ap (λ (i : ℕ). take i o) k
 
 pub write-order-spec : {M : Type 1} → statement M

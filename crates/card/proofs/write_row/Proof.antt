@@ -1,6 +1,6 @@
 -- `card::write_row` meets its contract.
 use native.Mathlib.Omega.{arith}
-use Rattle.card.specs.Card.{rowBytes}
+use Rattle.card.specs.Card.{rowSize, rowEnd, rowModules, rowBytes}
 use Rattle.card.proofs.Joins.{three-numbers}
 use borrow.Author.Needs.{needs}
 use Rattle.card.proofs.write_row.Statement.{statement}
@@ -48,14 +48,16 @@ same-length c = search needs
 returns : tie.Need-returns
 unfolding rowBytes
 returns c =
-    let pre = c .before .before .before .before .before .before .before .before .before .before .before .before .before .pre in
-    let a = c .before .before .before .before .before .before .before .before .before .before .before .before .before .args in
-    let x = c .before .before .before .before .before .before .before .before .before .before .write-number in
+    let at = c .before .before .before .before .before .before .before .before in
+    let start = at .before .before .before .before .before in
+    let pre = start .pre in
+    let a = start .args in
+    let x = at .before .before .write-number in
     let y = c .before .before .before .before .before .before .write-number2 in
     let z = c .before .before .write-number3 in
-    three-numbers (a .part .now) (x .last .0) (y .last .0) (z .last .0) _ _ _ (a .start) (a .end) (a .modules) 2 4 12
+    three-numbers (a .part .now) (x .last .0) (y .last .0) (z .last .0) _ _ _ (a .start) (a .end) (a .modules) rowEnd rowModules rowSize
     (x .ensures) (y .ensures) (z .ensures) (omega (arith, x .kept .0)) (omega (arith, y .kept .0)) (omega (arith, z .kept .0))
-    (omega arith) (omega arith) (pre)
+    (omega arith) (omega arith) pre
 
 pub write-row-spec : {M : Type 1} → statement M
 write-row-spec =

@@ -7,6 +7,7 @@ use lib.ListN.{length, drop}
 use borrow.Rule.Slice.PartMut.{putMid, same-len-mid}
 use Rattle.counting.specs.Counting.{joined}
 use Rattle.counting.proofs.Joins.{joined-length, joined-more}
+use Rattle.card.specs.Card.{rowSize}
 use Rattle.card.specs.Rows.{slotRow}
 use Rattle.card.proofs.Parts.{part-more, whole}
 use Rattle.card.proofs.Joins.{row-length}
@@ -15,10 +16,10 @@ use Rattle.card.proofs.write_rows.Statement.{statement}
 use Rattle.card.proofs.write_rows.Tie as tie
 
 abbrev Inv-loop : tie.InvT-loop
-Inv-loop part₀ jobs slots j₀ part j = (j ≤ jobs) × (part ≡ joined j (slotRow slots) ++ drop (12 * j) part₀) × (length part ≡ length part₀)
+Inv-loop part₀ count slots j₀ part j = (j ≤ count) × (part ≡ joined j (slotRow slots) ++ drop (rowSize * j) part₀) × (length part ≡ length part₀)
 
 abbrev μ-loop : tie.MeasureT-loop
-μ-loop part₀ jobs slots j₀ part j = jobs - j
+μ-loop part₀ count slots j₀ part j = count - j
 
 loop-holds : tie.Need-loop-holds Inv-loop μ-loop
 unfolding joined
@@ -68,20 +69,21 @@ loop-less c = search needs
 
 loop-again : tie.Need-loop-again Inv-loop μ-loop
 loop-again c =
-    let args = c .before .before .before .before .before .before .before .before .before .before .args in
-    let loop = c .before .before .before .before .before .before .before .before .loop in
+    let at = c .before .before .before .before .before .before .before .before in
+    let args = at .before .before .args in
+    let loop = at .loop in
     let s = args .part .now in
     let f : ℕ → List ℕ = slotRow (args .t2) in
     let j = loop .j in
     let w = c .before .before .write-row in
-    let size = joined-length j 12 f (λ i l. row-length _ _ _) in
-    let next : 12 * j + 12 ≡ 12 * (j + 1) = omega arith in (
+    let size = joined-length j rowSize f (λ i l. row-length _ _ _) in
+    let next : rowSize * j + rowSize ≡ rowSize * (j + 1) = omega arith in (
       omega arith,
-      ap (λ (l : List ℕ). putMid (12 * j) (12 * j + 12 - 12 * j) l (w .last .0)) (loop .inv .1)
-          ∙ part-more s (joined j f) (w .last .0) (12 * j) (12 * j + 12) size (omega (arith, w .kept .0)) (omega arith)
+      ap (λ (l : List ℕ). putMid (rowSize * j) (rowSize * j + rowSize - rowSize * j) l (w .last .0)) (loop .inv .1)
+          ∙ part-more s (joined j f) (w .last .0) (rowSize * j) (rowSize * j + rowSize) size (omega (arith, w .kept .0)) (omega arith)
           ∙ ap₂ (λ (x : List ℕ) (k : ℕ). (joined j f ++ x) ++ drop k s) (w .ensures) next
-          ∙ ap (λ (l : List ℕ). l ++ drop (12 * (j + 1)) s) (joined-more j f),
-      same-len-mid (12 * j) (12 * j + 12 - 12 * j) (loop .part) (w .last .0) (w .kept .0) ∙ loop .inv .2,
+          ∙ ap (λ (l : List ℕ). l ++ drop (rowSize * (j + 1)) s) (joined-more j f),
+      same-len-mid (rowSize * j) (rowSize * j + rowSize - rowSize * j) (loop .part) (w .last .0) (w .kept .0) ∙ loop .inv .2,
     )
 
 same-length : tie.Need-same-length Inv-loop μ-loop
@@ -95,8 +97,8 @@ returns c =
     let loop = c .before .loop in
     let s = args .part .now in
     let f : ℕ → List ℕ = slotRow (args .t2) in
-    let e : loop .j ≡ args .jobs = omega (arith, loop .inv .0, c .loop-test .left) in
-    loop .inv .1 ∙ whole s (joined (loop .j) f) (12 * loop .j) (omega arith) ∙ ap (λ (i : ℕ). joined i f) e
+    let e : loop .j ≡ args .count = omega (arith, loop .inv .0, c .loop-test .left) in
+    loop .inv .1 ∙ whole s (joined (loop .j) f) (rowSize * loop .j) (omega arith) ∙ ap (λ (i : ℕ). joined i f) e
 
 pub write-rows-spec : {M : Type 1} → statement M
 write-rows-spec =

@@ -1,7 +1,6 @@
 -- `card::write_trailer` meets its contract.
-use Prim.Native.Nat.{_*_}
 use native.Mathlib.Omega.{arith}
-use Rattle.card.specs.Card.{trailerBytes}
+use Rattle.card.specs.Card.{trailerSize, trailerEnd, trailerCount, orderAt, trailerBytes}
 use Rattle.card.proofs.Joins.{three-numbers}
 use borrow.Author.Needs.{needs}
 use Rattle.card.proofs.write_trailer.Statement.{statement}
@@ -52,12 +51,14 @@ same-length c = search needs
 returns : tie.Need-returns
 unfolding trailerBytes
 returns c =
-    let pre = c .before .before .before .before .before .before .before .before .before .before .before .before .before .pre in
-    let a = c .before .before .before .before .before .before .before .before .before .before .before .before .before .args in
-    let x = c .before .before .before .before .before .before .before .before .before .before .write-number in
+    let at = c .before .before .before .before .before .before .before .before in
+    let start = at .before .before .before .before .before in
+    let pre = start .pre in
+    let a = start .args in
+    let x = at .before .before .write-number in
     let y = c .before .before .before .before .before .before .write-number2 in
     let z = c .before .before .write-number3 in
-    three-numbers (a .part .now) (x .last .0) (y .last .0) (z .last .0) _ _ _ (12 * a .jobs) (a .end) (a .jobs) 4 6 8
+    three-numbers (a .part .now) (x .last .0) (y .last .0) (z .last .0) _ _ _ (orderAt (a .count)) (a .end) (a .count) trailerEnd trailerCount trailerSize
     (x .ensures) (y .ensures) (z .ensures) (omega (arith, x .kept .0)) (omega (arith, y .kept .0)) (omega (arith, z .kept .0))
     (omega arith) (omega arith) (pre .1)
 

@@ -1,11 +1,10 @@
 -- `entries::entry_ahead` meets its contract.
 use Prim.Native.Nat.{ℕ, _+_, _-_, _*_, _≤_, _<_, max, zero-le}
-use mathlib.Core.Path.{_≡_, sym, subst, _∙_}
-use mathlib.Core.Logic.{⊎-elim}
+use mathlib.Core.Path.{_≡_, sym, _∙_}
 use native.Mathlib.Omega.{arith}
+use borrow.Author.Count.{below-more}
 use borrow.Author.Tests.{eqb-true}
 use lib.ListN.{getD}
-use Rattle.counting.proofs.Tests.{less-or-not}
 use Rattle.words.specs.Words.{u16At}
 use Rattle.entries.proofs.Laws.{no, ahead-in}
 use borrow.Author.Needs.{needs}
@@ -14,11 +13,11 @@ use Rattle.entries.proofs.entry_ahead.Tie as tie
 
 -- where none is late so far, the last start is not, nor is any end so far
 abbrev Inv-loop : tie.InvT-loop
-Inv-loop group way ends jobs unplaced l at late₀ i₀ late i = (i ≤ jobs) × (late ≤ i + 1)
-    × (late ≡ 0 → (u16At group at ≤ l) × ((k : ℕ) → k < i → u16At group (at + 2 + 2 * k) ≤ max (getD ends k 0) l))
+Inv-loop group way part jobs unplaced l at late₀ i₀ late i = (i ≤ jobs) × (late ≤ i + 1)
+    × (late ≡ 0 → (u16At group at ≤ l) × ((k : ℕ) → k < i → u16At group (at + 2 + 2 * k) ≤ max (getD part k 0) l))
 
 abbrev μ-loop : tie.MeasureT-loop
-μ-loop group way ends jobs unplaced l at late₀ i₀ late i = jobs - i
+μ-loop group way part jobs unplaced l at late₀ i₀ late i = jobs - i
 
 mul-read32 : tie.Need-mul-read32 Inv-loop μ-loop
 mul-read32 c = search needs
@@ -38,12 +37,12 @@ add-at c = search needs
 read16-requires : tie.Need-read16-requires Inv-loop μ-loop
 read16-requires c κs = search needs
 
-later-requires : tie.Need-later-requires Inv-loop μ-loop
-later-requires c κs = search needs
+after-both-requires : tie.Need-after-both-requires Inv-loop μ-loop
+after-both-requires c κs = search needs
 
 loop-holds : tie.Need-loop-holds Inv-loop μ-loop
 loop-holds c =
-    let last = c .later .ensures in
+    let last = c .after-both .ensures in
     (zero-le, last .0, λ e. (omega (arith, last .1 e, c .before .read16 .ensures), λ k h. absurd (omega arith)))
 
 add-read16 : tie.Need-add-read16 Inv-loop μ-loop
@@ -58,14 +57,11 @@ add-read16-2 c = search needs
 read16-requires-2 : tie.Need-read16-requires-2 Inv-loop μ-loop
 read16-requires-2 c κs = search needs
 
-mul-later : tie.Need-mul-later Inv-loop μ-loop
-mul-later c = search needs
+end-requires : tie.Need-end-requires Inv-loop μ-loop
+end-requires c κs = search needs
 
-element-copy-out-later : tie.Need-element-copy-out-later Inv-loop μ-loop
-element-copy-out-later c = search needs
-
-later-requires-2 : tie.Need-later-requires-2 Inv-loop μ-loop
-later-requires-2 c κs = search needs
+after-both-requires-2 : tie.Need-after-both-requires-2 Inv-loop μ-loop
+after-both-requires-2 c κs = search needs
 
 add-late : tie.Need-add-late Inv-loop μ-loop
 add-late c = search needs
@@ -78,39 +74,32 @@ loop-less c = search needs
 
 loop-again : tie.Need-loop-again Inv-loop μ-loop
 loop-again c =
-    let one = c .later2 .ensures in
-    let read162 = c .before .before .read162 in
-    let loop = c .before .before .before .before .loop in
-    let v = loop .inv in
-    let i = loop .i in
-    let a = c .before .before .before .before .before .before .before .before .before .before .args in
+    let one = c .after-both2 .ensures in
+    let read = c .before .before in
+    let loop = read .before .before .loop in
+    let a = read .before .before .before .before .before .before .before .before .args in
     let at = 64 + a .way * 42 in (
       omega arith,
-      omega (arith, v .1, one .0),
+      omega (arith, loop .inv .1, one .0),
       λ e.
-          let none : loop .late ≡ 0 = omega arith in
-          let so = v .2 none in
-          let zero : c .later2 .result ≡ 0 = omega arith in
-          let here : u16At (a .group .now) (at + 2 + 2 * i) ≤ max (getD (a .ends .now) i 0) (a .l) = rw (read162 .ensures) at (one .1 zero) in (
-            so .0,
-            λ k h. ⊎-elim (λ (x : k < i). so .1 k x) (λ (x : i ≤ k).
-                let q : k ≡ i = omega arith in
-                subst (λ (z : ℕ). u16At (a .group .now) (at + 2 + 2 * z) ≤ max (getD (a .ends .now) z 0) (a .l)) (sym q) here)
-                (less-or-not k i),
-          ),
+          let so = loop .inv .2 (omega arith) in
+          let zero : c .after-both2 .result ≡ 0 = omega arith in
+          let here : u16At (a .group .now) (at + 2 + 2 * loop .i) ≤ max (getD (a .part .now) (loop .i) 0) (a .l) =
+          rw (read .read162 .ensures, c .before .end .ensures) at (one .1 zero) in
+          (so .0, below-more _ _ (so .1) here),
     )
 
 returns-2 : tie.Need-returns-2 Inv-loop μ-loop
 returns-2 c =
     let loop = c .before .loop in
-    let if1 = c .before .before .before .before .if1 in
-    let read32 = c .before .before .before .before .before .read32 in
-    let start = c .before .before .before .before .before .before .before in
+    let else1 = c .before .before .before .before in
+    let read32 = else1 .before .read32 in
+    let start = else1 .before .before .before in
     let a = start .args in
     λ e.
     let so = loop .inv .2 (eqb-true _ _ e) in
-    ahead-in (a .group .now) (a .way) (a .jobs) (a .ends .now) (a .unplaced) (a .l) (start .pre .2) (sym (read32 .ensures) ∙ if1 .left)
-    (so .0) (λ i h. so .1 i (omega arith))
+    ahead-in (a .group .now) (a .way) (a .jobs) (a .part .now) (a .unplaced) (a .l) (start .pre .2)
+    (sym (read32 .ensures) ∙ else1 .if1 .left) (so .0) (λ i h. so .1 i (omega arith))
 
 pub entry-ahead-spec : {M : Type 1} → statement M
 entry-ahead-spec =
@@ -124,15 +113,14 @@ entry-ahead-spec =
     mul-at
     add-at
     read16-requires
-    later-requires
+    after-both-requires
     loop-holds
     add-read16
     mul-read16
     add-read16-2
     read16-requires-2
-    mul-later
-    element-copy-out-later
-    later-requires-2
+    end-requires
+    after-both-requires-2
     add-late
     add-i
     loop-less

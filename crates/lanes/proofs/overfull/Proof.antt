@@ -1,7 +1,8 @@
 -- `lanes::overfull` meets its contract.
 use native.Mathlib.Omega.{arith}
-use mathlib.Core.Path.{refl}
+use mathlib.Core.Path.{refl, ap, _∙_}
 use mathlib.Core.Bool.{false}
+use Prim.Native.Nat.{ℕ, _/_}
 use borrow.Author.Tests.{ltb-true}
 use Rattle.counting.proofs.Tests.{clash}
 use Rattle.lanes.proofs.Laws.{serving, overfull-by}
@@ -12,41 +13,51 @@ use Rattle.lanes.proofs.overfull.Tie as tie
 returns : tie.Need-returns
 returns c = λ e. clash false e refl
 
-element-copy-out-steps : tie.Need-element-copy-out-steps
-element-copy-out-steps c = search needs
+step-of-requires : tie.Need-step-of-requires
+step-of-requires c κs = search needs
 
 steps-requires : tie.Need-steps-requires
-steps-requires c κs = search needs
+steps-requires c κs = omega (arith, c .before .before .pre .0 .1 .step-some, c .step-of .ensures)
 
 returns-2 : tie.Need-returns-2
 returns-2 c = λ e. clash false e refl
 
 served-on-requires : tie.Need-served-on-requires
 served-on-requires c κs =
-    let pre = c .before .before .before .before .pre in
-    let if1 = c .before .before .before .if1 in
     let steps = c .before .steps in
-    serving (pre .0 .1) (pre .1) (pre .0 .0 .most) (if1 .left) (omega (arith, steps .ensures, c .if2 .left))
+    let step-of = c .before .before .step-of in
+    let if1 = c .before .before .before .if1 in
+    let args = c .before .before .before .before .args in
+    let pre = c .before .before .before .before .pre in
+    let place = steps .ensures ∙ ap (λ (s : ℕ). args .target / s) (step-of .ensures) in
+    serving _ (pre .0 .1) (pre .1) (pre .0 .0 .most) (if1 .left) (omega (arith, place, c .if2 .left))
 
 set-worth-requires : tie.Need-set-worth-requires
-set-worth-requires c κs = search needs
+set-worth-requires c κs =
+    let pre = c .before .before .before .before .before .pre in
+    (pre .0 .0 .few, pre .0 .1 .worth-small)
 
 returns-3 : tie.Need-returns-3
 returns-3 c =
-    let served-on = c .before .served-on in
     let if2 = c .before .before .if2 in
     let steps = c .before .before .before .steps in
+    let step-of = c .before .before .before .before .step-of in
     let if1 = c .before .before .before .before .before .if1 in
+    let args = c .before .before .before .before .before .before .args in
     let pre = c .before .before .before .before .before .before .pre in
-    let s = serving (pre .0 .1) (pre .1) (pre .0 .0 .most) (if1 .left) (omega (arith, steps .ensures, if2 .left)) in
-    λ e. overfull-by (pre .0 .1) s (omega (arith, ltb-true (served-on .result) (c .set-worth .result) e, served-on .ensures, c .set-worth .ensures))
+    let place = steps .ensures ∙ ap (λ (s : ℕ). args .target / s) (step-of .ensures) in
+    let s = serving _ (pre .0 .1) (pre .1) (pre .0 .0 .most) (if1 .left) (omega (arith, place, if2 .left)) in
+    let served-on = c .before .served-on in
+    let set-worth = c .set-worth in
+    λ e. overfull-by (pre .0 .1) s
+    (omega (arith, ltb-true (served-on .result) (set-worth .result) e, served-on .ensures, set-worth .ensures))
 
 pub overfull-spec : {M : Type 1} → statement M
 overfull-spec =
     tie.close
     (tie.spec
     returns
-    element-copy-out-steps
+    step-of-requires
     steps-requires
     returns-2
     served-on-requires

@@ -1,24 +1,28 @@
 -- `memory::recall` meets its contract.
-use Prim.Native.Nat.{_-_, _<_}
+use Prim.Native.Nat.{ℕ, _-_, _<_}
+use mathlib.Core.Path.{subst}
 use native.Mathlib.Omega.{arith}
 use lib.Bits.{and-le-l, and-le-r}
 use lib.Count.{trailingZeros, trailing-le}
 use lib.ListN.{length}
-use Rattle.memory.specs.Entries.{groupOf}
+use borrow.Author.Needs.{needs}
+use Rattle.memory.specs.Entries.{groupOf, Hit}
 use Rattle.entries.proofs.Laws.{no}
 use Rattle.memory.proofs.Slots.{lowest-inside, hit-at}
-use borrow.Author.Needs.{needs}
 use Rattle.memory.proofs.recall.Statement.{statement}
 use Rattle.memory.proofs.recall.Tie as tie
 
 abbrev Inv-loop : tie.InvT-loop
-Inv-loop memory ends jobs unplaced l len from to ways₀ ways = ways < 65536
+Inv-loop memory part jobs l len unplaced from to ways₀ ways = ways < 65536
 
 abbrev μ-loop : tie.MeasureT-loop
-μ-loop memory ends jobs unplaced l len from to ways₀ ways = ways
+μ-loop memory part jobs l len unplaced from to ways₀ ways = ways
 
 returns : tie.Need-returns Inv-loop μ-loop
 returns c = no
+
+unplaced-requires : tie.Need-unplaced-requires Inv-loop μ-loop
+unplaced-requires c κs = search needs
 
 group-at-requires : tie.Need-group-at-requires Inv-loop μ-loop
 group-at-requires c κs = search needs
@@ -48,32 +52,30 @@ sub-entry-ahead : tie.Need-sub-entry-ahead Inv-loop μ-loop
 sub-entry-ahead c = search needs
 
 part-entry-ahead-start : tie.Need-part-entry-ahead-start Inv-loop μ-loop
-part-entry-ahead-start c =
-    let group-at = c .before .before .before .before .group-at in
-    omega (arith, group-at .ensures .1)
+part-entry-ahead-start c = search needs
 
 part-entry-ahead-end : tie.Need-part-entry-ahead-end Inv-loop μ-loop
-part-entry-ahead-end c =
-    let group-at = c .before .before .before .before .group-at in
-    omega (arith, group-at .ensures .1)
+part-entry-ahead-end c = search needs
 
 entry-ahead-requires : tie.Need-entry-ahead-requires Inv-loop μ-loop
 entry-ahead-requires c κs =
     let loop = c .before .before .loop in
-    let loop-test = c .before .loop-test in
-    (search needs, lowest-inside (loop .ways) (loop-test .taken) (loop .inv), search needs)
+    (search needs, lowest-inside (loop .ways) (c .before .loop-test .taken) (loop .inv), search needs)
 
 returns-2 : tie.Need-returns-2 Inv-loop μ-loop
 returns-2 c =
     let entry-ahead = c .before .entry-ahead in
-    let loop-test = c .before .before .before .loop-test in
-    let loop = c .before .before .before .before .loop in
-    let group-at = c .before .before .before .before .before .before .before .group-at in
-    let a = c .before .before .before .before .before .before .before .before .before .before .args in
-    let g = groupOf (length (a .memory .now)) (a .unplaced) in
-    λ e. hit-at (a .memory .now) (a .jobs) (a .ends .now) (a .unplaced) (a .l) (group-at .result) g (trailingZeros 32 (loop .ways))
-    (group-at .ensures .0) (group-at .ensures .1) (lowest-inside (loop .ways) (loop-test .taken) (loop .inv))
-    (entry-ahead .ensures (c .if2 .taken))
+    let tested = c .before .before .before in
+    let loop = tested .before .loop in
+    let in-group = lowest-inside (loop .ways) (tested .loop-test .taken) (loop .inv) in
+    let group = tested .before .before .before .before in
+    let group-at = group .group-at in
+    let unplaced = group .before .unplaced in
+    let a = group .before .before .before .before .args in
+    let m = a .memory .now in
+    λ e. subst (λ (u : ℕ). Hit m (a .jobs) (a .part .now) u (a .l)) (unplaced .ensures)
+    (hit-at m (a .jobs) (a .part .now) (unplaced .result) (a .l) (group-at .result) (groupOf (length m) (unplaced .result))
+    (trailingZeros 32 (loop .ways)) (group-at .ensures .0) (group-at .ensures .1) in-group (entry-ahead .ensures (c .if2 .taken)))
 
 sub-ways : tie.Need-sub-ways Inv-loop μ-loop
 sub-ways c = search needs
@@ -98,6 +100,7 @@ recall-spec =
     Inv-loop
     μ-loop
     returns
+    unplaced-requires
     group-at-requires
     add-to
     sub-ways-with

@@ -1,15 +1,20 @@
 -- `memory::remember` meets its contract.
 use lib.ListN.{length}
+use borrow.Author.Needs.{needs}
+use Rattle.tables.specs.Part.{partIn}
 use Rattle.memory.specs.Entries.{groupOf}
 use Rattle.memory.proofs.Slots.{adds-none, adds-at}
-use borrow.Author.Needs.{needs}
 use Rattle.memory.proofs.remember.Statement.{statement}
 use Rattle.memory.proofs.remember.Tie as tie
 
 returns : tie.Need-returns
 returns c =
-    let args = c .before .before .args in
-    let a = args in adds-none (a .memory .now) (a .jobs) (a .ends .now) (a .unplaced) (a .last)
+    let a = c .before .before .args in
+    let p = partIn (a .part .now) in
+    adds-none (a .memory .now) (a .jobs) (p .ends) (p .unplaced) (p .last)
+
+unplaced-requires : tie.Need-unplaced-requires
+unplaced-requires c κs = search needs
 
 group-at-requires : tie.Need-group-at-requires
 group-at-requires c κs = search needs
@@ -38,10 +43,12 @@ same-length c = search needs
 returns-2 : tie.Need-returns-2
 returns-2 c =
     let store = c .before .before .store in
-    let group-at = c .before .before .before .before .before .group-at in
-    let a = c .before .before .before .before .before .before .before .before .args in
-    let g = groupOf (length (a .memory .now)) (a .unplaced) in
-    adds-at (a .memory .now) (a .jobs) (a .ends .now) (a .unplaced) (a .last) (store .last .0) (group-at .result) g
+    let group = c .before .before .before .before .before in
+    let group-at = group .group-at in
+    let a = group .before .before .before .before .args in
+    let p = partIn (a .part .now) in
+    let g = groupOf (length (a .memory .now)) (group .before .unplaced .result) in
+    adds-at (a .memory .now) (a .jobs) (p .ends) (p .unplaced) (p .last) (store .last .0) (group-at .result) g
     (group-at .ensures .0) (group-at .ensures .1) (c .before .memory .given .0) (store .ensures)
 
 pub remember-spec : {M : Type 1} → statement M
@@ -49,6 +56,7 @@ remember-spec =
     tie.close
     (tie.spec
     returns
+    unplaced-requires
     group-at-requires
     way-of-requires
     add-to

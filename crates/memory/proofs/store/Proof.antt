@@ -1,8 +1,13 @@
 -- `memory::store` meets its contract.
-use Rattle.memory.proofs.Slots.{stored}
+use mathlib.Core.Path.{_∙_}
 use borrow.Author.Needs.{needs}
+use Rattle.tables.specs.Part.{partIn}
+use Rattle.memory.proofs.Slots.{stored}
 use Rattle.memory.proofs.store.Statement.{statement}
 use Rattle.memory.proofs.store.Tie as tie
+
+unplaced-requires : tie.Need-unplaced-requires
+unplaced-requires c κs = search needs
 
 mul-from : tie.Need-mul-from
 mul-from c = search needs
@@ -49,17 +54,21 @@ same-length c = search needs
 returns : tie.Need-returns
 returns c =
     let write-figures = c .before .before .write-figures in
-    let group = c .before .before .before .before .before .group in
-    let write-set = c .before .before .before .before .before .before .write-set in
-    let start = c .before .before .before .before .before .before .before .before .before in
+    let mid = c .before .before .before .before .before in
+    let write-set = mid .before .write-set in
+    let read = mid .before .before .before in
+    let start = read .before .before in
     let a = start .args in
-    stored (a .group .now) (write-set .last .0) (write-figures .last .0) (a .way) (a .jobs) (a .ends .now) (a .unplaced) (a .last)
-    (start .pre .0) (start .pre .1) (group .given .0) (c .before .group2 .given .0) (write-set .ensures) (write-figures .ensures)
+    let p = partIn (a .part .now) in
+    stored (a .group .now) (write-set .last .0) (write-figures .last .0) (a .way) (a .jobs) (p .ends) (p .unplaced) (p .last)
+    (start .pre .0) (start .pre .1) (mid .group .given .0) (c .before .group2 .given .0) (write-set .ensures ∙ read .unplaced .ensures)
+    (write-figures .ensures)
 
 pub store-spec : {M : Type 1} → statement M
 store-spec =
     tie.close
     (tie.spec
+    unplaced-requires
     mul-from
     add-to
     sub-write-set

@@ -6,19 +6,22 @@ use Rattle.memory.proofs.way_of.Statement.{statement}
 use Rattle.memory.proofs.way_of.Tie as tie
 
 abbrev Inv-loop : tie.InvT-loop
-Inv-loop ends jobs last h₀ i₀ h i = (i ≤ jobs) × (h < 65536)
+Inv-loop part jobs h₀ i₀ h i = (i ≤ jobs) × (h < 65536)
 
 abbrev μ-loop : tie.MeasureT-loop
-μ-loop ends jobs last h₀ i₀ h i = jobs - i
+μ-loop part jobs h₀ i₀ h i = jobs - i
+
+last-requires : tie.Need-last-requires Inv-loop μ-loop
+last-requires c κs = search needs
+
+cast-h : tie.Need-cast-h Inv-loop μ-loop
+cast-h c = search needs
 
 loop-holds : tie.Need-loop-holds Inv-loop μ-loop
 loop-holds c = search needs
 
-mul-mixed : tie.Need-mul-mixed Inv-loop μ-loop
-mul-mixed c = search needs
-
-element-copy-out-mixed : tie.Need-element-copy-out-mixed Inv-loop μ-loop
-element-copy-out-mixed c = search needs
+end-requires : tie.Need-end-requires Inv-loop μ-loop
+end-requires c κs = search needs
 
 mixed-requires : tie.Need-mixed-requires Inv-loop μ-loop
 mixed-requires c κs = search needs
@@ -41,9 +44,10 @@ way-of-spec =
     (tie.spec
     Inv-loop
     μ-loop
+    last-requires
+    cast-h
     loop-holds
-    mul-mixed
-    element-copy-out-mixed
+    end-requires
     mixed-requires
     add-i
     loop-less

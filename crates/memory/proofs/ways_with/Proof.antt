@@ -31,6 +31,9 @@ mul-ways c =
 sub-read32 : tie.Need-sub-read32 Inv-loop μ-loop
 sub-read32 c = search needs
 
+sub-read32-2 : tie.Need-sub-read32-2 Inv-loop μ-loop
+sub-read32-2 c = search needs
+
 mul-read32 : tie.Need-mul-read32 Inv-loop μ-loop
 mul-read32 c = search needs
 
@@ -71,6 +74,7 @@ ways-with-spec =
     loop-holds
     mul-ways
     sub-read32
+    sub-read32-2
     mul-read32
     read32-requires
     same-requires

@@ -7,7 +7,7 @@ use lib.ListN.{length, getD}
 use Rattle.counting.specs.Counting.{sum}
 use Rattle.counting.proofs.Sums.{sum-most}
 use Rattle.desk.specs.Desk.{mostModules}
-use Rattle.desk.proofs.Loops.{sum-more}
+use Rattle.counting.proofs.Loops.{sum-more}
 use Rattle.opening.proofs.shares_in_all.Statement.{statement}
 use Rattle.opening.proofs.shares_in_all.Tie as tie
 

@@ -8,7 +8,7 @@ use borrow.Author.Needs.{needs}
 use lib.ListN.{length, getD}
 use Rattle.counting.specs.Counting.{any}
 use Rattle.desk.specs.Checks.{wrongPair}
-use Rattle.desk.proofs.Loops.{any-more, any-at}
+use Rattle.counting.proofs.Loops.{any-more, any-at}
 use Rattle.opening.proofs.some_pair_wrong.Statement.{statement}
 use Rattle.opening.proofs.some_pair_wrong.Tie as tie
 

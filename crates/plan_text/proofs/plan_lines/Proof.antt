@@ -11,14 +11,17 @@ use Rattle.plan_text.proofs.plan_lines.Tie as tie
 read-requires : tie.Need-read-requires
 read-requires c κs = search needs
 
+add-number16 : tie.Need-add-number16
+add-number16 c = search needs
+
 mul-number16 : tie.Need-mul-number16
 mul-number16 c =
     record {
       fits = omega (arith, ap (λ (r : Reading). r .count) (c .read .ensures), few (c .before .before .before .args .sheet .now));
     }
 
-add-number16 : tie.Need-add-number16
-add-number16 c =
+add-number16-2 : tie.Need-add-number16-2
+add-number16-2 c =
     record {
       fits = omega (arith, ap (λ (r : Reading). r .count) (c .read .ensures), few (c .before .before .before .args .sheet .now));
     }
@@ -52,8 +55,9 @@ plan-lines-spec =
     tie.close
     (tie.spec
     read-requires
-    mul-number16
     add-number16
+    mul-number16
+    add-number16-2
     number16-requires
     cast-plan-line
     plan-line-requires

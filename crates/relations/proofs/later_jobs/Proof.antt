@@ -3,18 +3,22 @@ use mathlib.Core.Path.{_≡_, refl}
 use Prim.Native.Nat.{_-_, _≤_}
 use native.Mathlib.Omega.{arith}
 use borrow.Author.Needs.{needs}
+use Rattle.tables.specs.Tables.{countOf}
 use Rattle.relations.proofs.Waiting.{LatersTo, laters-none, laters-more}
 use Rattle.relations.proofs.later_jobs.Statement.{statement}
 use Rattle.relations.proofs.later_jobs.Tie as tie
 
 abbrev Inv-loop : tie.InvT-loop
-Inv-loop earlier jobs of₀ i₀ of i = (i ≤ jobs) × LatersTo earlier jobs i of
+Inv-loop jobs n of₀ i₀ of i = (i ≤ n) × LatersTo jobs i of
 
 abbrev μ-loop : tie.MeasureT-loop
-μ-loop earlier jobs of₀ i₀ of i = jobs - i
+μ-loop jobs n of₀ i₀ of i = n - i
+
+count-requires : tie.Need-count-requires Inv-loop μ-loop
+count-requires c κs = search needs
 
 loop-holds : tie.Need-loop-holds Inv-loop μ-loop
-loop-holds c = (omega arith, laters-none _ _ _ refl)
+loop-holds c = (omega arith, laters-none _ _ refl)
 
 later-of-requires : tie.Need-later-of-requires Inv-loop μ-loop
 later-of-requires c κs = search needs
@@ -32,14 +36,13 @@ loop-less : tie.Need-loop-less Inv-loop μ-loop
 loop-less c = search needs
 
 loop-again : tie.Need-loop-again Inv-loop μ-loop
-loop-again c =
-    let loop = c .before .before .loop in
-    (omega arith, laters-more (loop .inv .1) (omega arith) (c .later-of .ensures))
+loop-again c = (omega arith, laters-more (c .before .before .loop .inv .1) (omega arith) (c .later-of .ensures))
 
 returns : tie.Need-returns Inv-loop μ-loop
 returns c =
     let loop = c .before .loop in
-    let e : loop .i ≡ c .before .before .args .jobs = omega (arith, loop .inv .0, c .loop-test .left) in
+    let at = c .before .before in
+    let e : loop .i ≡ countOf (at .before .args .jobs .now) = omega (arith, loop .inv .0, c .loop-test .left, at .count .ensures) in
     rw e at (loop .inv .1) .each
 
 pub later-jobs-spec : {M : Type 1} → statement M
@@ -48,6 +51,7 @@ later-jobs-spec =
     (tie.spec
     Inv-loop
     μ-loop
+    count-requires
     loop-holds
     later-of-requires
     mul-of

@@ -3,28 +3,28 @@ use mathlib.Core.Path.{_≡_, ap, _∙_}
 use mathlib.Core.Bool.{Bool, cond}
 use Prim.Native.Nat.{ℕ, _-_, _≤_}
 use native.Mathlib.Omega.{arith}
-use lib.ListN.{getD}
 use borrow.Author.Needs.{needs}
-use Rattle.relations.specs.Relations.{LaterOf}
 use Rattle.bits.specs.Bits.{bit, withBit}
 use Rattle.bits.proofs.Sets.{setOf-none, setOf-more}
+use Rattle.tables.specs.Tables.{earlierAt, countOf}
+use Rattle.relations.specs.Relations.{LaterOf}
 use Rattle.relations.proofs.later_of.Statement.{statement}
 use Rattle.relations.proofs.later_of.Tie as tie
 
 abbrev Inv-loop : tie.InvT-loop
-Inv-loop earlier jobs i set₀ k₀ set k = (k ≤ jobs) × LaterOf earlier i k set
+Inv-loop jobs i n set₀ k₀ set k = (k ≤ n) × LaterOf jobs i k set
 
 abbrev μ-loop : tie.MeasureT-loop
-μ-loop earlier jobs i set₀ k₀ set k = jobs - k
+μ-loop jobs i n set₀ k₀ set k = n - k
+
+count-requires : tie.Need-count-requires Inv-loop μ-loop
+count-requires c κs = search needs
 
 loop-holds : tie.Need-loop-holds Inv-loop μ-loop
 loop-holds c = (omega arith, setOf-none _)
 
-mul-with-later : tie.Need-mul-with-later Inv-loop μ-loop
-mul-with-later c = search needs
-
-element-copy-out-with-later : tie.Need-element-copy-out-with-later Inv-loop μ-loop
-element-copy-out-with-later c = search needs
+earlier-requires : tie.Need-earlier-requires Inv-loop μ-loop
+earlier-requires c κs = search needs
 
 with-later-requires : tie.Need-with-later-requires Inv-loop μ-loop
 with-later-requires c κs = search needs
@@ -37,18 +37,20 @@ loop-less c = search needs
 
 loop-again : tie.Need-loop-again Inv-loop μ-loop
 loop-again c =
-    let loop = c .before .before .before .loop in
-    let a = c .before .before .before .before .args in
-    let in-set : ℕ → Bool = λ k. bit (getD (a .earlier .now) k 0) (a .i) in (
+    let tested = c .before .before in
+    let loop = tested .before .loop in
+    let a = tested .before .before .before .args in
+    let in-set : ℕ → Bool = λ k. bit (earlierAt (a .jobs .now) k) (a .i) in (
       omega arith,
-      c .with-later .ensures ∙ ap (λ (x : ℕ). cond (in-set (loop .k)) (withBit x (loop .k)) x) (loop .inv .1)
-          ∙ setOf-more (loop .k) in-set,
+      rw (c .with-later .ensures, c .before .earlier .ensures) (ap (λ (x : ℕ). cond (in-set (loop .k)) (withBit x (loop .k)) x) (loop .inv .1)
+          ∙ setOf-more (loop .k) in-set),
     )
 
 returns : tie.Need-returns Inv-loop μ-loop
 returns c =
     let loop = c .before .loop in
-    let e : loop .k ≡ c .before .before .args .jobs = omega (arith, loop .inv .0, c .loop-test .left) in
+    let at = c .before .before in
+    let e : loop .k ≡ countOf (at .before .args .jobs .now) = omega (arith, loop .inv .0, c .loop-test .left, at .count .ensures) in
     rw e at (loop .inv .1)
 
 pub later-of-spec : {M : Type 1} → statement M
@@ -57,9 +59,9 @@ later-of-spec =
     (tie.spec
     Inv-loop
     μ-loop
+    count-requires
     loop-holds
-    mul-with-later
-    element-copy-out-with-later
+    earlier-requires
     with-later-requires
     add-k
     loop-less

@@ -1,80 +1,64 @@
 -- `relations::lengthen` meets its contract.
-use Prim.Native.Nat.{ℕ, _-_}
+use Prim.Native.Nat.{ℕ, _-_, _<_}
 use native.Mathlib.Omega.{arith}
 use lib.ListN.{length-replicate}
+use borrow.Author.Needs.{needs}
+use Rattle.tables.specs.Tables.{countOf}
 use Rattle.relations.proofs.Chaining.{Lengthening, lengthening-none, behind-short, lengthening-step, lengthening-all}
-use Rattle.relations.proofs.Steps.{in-20, at-2, next-fits, fewer-left}
 use Rattle.relations.proofs.lengthen.Statement.{statement}
 use Rattle.relations.proofs.lengthen.Tie as tie
 
 abbrev Inv-loop : tie.InvT-loop
-Inv-loop need minutes earlier jobs modules k tails next₀ j₀ next j = Lengthening need minutes earlier jobs modules k (tails .at) next j
+Inv-loop jobs k tails n next₀ j₀ next j = Lengthening jobs k (tails .at) next j
 
 abbrev μ-loop : tie.MeasureT-loop
-μ-loop need minutes earlier jobs modules k tails next₀ j₀ next j = jobs - j
+μ-loop jobs k tails n next₀ j₀ next j = n - j
+
+count-requires : tie.Need-count-requires Inv-loop μ-loop
+count-requires c κs = search needs
 
 loop-holds : tie.Need-loop-holds Inv-loop μ-loop
-loop-holds c = lengthening-none _ (c .pre .0) (c .pre .1 .0) (c .pre .1 .1) (length-replicate {A = ℕ} 20 0)
+loop-holds c =
+    let pre = c .before .pre in
+    lengthening-none _ (pre .0) (pre .1 .0) (pre .1 .1) (length-replicate {A = ℕ} 20 0)
 
-mul-next : tie.Need-mul-next Inv-loop μ-loop
-mul-next c =
-    let pre = c .before .before .pre in
-    at-2 (c .loop-test .taken) (pre .0 .few)
-
-element-copy-out-next : tie.Need-element-copy-out-next Inv-loop μ-loop
-element-copy-out-next c =
-    let pre = c .before .before .pre in
-    in-20 (c .loop-test .taken) (pre .0 .few)
+minutes-requires : tie.Need-minutes-requires Inv-loop μ-loop
+minutes-requires c κs = search needs
 
 longest-behind-requires : tie.Need-longest-behind-requires Inv-loop μ-loop
-longest-behind-requires c κs =
-    let pre = c .before .before .before .before .before .pre in
-    let loop-test = c .before .before .before .loop-test in
-    (pre .0 .few, in-20 (loop-test .taken) (pre .0 .few))
+longest-behind-requires c κs = search needs
 
 add-next : tie.Need-add-next Inv-loop μ-loop
 add-next c =
-    let loop = c .before .before .before .before .before .loop in
-    let pre = c .before .before .before .before .before .before .pre in
-    let loop-test = c .before .before .before .before .loop-test in
-    let longest-behind = c .longest-behind in
+    let read = c .before .before .before in
+    let loop = read .before .before .loop in
+    let at = read .before .before .before in
+    let l : loop .j < countOf (at .before .args .jobs .now) = omega (arith, read .before .loop-test .taken, at .count .ensures) in
     let short = behind-short (loop .inv) in
-    record { fits = omega (arith, pre .0 .short (loop .j) (loop-test .taken), longest-behind .ensures) }
+    record { fits = omega (arith, at .before .pre .0 .short (loop .j) l, read .minutes .ensures, c .longest-behind .ensures) }
 
-mul-next-2 : tie.Need-mul-next-2 Inv-loop μ-loop
-mul-next-2 c =
-    let pre = c .before .before .before .before .before .before .pre in
-    let loop-test = c .before .before .before .before .loop-test in
-    at-2 (loop-test .taken) (pre .0 .few)
+mul-next : tie.Need-mul-next Inv-loop μ-loop
+mul-next c = search needs
 
 array-write-next : tie.Need-array-write-next Inv-loop μ-loop
-array-write-next c =
-    let pre = c .before .before .before .before .before .before .pre in
-    let loop-test = c .before .before .before .before .loop-test in
-    in-20 (loop-test .taken) (pre .0 .few)
+array-write-next c = search needs
 
 add-j : tie.Need-add-j Inv-loop μ-loop
-add-j c =
-    let pre = c .before .before .before .before .before .before .pre in
-    let loop-test = c .before .before .before .before .loop-test in
-    next-fits (loop-test .taken) (pre .0 .few)
+add-j c = search needs
 
 loop-less : tie.Need-loop-less Inv-loop μ-loop
-loop-less c =
-    let loop-test = c .before .before .before .before .loop-test in
-    fewer-left (loop-test .taken)
+loop-less c = search needs
 
 loop-again : tie.Need-loop-again Inv-loop μ-loop
 loop-again c =
-    let longest-behind = c .longest-behind in
-    let loop = c .before .before .before .before .before .loop in
-    let loop-test = c .before .before .before .before .loop-test in
-    rw (longest-behind .ensures) (lengthening-step (loop .inv) (loop-test .taken))
+    let read = c .before .before .before in
+    let loop = read .before .before .loop in
+    let count = read .before .before .before .count in
+    rw (c .longest-behind .ensures, read .minutes .ensures)
+    (lengthening-step (loop .inv) (omega (arith, read .before .loop-test .taken, count .ensures)))
 
 returns : tie.Need-returns Inv-loop μ-loop
-returns c =
-    let loop = c .before .loop in
-    lengthening-all (loop .inv) (c .loop-test .left)
+returns c = lengthening-all (c .before .loop .inv) (omega (arith, c .loop-test .left, c .before .before .count .ensures))
 
 pub lengthen-spec : {M : Type 1} → statement M
 lengthen-spec =
@@ -82,12 +66,12 @@ lengthen-spec =
     (tie.spec
     Inv-loop
     μ-loop
+    count-requires
     loop-holds
-    mul-next
-    element-copy-out-next
+    minutes-requires
     longest-behind-requires
     add-next
-    mul-next-2
+    mul-next
     array-write-next
     add-j
     loop-less

@@ -3,31 +3,31 @@ use mathlib.Core.Path.{_≡_, refl}
 use Prim.Native.Nat.{_-_, _≤_}
 use native.Mathlib.Omega.{arith}
 use borrow.Author.Needs.{needs}
+use Rattle.tables.specs.Tables.{countOf}
 use Rattle.relations.proofs.Pairs.{RelatedTo, related-none, related-more}
 use Rattle.relations.proofs.relate.Statement.{statement}
 use Rattle.relations.proofs.relate.Tie as tie
 
 abbrev Inv-loop : tie.InvT-loop
-Inv-loop need minutes earlier jobs modules later all₀ j₀ all j = (j ≤ jobs) × RelatedTo need minutes earlier jobs modules j (all .of)
+Inv-loop jobs later n all₀ j₀ all j = (j ≤ n) × RelatedTo jobs j (all .of)
 
 abbrev μ-loop : tie.MeasureT-loop
-μ-loop need minutes earlier jobs modules later all₀ j₀ all j = jobs - j
+μ-loop jobs later n all₀ j₀ all j = n - j
 
 later-jobs-requires : tie.Need-later-jobs-requires Inv-loop μ-loop
 later-jobs-requires c κs = search needs
+
+count-requires : tie.Need-count-requires Inv-loop μ-loop
+count-requires c κs = search needs
 
 loop-holds : tie.Need-loop-holds Inv-loop μ-loop
 loop-holds c = (omega arith, related-none _ refl)
 
 row-of-requires : tie.Need-row-of-requires Inv-loop μ-loop
-row-of-requires c κs =
-    let made = c .before .before .before .before in
-    (made .later-jobs .ensures, (made .before .pre, c .before .loop-test .taken))
+row-of-requires c κs = search needs
 
 with-row-requires : tie.Need-with-row-requires Inv-loop μ-loop
-with-row-requires c κs =
-    let loop = c .before .before .before .loop in
-    (omega (arith, c .before .before .loop-test .taken, c .before .before .before .before .before .before .pre), loop .inv .1 .size)
+with-row-requires c κs = search needs
 
 add-j : tie.Need-add-j Inv-loop μ-loop
 add-j c = search needs
@@ -39,16 +39,17 @@ loop-again : tie.Need-loop-again Inv-loop μ-loop
 loop-again c =
     let tested = c .before .before .before in
     let loop = tested .before .loop in
-    let l = tested .loop-test .taken in (
-      omega (arith, l),
+    let start = tested .before .before .before .before .before in (
+      omega arith,
       rw (c .with-row .ensures) (related-more (loop .all .of) (loop .j) (c .before .row-of .result) (loop .inv .1 .size)
-          (omega (arith, l, tested .before .before .before .before .pre)) (loop .inv .1) (c .before .row-of .ensures)),
+          (omega (arith, tested .loop-test .taken, tested .before .before .count .ensures, start .pre)) (loop .inv .1) (c .before .row-of .ensures)),
     )
 
 returns : tie.Need-returns Inv-loop μ-loop
 returns c =
     let loop = c .before .loop in
-    let e : loop .j ≡ c .before .before .before .before .args .jobs = omega (arith, loop .inv .0, c .loop-test .left) in
+    let at = c .before .before in
+    let e : loop .j ≡ countOf (at .before .before .before .args .jobs .now) = omega (arith, loop .inv .0, c .loop-test .left, at .count .ensures) in
     rw e at (loop .inv .1) .each
 
 pub relate-spec : {M : Type 1} → statement M
@@ -58,6 +59,7 @@ relate-spec =
     Inv-loop
     μ-loop
     later-jobs-requires
+    count-requires
     loop-holds
     row-of-requires
     with-row-requires

@@ -13,10 +13,10 @@ use Rattle.replay.proofs.busy_at.Statement.{statement}
 use Rattle.replay.proofs.busy_at.Tie as tie
 
 abbrev Inv-loop : tie.InvT-loop
-Inv-loop jobs t slots set₀ i₀ set i = (i ≤ jobs) × (set ≡ busyAt slots i t)
+Inv-loop count t slots set₀ i₀ set i = (i ≤ count) × (set ≡ busyAt slots i t)
 
 abbrev μ-loop : tie.MeasureT-loop
-μ-loop jobs t slots set₀ i₀ set i = jobs - i
+μ-loop count t slots set₀ i₀ set i = count - i
 
 loop-holds : tie.Need-loop-holds Inv-loop μ-loop
 unfolding union
@@ -55,7 +55,7 @@ returns : tie.Need-returns Inv-loop μ-loop
 returns c =
     let loop = c .before .loop in
     let args = c .before .before .args in
-    let e : loop .i ≡ args .jobs = omega (arith, loop .inv .0, c .loop-test .left) in
+    let e : loop .i ≡ args .count = omega (arith, loop .inv .0, c .loop-test .left) in
     rw e at (loop .inv .1)
 
 pub busy-at-spec : {M : Type 1} → statement M

@@ -1,12 +1,11 @@
 -- `replay::replay` meets its contract.
-use mathlib.Core.Path.{_≡_, sym, subst}
-use mathlib.Core.List.{[]}
+use mathlib.Core.Path.{_≡_, subst}
 use Prim.Native.Nat.{ℕ, _-_, _≤_}
 use native.Mathlib.Omega.{arith}
 use lib.ListN.{take}
 use Rattle.schedule.specs.ListPlan.{partOf}
-use Rattle.tables.specs.Tables.{sheetOf}
-use Rattle.placement.specs.declared.Part.{Part}
+use Rattle.tables.specs.Tables.{sheetOf, countOf}
+use Rattle.tables.specs.Part.{partIn}
 use Rattle.placement.specs.Part.{IsPart}
 use Rattle.placement.proofs.Parts.{first-is}
 use Rattle.replay.proofs.PlacedSlots.{noSlots, SlotsOf, no-slots}
@@ -17,131 +16,91 @@ use Rattle.replay.proofs.replay.Statement.{statement}
 use Rattle.replay.proofs.replay.Tie as tie
 
 abbrev Inv-loop : tie.InvT-loop
-Inv-loop need minutes earlier jobs modules order slots₀ part₀ k₀ slots part k =
-    (k ≤ jobs) × IsPart (sheetOf need minutes earlier jobs modules) (take k order) part
-    × SlotsOf (sheetOf need minutes earlier jobs modules) (partOf (sheetOf need minutes earlier jobs modules) (take k order)) slots
+Inv-loop jobs order count slots₀ part₀ k₀ slots part k =
+    (count ≡ countOf jobs) × (k ≤ count) × IsPart (sheetOf jobs) (take k order) (partIn part)
+    × SlotsOf (sheetOf jobs) (partOf (sheetOf jobs) (take k order)) slots
 
 abbrev μ-loop : tie.MeasureT-loop
-μ-loop need minutes earlier jobs modules order slots₀ part₀ k₀ slots part k = jobs - k
+μ-loop jobs order count slots₀ part₀ k₀ slots part k = count - k
 
-abbrev start : tie.After-wide Inv-loop μ-loop → tie.Start Inv-loop μ-loop
-start c = c .before .before .before .before .before
+abbrev start : tie.After-index Inv-loop μ-loop → tie.Start Inv-loop μ-loop
+start c = c .before .before .before .before .before .before
 
-turn : (c : tie.After-wide Inv-loop μ-loop)
-    → Turn (start c .args .need .now) (start c .args .minutes .now) (start c .args .earlier .now) (start c .args .order .now)
-    (start c .args .jobs) (start c .args .modules) (c .before .before .before .loop .k) (c .wide .result)
+turn : (c : tie.After-index Inv-loop μ-loop)
+    → Turn (start c .args .jobs .now) (start c .args .order .now) (c .before .before .before .loop .k) (c .index .result)
 turn c = record {
   fit = start c .pre .0;
   whole = start c .pre .1;
-  inside = c .before .before .loop-test .taken;
-  here = c .wide .ensures;
+  inside = omega (arith, c .before .before .loop-test .taken, c .before .before .before .loop .inv .0);
+  here = c .index .ensures;
 }
 
+count-requires : tie.Need-count-requires Inv-loop μ-loop
+count-requires c κs = search needs
+
 first-part-requires : tie.Need-first-part-requires Inv-loop μ-loop
-first-part-requires c κs = c .pre .0
+first-part-requires c κs = c .before .pre .0
 
 loop-holds : tie.Need-loop-holds Inv-loop μ-loop
 unfolding noSlots
 loop-holds c =
-    let a = c .before .args in
-    let S = sheetOf (a .need .now) (a .minutes .now) (a .earlier .now) (a .jobs) (a .modules) in (
-      search needs,
-      subst (λ (p : Part). IsPart S [] p) (sym (c .first-part .ensures))
-          (first-is (a .need .now) (a .minutes .now) (a .earlier .now) (a .jobs) (a .modules) (c .before .pre .0)),
-      no-slots (a .need .now) (a .minutes .now) (a .earlier .now) (a .jobs) (a .modules),
-    )
+    let t = c .before .before .args .jobs .now in
+    (c .before .count .ensures, search needs, first-is t (c .before .before .pre .0) _ (c .first-part .ensures), no-slots t)
 
-element-copy-out-wide : tie.Need-element-copy-out-wide Inv-loop μ-loop
-element-copy-out-wide c =
-    let pre = c .before .before .before .pre in
-    omega (arith, pre .0 .few)
+element-copy-out-index : tie.Need-element-copy-out-index Inv-loop μ-loop
+element-copy-out-index c = search needs
 
-wide-requires : tie.Need-wide-requires Inv-loop μ-loop
-wide-requires c κs = search needs
+index-requires : tie.Need-index-requires Inv-loop μ-loop
+index-requires c κs = search needs
 
-mul-want : tie.Need-mul-want Inv-loop μ-loop
-mul-want c = let low = next-low (turn c) in omega arith
+start-of-requires : tie.Need-start-of-requires Inv-loop μ-loop
+start-of-requires c κs =
+    let loop = c .before .before .before .before .loop in
+    let fit = c .before .before .before .before .before .before .before .pre .0 in
+    let now = turn (c .before) in
+    (loop .inv .2 .figures .profile, (fit .narrow _ (next-job now), (fit .few, next-low now)))
 
-element-copy-out-want : tie.Need-element-copy-out-want Inv-loop μ-loop
-element-copy-out-want c = next-low (turn c)
+with-job-requires : tie.Need-with-job-requires Inv-loop μ-loop
+with-job-requires c κs =
+    let inv = c .before .before .before .before .before .loop .inv in
+    let now = turn (c .before .before) in
+    let short = next-short now (inv .2) (c .start-of .ensures) in
+    (c .before .before .before .before .before .before .before .before .pre .0, (next-low now, omega arith))
 
-mul-lasts : tie.Need-mul-lasts Inv-loop μ-loop
-mul-lasts c = let low = next-low (turn (c .before)) in omega arith
-
-element-copy-out-lasts : tie.Need-element-copy-out-lasts Inv-loop μ-loop
-element-copy-out-lasts c = next-low (turn (c .before))
-
-mul-next-start : tie.Need-mul-next-start Inv-loop μ-loop
-mul-next-start c = let low = next-low (turn (c .before .before)) in omega arith
-
-element-copy-out-next-start : tie.Need-element-copy-out-next-start Inv-loop μ-loop
-element-copy-out-next-start c = next-low (turn (c .before .before))
-
-next-start-requires : tie.Need-next-start-requires Inv-loop μ-loop
-next-start-requires c κs =
-    let loop = c .before .before .before .before .before .before .loop in
-    let pre = c .before .before .before .before .before .before .before .before .pre in
-    let wide = c .before .before .before .wide in
-    (loop .inv .1 .figures .profile, (pre .0 .narrow (wide .result) (next-job (turn (c .before .before .before))), pre .0 .few))
-
-busy-at-requires : tie.Need-busy-at-requires Inv-loop μ-loop
-busy-at-requires c κs =
-    let pre = c .before .before .before .before .before .before .before .before .before .pre in
-    pre .0 .few
-
-lowest-free-requires : tie.Need-lowest-free-requires Inv-loop μ-loop
-lowest-free-requires c κs =
-    let pre = c .before .before .before .before .before .before .before .before .before .before .pre in
-    pre .0 .most
-
-add-with-slot : tie.Need-add-with-slot Inv-loop μ-loop
-add-with-slot c =
-    let loop = c .before .before .before .before .before .before .before .before .before .loop in
-    let next-start = c .before .before .next-start in
-    let short = next-short (turn (c .before .before .before .before .before .before)) (loop .inv .1) (next-start .ensures) in omega arith
-
-with-slot-requires : tie.Need-with-slot-requires Inv-loop μ-loop
-with-slot-requires c κs = next-low (turn (c .before .before .before .before .before .before))
-
-place-requires : tie.Need-place-requires Inv-loop μ-loop
-place-requires c κs =
-    let loop = c .before .before .before .before .before .before .before .before .before .before .loop in
-    let next-start = c .before .before .before .next-start in
-    next-placeable (turn (c .before .before .before .before .before .before .before)) (loop .inv .1) (next-start .ensures)
+with-job-requires-2 : tie.Need-with-job-requires-2 Inv-loop μ-loop
+with-job-requires-2 c κs =
+    let inv = c .before .before .before .before .before .before .before .loop .inv in
+    let now = turn (c .before .before .before .before) in
+    next-placeable now (inv .2) (c .before .before .start-of .ensures)
 
 add-k : tie.Need-add-k Inv-loop μ-loop
 add-k c =
-    let loop-test = c .before .before .before .before .before .before .before .before .before .before .loop-test in
-    let pre = c .before .before .before .before .before .before .before .before .before .before .before .before .before .pre in
-    omega (arith, loop-test .taken, pre .0 .few)
+    let loop-test = c .before .before .before .before .before .before .before .loop-test in
+    let at = c .before .before .before .before .before .before .before .before in
+    omega (arith, loop-test .taken, at .loop .inv .0, at .before .before .before .pre .0 .few)
 
 loop-less : tie.Need-loop-less Inv-loop μ-loop
 loop-less c = search needs
 
 loop-again : tie.Need-loop-again Inv-loop μ-loop
 loop-again c =
-    let loop-test = c .before .before .before .before .before .before .before .before .before .before .loop-test in
-    let loop = c .before .before .before .before .before .before .before .before .before .before .before .loop in
-    let next-start = c .before .before .before .before .next-start in
-    let busy-at = c .before .before .before .busy-at in
-    let lowest-free = c .before .before .lowest-free in
-    let with-slot = c .before .with-slot in
-    let now = turn (c .before .before .before .before .before .before .before .before) in (
-      omega (arith, loop-test .taken),
-      next-part now (loop .inv .1) (next-start .ensures) (c .place .ensures),
-      next-slots now (loop .inv .1) (next-start .ensures) (loop .inv .2)
-          (busy-at .ensures) (lowest-free .ensures) (with-slot .ensures),
+    let inv = c .before .before .before .before .before .before .before .before .loop .inv in
+    let start = c .before .before .before .start-of .ensures in
+    let now = turn (c .before .before .before .before .before) in (
+      inv .0,
+      omega (arith, c .before .before .before .before .before .before .before .loop-test .taken),
+      next-part now (inv .2) start (c .with-job2 .ensures),
+      next-slots now (inv .2) start (inv .3) (c .before .before .with-job .ensures),
     )
 
 returns : tie.Need-returns Inv-loop μ-loop
 returns c =
     let loop = c .before .loop in
-    let pre = c .before .before .before .pre in
-    let a = c .before .before .before .args in
-    let S = sheetOf (a .need .now) (a .minutes .now) (a .earlier .now) (a .jobs) (a .modules) in
-    let e : loop .k ≡ a .jobs = omega (arith, loop .inv .0, c .loop-test .left) in
-    all-replayed S (take (a .jobs) (a .order .now)) (loop .slots) (pre .1)
-    (subst (λ (k : ℕ). SlotsOf S (partOf S (take k (a .order .now))) (loop .slots)) e (loop .inv .2))
+    let a = c .before .before .before .before .args in
+    let S = sheetOf (a .jobs .now) in
+    let e : loop .k ≡ countOf (a .jobs .now) = omega (arith, loop .inv .0, loop .inv .1, c .loop-test .left) in
+    all-replayed S (take (countOf (a .jobs .now)) (a .order .now)) (loop .slots) (c .before .before .before .before .pre .1)
+    (subst (λ (k : ℕ). SlotsOf S (partOf S (take k (a .order .now))) (loop .slots)) e (loop .inv .3))
 
 pub replay-spec : {M : Type 1} → statement M
 replay-spec =
@@ -149,22 +108,14 @@ replay-spec =
     (tie.spec
     Inv-loop
     μ-loop
+    count-requires
     first-part-requires
     loop-holds
-    element-copy-out-wide
-    wide-requires
-    mul-want
-    element-copy-out-want
-    mul-lasts
-    element-copy-out-lasts
-    mul-next-start
-    element-copy-out-next-start
-    next-start-requires
-    busy-at-requires
-    lowest-free-requires
-    add-with-slot
-    with-slot-requires
-    place-requires
+    element-copy-out-index
+    index-requires
+    start-of-requires
+    with-job-requires
+    with-job-requires-2
     add-k
     loop-less
     loop-again

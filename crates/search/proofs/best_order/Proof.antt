@@ -1,8 +1,8 @@
 -- `search::best_order` meets its contract.
-use mathlib.Core.Path.{_≡_, ap, _∙_}
-use Prim.Native.Nat.{ℕ}
+use mathlib.Core.Path.{ap, _∙_}
+use Prim.Native.Nat.{ℕ, suc}
 use lib.ListN.{length, replicate}
-use Rattle.candidates.proofs.Children.{first-known}
+use Rattle.tables.specs.Tables.{sheetOf}
 use Rattle.search.proofs.Recalls.{remembered-none}
 use borrow.Author.Needs.{needs}
 use Rattle.search.proofs.best_order.Statement.{statement}
@@ -16,38 +16,26 @@ clear-requires c κs = search needs
 
 first-order-requires : tie.Need-first-order-requires
 first-order-requires c κs =
-    let start = c .before .before .before .before .before .before .before .before .before .before in
-    let a = start .args in
-    let h = start .pre in
-    let lowest = c .before .before .before .before .before .before .before .lowest in (
-      lowest .ensures,
-      record {
-        low = lowest .ensures .is .low;
-        known = first-known (a .need .now) (a .minutes .now) (a .earlier .now) (a .jobs) (a .modules) (h .fit);
-        tabled = h .tabled;
-        remembered = remembered-none _ _ (length (lowest .last .1 .1 .1 .1 .1 .1 .1 .1 .1 .1 .1 .0)) _ (c .before .before .before .clear .ensures);
-      },
-    )
+    let past = c .before .before .before .before .before .before .before .before in
+    let lowest = c .before .before .before .before .before .before .before .lowest in
+    let p = past .before .before .pre in
+    let none = remembered-none (sheetOf (past .before .before .args .jobs .now)) _ (length (lowest .last .0)) (suc (lowest .result .end)) (c .before .before .before .clear .ensures) in
+    (lowest .ensures, (p .fit, (p .tabled, none)))
 
 clear-requires-2 : tie.Need-clear-requires-2
 clear-requires-2 c κs = search needs
 
--- the memory's length, up to the last clearing
-memory-length : (c : tie.After-slice-known5)
-    → length (c .before .before .before .before .before .before .first-order .last .1 .1 .1 .1 .1 .1 .1 .1 .1 .1 .1 .0) ≡ length (c .before .before .before .before .before .before .before .before .before .before .before .before .before .before .before .before .before .args .memory .now)
-memory-length c =
-    c .before .before .before .before .before .before .first-order .kept .1 .1 .1 .1 .1 .1 .1 .1 .1 .1 .1 .0
-    ∙ c .before .before .before .before .before .before .before .before .before .before .clear .kept .0
-    ∙ c .before .before .before .before .before .before .before .before .before .before .before .before .before .before .lowest .kept .1 .1 .1 .1 .1 .1 .1 .1 .1 .1 .1 .0
-
 same-length : tie.Need-same-length
-same-length c = c .before .before .clear2 .kept .0 ∙ memory-length c
+same-length c =
+    let past = c .before .before .before .before .before .before .before .before in
+    c .before .before .clear2 .kept .0 ∙ c .before .before .before .before .before .before .first-order .kept .0 ∙ past .before .before .clear .kept .0 ∙ past .before .before .before .before .before .before .lowest .kept .0
 
 returns : tie.Need-returns
-returns c = (
-  c .before .before .before .before .before .before .first-order .ensures,
-  c .before .before .clear2 .ensures ∙ ap (λ (k : ℕ). replicate k 0) (memory-length c),
-)
+returns c =
+    let past = c .before .before .before .before .before .before .before .before in
+    let first-order = c .before .before .before .before .before .before .first-order in
+    let size = first-order .kept .0 ∙ past .before .before .clear .kept .0 ∙ past .before .before .before .before .before .before .lowest .kept .0 in
+    (first-order .ensures, c .before .before .clear2 .ensures ∙ ap (λ (k : ℕ). replicate k 0) size)
 
 pub best-order-spec : {M : Type 1} → statement M
 best-order-spec =

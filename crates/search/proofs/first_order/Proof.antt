@@ -3,72 +3,73 @@ use mathlib.Core.Path.{_≡_, refl, _∙_}
 use Prim.Native.Nat.{_-_}
 use native.Mathlib.Omega.{arith}
 use lib.ListN.{length}
-use borrow.Author.Needs.{needs}
+use Rattle.tables.specs.Tables.{countOf}
+use Rattle.tables.specs.Part.{partIn}
 use Rattle.search.proofs.Placings.{Standing, stands-first, stands-below, settled-next, stands-next, stands-all}
+use borrow.Author.Needs.{needs}
 use Rattle.search.proofs.first_order.Statement.{statement}
 use Rattle.search.proofs.first_order.Tie as tie
 
 abbrev Inv-loop : tie.InvT-loop
-Inv-loop need minutes earlier related tails worth most lanes jobs modules memory₀ best₀ part₀ k₀ memory best part k =
-    Standing need minutes earlier related tails worth most lanes jobs modules part best memory k × (length memory ≡ length memory₀)
+Inv-loop memory₀ jobs prepared count best₀ part₀ k₀ memory best part k = (count ≡ countOf jobs) × (Standing jobs prepared (partIn part) best memory k × (length memory ≡ length memory₀))
 
 abbrev μ-loop : tie.MeasureT-loop
-μ-loop need minutes earlier related tails worth most lanes jobs modules memory₀ best₀ part₀ k₀ memory best part k = jobs - k
+μ-loop memory₀ jobs prepared count best₀ part₀ k₀ memory best part k = count - k
+
+count-requires : tie.Need-count-requires Inv-loop μ-loop
+count-requires c κs = search needs
 
 first-part-requires : tie.Need-first-part-requires Inv-loop μ-loop
-first-part-requires c κs = c .before .pre .1 .known .fit
+first-part-requires c κs = c .before .before .pre .1 .0
 
 loop-holds : tie.Need-loop-holds Inv-loop μ-loop
 loop-holds c =
-    let start = c .before .before in
-    let a = start .args in
-    (rw (c .first-part .ensures) (stands-first (start .pre .0) (start .pre .1)), refl)
+    let p = c .before .before .before .pre in
+    (c .before .count .ensures, (stands-first (p .1 .0) (p .1 .1 .0) (c .first-part .ensures) (p .0) (p .1 .1 .1), refl))
 
 settle-place-requires : tie.Need-settle-place-requires Inv-loop μ-loop
 settle-place-requires c κs =
-    let h = c .before .before .loop .inv .0 in
-    (h .going, (h .placing, stands-below h (c .before .loop-test .taken)))
+    let loop = c .before .before .before .loop in
+    let h = loop .inv .1 .0 in
+    (h .going, (h .placing, stands-below h (omega (arith, loop .inv .0, c .before .before .loop-test .taken))))
 
-element-copy-out-wide : tie.Need-element-copy-out-wide Inv-loop μ-loop
-element-copy-out-wide c =
-    let h = c .before .before .before .before .before .loop .inv .0 in
-    omega (arith, c .before .before .before .before .loop-test .taken, h .going .known .fit .few)
+element-copy-out-index : tie.Need-element-copy-out-index Inv-loop μ-loop
+element-copy-out-index c =
+    let loop = c .before .before .before .before .before .before .before .loop in
+    omega (arith, loop .inv .0, c .before .before .before .before .before .before .loop-test .taken, loop .inv .1 .0 .going .known .fit .few)
 
-wide-requires : tie.Need-wide-requires Inv-loop μ-loop
-wide-requires c κs = tt
+index-requires : tie.Need-index-requires Inv-loop μ-loop
+index-requires c κs = search needs
 
 go-on-requires : tie.Need-go-on-requires Inv-loop μ-loop
 go-on-requires c κs =
-    let h = c .before .before .before .before .before .before .before .loop .inv .0 in (
-      h .going .known,
-      rw (c .wide .ensures) (settled-next h (c .before .before .before .before .before .before .loop-test .taken)
-          (c .before .before .before .before .settle-place .ensures .0)),
-    )
+    let past = c .before .before .before .before .before .before .before .before in
+    let loop = past .before .loop in
+    let h = loop .inv .1 .0 in
+    (h .going .known, rw (c .index .ensures) (settled-next h (omega (arith, loop .inv .0, c .before .before .before .before .before .before .before .before .loop-test .taken)) (c .before .before .before .before .before .settle-place .ensures .0)))
 
 add-k : tie.Need-add-k Inv-loop μ-loop
-add-k c = search needs
+add-k c =
+    let past = c .before .before .before .before .before .before .before .before in
+    omega (arith, past .before .loop-test .taken)
 
 loop-less : tie.Need-loop-less Inv-loop μ-loop
 loop-less c = search needs
 
 loop-again : tie.Need-loop-again Inv-loop μ-loop
 loop-again c =
-    let loop = c .before .before .before .before .before .before .before .before .loop in
-    let settle = c .before .before .before .before .before .settle-place in
-    let go = c .go-on .ensures in (
-      stands-next (loop .inv .0) (c .before .before .before .before .before .before .before .loop-test .taken) _ (settle .ensures .0)
-          (settle .ensures .1) (c .before .wide .ensures) (go .0) (go .1 .0)
-          (go .1 .1),
-      settle .kept .1 .1 .1 .1 .1 .1 .1 .1 .1 .1 .1 .1 .0 ∙ loop .inv .1,
-    )
+    let past = c .before .before .before .before .before .before .before .before in
+    let loop = past .before .before .loop in
+    let settle = c .before .before .before .before .before .before .settle-place in
+    let go = c .go-on .ensures in
+    let next = stands-next (loop .inv .1 .0) (omega (arith, loop .inv .0, past .before .loop-test .taken)) _ (settle .ensures .0) (settle .ensures .1) (c .before .index .ensures) in
+    (loop .inv .0, (next (go .0) (go .1 .0) (go .1 .1), settle .kept .0 ∙ loop .inv .1 .1))
 
 same-length : tie.Need-same-length Inv-loop μ-loop
-same-length c = c .before .loop .inv .1
+same-length c = c .before .loop .inv .1 .1
 
 returns : tie.Need-returns Inv-loop μ-loop
-returns c =
-    let loop = c .before .loop in
-    stands-all (loop .inv .0) (omega (arith, loop .inv .0 .inside, c .loop-test .left))
+returns c = stands-all (c .before .loop .inv .1 .0) (omega (arith, c .before .loop .inv .0, c .loop-test .left))
 
 pub first-order-spec : {M : Type 1} → statement M
 first-order-spec =
@@ -76,11 +77,12 @@ first-order-spec =
     (tie.spec
     Inv-loop
     μ-loop
+    count-requires
     first-part-requires
     loop-holds
     settle-place-requires
-    element-copy-out-wide
-    wide-requires
+    element-copy-out-index
+    index-requires
     go-on-requires
     add-k
     loop-less

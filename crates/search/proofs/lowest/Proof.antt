@@ -8,21 +8,18 @@ use Rattle.search.proofs.lowest.Statement.{statement}
 use Rattle.search.proofs.lowest.Tie as tie
 
 abbrev Inv-loop : tie.InvT-loop
-Inv-loop need minutes earlier related tails worth most lanes jobs modules memory₀ best₀ memory best =
-    Turn need minutes earlier related tails worth most lanes jobs modules best memory × (length memory ≡ length memory₀)
+Inv-loop memory₀ jobs prepared best₀ memory best = Turn jobs prepared best memory × (length memory ≡ length memory₀)
 
 abbrev μ-loop : tie.MeasureT-loop
-μ-loop need minutes earlier related tails worth most lanes jobs modules memory₀ best₀ memory best = best .end + only (best .hit) 1
+μ-loop memory₀ jobs prepared best₀ memory best = best .end + only (best .hit) 1
 
 lower-requires : tie.Need-lower-requires Inv-loop μ-loop
 lower-requires c κs = c .before .before .pre
 
 loop-holds : tie.Need-loop-holds Inv-loop μ-loop
 loop-holds c =
-    let lower = c .before .before .lower in (
-      turn-next _ (c .before .before .before .before .before .pre) (lower .ensures .0) (lower .ensures .1),
-      refl,
-    )
+    let lower = c .before .before .lower in
+    (turn-next _ (c .before .before .before .before .before .pre) (lower .ensures .0) (lower .ensures .1), refl)
 
 lower-requires-2 : tie.Need-lower-requires-2 Inv-loop μ-loop
 lower-requires-2 c κs = c .before .before .loop .inv .0 .state
@@ -32,14 +29,12 @@ loop-less c = turn-less (c .before .before .lower2 .ensures .0) (c .before .befo
 
 loop-again : tie.Need-loop-again Inv-loop μ-loop
 loop-again c =
+    let loop = c .before .before .before .before .before .loop in
     let lower = c .before .before .lower2 in
-    let loop = c .before .before .before .before .before .loop in (
-      turn-next _ (loop .inv .0 .state) (lower .ensures .0) (lower .ensures .1),
-      lower .kept .1 .1 .1 .1 .1 .1 .1 .1 .1 .1 .1 .0 ∙ loop .inv .1,
-    )
+    (turn-next _ (loop .inv .0 .state) (lower .ensures .0) (lower .ensures .1), lower .kept .0 ∙ loop .inv .1)
 
 same-length : tie.Need-same-length Inv-loop μ-loop
-same-length c = c .before .loop .inv .1 ∙ c .before .before .before .before .lower .kept .1 .1 .1 .1 .1 .1 .1 .1 .1 .1 .1 .0
+same-length c = c .before .loop .inv .1 ∙ c .before .before .before .before .lower .kept .0
 
 returns : tie.Need-returns Inv-loop μ-loop
 returns c = turn-last (c .before .loop .inv .0) (c .loop-test .left)

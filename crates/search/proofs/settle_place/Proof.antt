@@ -3,70 +3,65 @@ use mathlib.Core.Path.{_≡_, refl, _∙_}
 use Prim.Native.Nat.{suc, _-_, _≤_, _<_}
 use native.Mathlib.Omega.{arith}
 use lib.ListN.{length, getD}
-use borrow.Author.Needs.{needs}
-use Rattle.tables.specs.Tables.{sheetOf}
-use Rattle.placement.specs.Part.{wordOf}
+use Rattle.tables.specs.Tables.{sheetOf, countOf}
+use Rattle.tables.specs.Part.{partIn, wordOf}
+use Rattle.candidates.proofs.Children.{word-length}
 use Rattle.search.specs.Search.{Remembered}
-use Rattle.search.proofs.Placings.{NoneUpto, upto-none, upto-more, word-length}
+use Rattle.search.proofs.Placings.{NoneUpto, upto-none, upto-more}
 use Rattle.search.proofs.Placings.{placed-at, named-at, job-below, place-hit, place-miss}
+use borrow.Author.Needs.{needs}
 use Rattle.search.proofs.settle_place.Statement.{statement}
 use Rattle.search.proofs.settle_place.Tie as tie
 
 abbrev Inv-loop : tie.InvT-loop
-Inv-loop need minutes earlier related tails worth most lanes jobs modules part memory₀ best k stop j₀ memory j =
-    (j ≤ stop)
-    × (NoneUpto (sheetOf need minutes earlier jobs modules) (best .end) (wordOf part) j
-    × (Remembered (sheetOf need minutes earlier jobs modules) memory (suc (best .end)) × (length memory ≡ length memory₀)))
+Inv-loop memory₀ part jobs prepared best k stop j₀ memory j = (j ≤ stop)
+    × (NoneUpto (sheetOf jobs) (best .end) (wordOf (partIn part)) j
+    × (Remembered (sheetOf jobs) memory (suc (best .end)) × (length memory ≡ length memory₀)))
 
 abbrev μ-loop : tie.MeasureT-loop
-μ-loop need minutes earlier related tails worth most lanes jobs modules part memory₀ best k stop j₀ memory j = stop - j
+μ-loop memory₀ part jobs prepared best k stop j₀ memory j = stop - j
 
-element-copy-out-wide : tie.Need-element-copy-out-wide Inv-loop μ-loop
-element-copy-out-wide c = omega (arith, c .before .pre .1 .1, c .before .pre .0 .known .fit .few)
+placed-requires : tie.Need-placed-requires Inv-loop μ-loop
+placed-requires c κs = search needs
 
-wide-requires : tie.Need-wide-requires Inv-loop μ-loop
-wide-requires c κs = tt
+element-copy-out-index : tie.Need-element-copy-out-index Inv-loop μ-loop
+element-copy-out-index c =
+    let pre = c .before .before .pre in
+    omega (arith, c .placed .ensures, pre .1 .1, pre .0 .known .fit .few)
+
+index-requires : tie.Need-index-requires Inv-loop μ-loop
+index-requires c κs = search needs
 
 loop-holds : tie.Need-loop-holds Inv-loop μ-loop
 loop-holds c =
-    let start = c .before .before .before in
-    let a = start .args in
-    let g = start .pre .0 in
-    let h = start .pre .1 .0 in
-    (omega arith, (upto-none h, (g .remembered, refl)))
+    let pre = c .before .before .before .before .pre in
+    (omega arith, (upto-none (pre .1 .0), (pre .0 .remembered, refl)))
 
 try-place-requires : tie.Need-try-place-requires Inv-loop μ-loop
 try-place-requires c κs =
-    let start = c .before .before .before .before .before .before in
-    let a = start .args in
-    let g = start .pre .0 in
-    let h = start .pre .1 .0 in
+    let pre = c .before .before .before .before .before .before .before .pre in
+    let a = c .before .before .before .before .before .before .before .args in
     let loop = c .before .before .loop in
-    let below : loop .j < a .jobs = omega (
-      arith,
-      c .before .loop-test .taken,
-      c .before .before .before .wide .ensures,
-      job-below h
-          (a .part .placed) (word-length (g .known)) (start .pre .1 .1),
-    ) in (
-      record { low = g .low; known = g .known; tabled = g .tabled; remembered = loop .inv .1 .1 .0 },
-      below,
-    )
+    let g = pre .0 in
+    let p = partIn (a .part .now) in
+    let lower = job-below (pre .1 .0) (p .placed) (word-length (g .known)) (pre .1 .1) in
+    let below : loop .j < countOf (a .jobs .now) = omega (arith, c .before .loop-test .taken, rw (c .before .before .before .before .before .placed .ensures) at (c .before .before .before .index .ensures)) in
+    (record { low = g .low; known = g .known; tabled = g .tabled; remembered = loop .inv .1 .1 .0 }, below)
 
 same-length : tie.Need-same-length Inv-loop μ-loop
-same-length c = c .before .before .before .try-place .kept .1 .1 .1 .1 .1 .1 .1 .1 .1 .1 .1 .1 .1 .0 ∙ c .before .before .before .before .before .before .loop .inv .1 .1 .1
+same-length c = c .before .before .before .try-place .kept .0 ∙ c .before .before .before .before .before .before .loop .inv .1 .1 .1
 
 returns : tie.Need-returns Inv-loop μ-loop
 returns c =
-    let start = c .before .before .before .before .before .before .before .before .before .before in
-    let a = start .args in
-    let g = start .pre .0 in
-    let h = start .pre .1 .0 in
-    let try = c .before .before .before .try-place in
+    let past = c .before .before .before .before .before .before .before .before in
+    let pre = past .before .before .before .pre in
     let loop = c .before .before .before .before .before .before .loop in
-    let hit = place-hit h (try .ensures .0) (c .if1 .taken) (loop .inv .1 .0) in
-    let named = named-at _ (wordOf (a .part)) (loop .j) (hit .0) (a .part .placed) (word-length (g .known)) (start .pre .1 .1) in
-    (rw named (hit .0), rw (hit .1) (try .ensures .1))
+    let g = pre .0 in
+    let p = partIn (past .before .before .before .args .part .now) in
+    let try = c .before .before .before .try-place .ensures in
+    let hit = place-hit (pre .1 .0) (try .0) (c .if1 .taken) (loop .inv .1 .0) in
+    let named = named-at _ (wordOf p) (loop .j) (hit .0) (p .placed) (word-length (g .known)) (pre .1 .1) in
+    (rw named (hit .0), rw (hit .1) (try .1))
 
 add-j : tie.Need-add-j Inv-loop μ-loop
 add-j c = search needs
@@ -76,16 +71,15 @@ loop-less c = search needs
 
 loop-again : tie.Need-loop-again Inv-loop μ-loop
 loop-again c =
-    let start = c .before .before .before .before .before .before .before .before .before .before in
-    let a = start .args in
-    let g = start .pre .0 in
-    let h = start .pre .1 .0 in
-    let try = c .before .before .before .try-place in
-    let loop = c .before .before .before .before .before .before .loop in (
+    let past = c .before .before .before .before .before .before .before .before in
+    let a = past .before .before .before .args in
+    let loop = c .before .before .before .before .before .before .loop in
+    let p = partIn (a .part .now) in
+    let try = c .before .before .before .try-place in (
       omega (arith, c .before .before .before .before .before .loop-test .taken),
       (
-        upto-more _ (a .t12 .end) (wordOf (a .part)) (loop .j) (loop .inv .1 .0) (try .ensures .0 .miss (c .if1 .left)),
-        (try .ensures .1, try .kept .1 .1 .1 .1 .1 .1 .1 .1 .1 .1 .1 .1 .1 .0 ∙ loop .inv .1 .1 .1),
+        upto-more _ (a .t3 .end) (wordOf p) (loop .j) (loop .inv .1 .0) (try .ensures .0 .miss (c .if1 .left)),
+        (try .ensures .1, try .kept .0 ∙ loop .inv .1 .1 .1),
       ),
     )
 
@@ -94,15 +88,15 @@ same-length-2 c = c .before .loop .inv .1 .1 .1
 
 returns-2 : tie.Need-returns-2 Inv-loop μ-loop
 returns-2 c =
-    let start = c .before .before .before .before .before in
-    let a = start .args in
-    let g = start .pre .0 in
-    let h = start .pre .1 .0 in
-    let loop = c .before .loop in
-    let k = a .part .placed in
-    let some = placed-at h k (word-length (g .known)) (start .pre .1 .1) in
-    let at : loop .j ≡ getD (a .t12 .order) k 0 = omega (arith, loop .inv .0, c .loop-test .left, c .before .before .wide .ensures) in
-    (place-miss h (getD (a .t12 .order) k 0) (some .0) (some .1) (rw at at (loop .inv .1 .0)), loop .inv .1 .1 .0)
+    let pre = c .before .before .before .before .before .before .pre in
+    let a = c .before .before .before .before .before .before .args in
+    let g = pre .0 in
+    let h = pre .1 .0 in
+    let k = partIn (a .part .now) .placed in
+    let order = a .t3 .order in
+    let some = placed-at h k (word-length (g .known)) (pre .1 .1) in
+    let at : c .before .loop .j ≡ getD order k 0 = omega (arith, c .before .loop .inv .0, c .loop-test .left, rw (c .before .before .before .before .placed .ensures) at (c .before .before .index .ensures)) in
+    (place-miss h (getD order k 0) (some .0) (some .1) (rw at at (c .before .loop .inv .1 .0)), c .before .loop .inv .1 .1 .0)
 
 pub settle-place-spec : {M : Type 1} → statement M
 settle-place-spec =
@@ -110,8 +104,9 @@ settle-place-spec =
     (tie.spec
     Inv-loop
     μ-loop
-    element-copy-out-wide
-    wide-requires
+    placed-requires
+    element-copy-out-index
+    index-requires
     loop-holds
     try-place-requires
     same-length

@@ -1,5 +1,4 @@
 -- `search::try_place` meets its contract.
-use Prim.Native.Nat.{_<_}
 use Rattle.candidates.proofs.Children.{start-low, child-placeable, child-word}
 use Rattle.search.proofs.Sweeps.{none-outcome}
 use Rattle.search.proofs.Placings.{not-next, place-enter}
@@ -8,64 +7,43 @@ use Rattle.search.proofs.try_place.Statement.{statement}
 use Rattle.search.proofs.try_place.Tie as tie
 
 start-or-none-requires : tie.Need-start-or-none-requires
-start-or-none-requires c κs = search needs
+start-or-none-requires c κs = (c .before .pre .0 .known, c .before .pre .1)
 
 none-found-requires : tie.Need-none-found-requires
 none-found-requires c κs = search needs
 
 returns : tie.Need-returns
 returns c =
-    let start = c .before .before .before .before in
-    let g = start .pre .0 in
-    let l = start .pre .1 in
-    let s = c .before .before .start-or-none in
-    (rw (c .none-found .ensures) (none-outcome (not-next g l (s .ensures) (c .before .if1 .taken))), g .remembered)
+    let pre = c .before .before .before .before .pre in
+    let g = pre .0 in
+    (rw (c .none-found .ensures) (none-outcome (not-next g (pre .1) (c .before .before .start-or-none .ensures) (c .before .if1 .taken))), g .remembered)
 
-mul-place : tie.Need-mul-place
-mul-place c = search needs
-
-element-copy-out-place : tie.Need-element-copy-out-place
-element-copy-out-place c = search needs
-
-mul-place-2 : tie.Need-mul-place-2
-mul-place-2 c = search needs
-
-element-copy-out-place-2 : tie.Need-element-copy-out-place-2
-element-copy-out-place-2 c = search needs
-
-place-requires : tie.Need-place-requires
-place-requires c κs =
-    let start = c .before .before .before .before .before in
-    let g = start .pre .0 in
-    let l = start .pre .1 in
-    let s = c .before .before .before .start-or-none in
-    let low : s .result < 65535 = start-low (g .known) (s .ensures) (c .before .before .if1 .left) in
-    child-placeable (g .known) l (s .ensures) low
+with-job-requires : tie.Need-with-job-requires
+with-job-requires c κs =
+    let pre = c .before .before .before .pre in
+    let g = pre .0 in
+    let start = c .before .start-or-none .ensures in
+    child-placeable (g .known) (pre .1) start (start-low (g .known) start (c .if1 .left))
 
 visit-requires : tie.Need-visit-requires
 visit-requires c κs =
-    let start = c .before .before .before .before .before .before .before .before .before .before .before .before .before in
-    let g = start .pre .0 in
-    let l = start .pre .1 in
-    let s = c .before .before .before .before .before .before .before .before .before .before .before .start-or-none in
-    let low : s .result < 65535 = start-low (g .known) (s .ensures) (c .before .before .before .before .before .before .before .before .before .before .if1 .left) in
-    place-enter g l (s .ensures) low (c .before .before .before .before .before .before .before .place .ensures)
+    let pre = c .before .before .before .before .before .before .before .pre in
+    let g = pre .0 in
+    let start = c .before .before .before .before .before .start-or-none .ensures in
+    place-enter g (pre .1) start (start-low (g .known) start (c .before .before .before .before .if1 .left)) (c .before .before .before .with-job .ensures)
 
 same-length : tie.Need-same-length
-same-length c = search needs
+same-length c = c .before .before .visit .kept .0
 
 returns-2 : tie.Need-returns-2
 returns-2 c =
-    let start = c .before .before .before .before .before .before .before .before .before .before .before .before .before .before .before .before in
-    let g = start .pre .0 in
-    let l = start .pre .1 in
-    let s = c .before .before .before .before .before .before .before .before .before .before .before .before .before .before .start-or-none in
-    let low : s .result < 65535 = start-low (g .known) (s .ensures)
-    (c .before .before .before .before .before .before .before .before .before .before .before .before .before .if1 .left) in
-    let place = c .before .before .before .before .before .before .before .before .before .before .place in
-    let word = child-word (g .known) l (s .ensures) low (place .ensures) in
-    let visit = c .before .before .visit in
-    (rw word at (visit .ensures .0), visit .ensures .1 .1)
+    let past = c .before .before .before .before .before .before .before .before in
+    let pre = past .before .before .pre in
+    let g = pre .0 in
+    let start = c .before .before .before .before .before .before .before .before .start-or-none .ensures in
+    let word = child-word (g .known) (pre .1) start (start-low (g .known) start (c .before .before .before .before .before .before .before .if1 .left)) (c .before .before .before .before .before .before .with-job .ensures) in
+    let visit = c .before .before .visit .ensures in
+    (rw word at (visit .0), visit .1 .1)
 
 pub try-place-spec : {M : Type 1} → statement M
 try-place-spec =
@@ -74,11 +52,7 @@ try-place-spec =
     start-or-none-requires
     none-found-requires
     returns
-    mul-place
-    element-copy-out-place
-    mul-place-2
-    element-copy-out-place-2
-    place-requires
+    with-job-requires
     visit-requires
     same-length
     returns-2)

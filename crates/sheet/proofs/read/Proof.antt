@@ -59,7 +59,8 @@ refused-requires-2 c κs = search needs
 
 returns-2 : tie.Need-returns-2
 returns-2 c =
-    let s = c .before .before .before .before .before .before .before .before .before .before .args .sheet .now in
+    let past = c .before .before .before .before .before .before .before .before in
+    let s = past .before .before .args .sheet .now in
     let n = c .before .before .before .before .before .count in
     let o = c .before .before .before .before .before .before .offset in
     let r = c .before .before .before .before .read-all in
@@ -72,14 +73,16 @@ returns-2 c =
 
 modules-requires : tie.Need-modules-requires
 modules-requires c κs =
-    trailer (c .before .before .before .before .before .before .before .before .before .before .args .sheet .now)
+    let past = c .before .before .before .before .before .before .before .before in
+    trailer (past .before .before .args .sheet .now)
     (c .before .before .before .before .before .before .before .before .refusal .result)
     (c .before .before .before .before .before .before .before .before .refusal .ensures)
     (c .before .before .before .before .before .before .before .if1 .left) .long
 
 returns-3 : tie.Need-returns-3
 returns-3 c =
-    let s = c .before .before .before .before .before .before .before .before .before .before .before .args .sheet .now in
+    let past = c .before .before .before .before .before .before .before .before in
+    let s = past .before .before .before .args .sheet .now in
     let n = c .before .before .before .before .before .before .count in
     let o = c .before .before .before .before .before .before .before .offset in
     let r = c .before .before .before .before .before .read-all in
@@ -88,8 +91,8 @@ returns-3 c =
     (n .ensures) (o .ensures) (r .ensures .2) (r .ensures .1) (d .ensures) in
     answer-is s (n .result) (o .result) (c .modules .result) (r .result .jobs) (n .ensures) (o .ensures) (c .modules .ensures)
     (r .ensures .0)
-    ∙ read-whole s (c .before .before .before .before .before .before .before .before .before .refusal .result)
-    (c .before .before .before .before .before .before .before .before .before .refusal .ensures)
+    ∙ read-whole s (past .before .refusal .result)
+    (past .before .refusal .ensures)
     (c .before .before .before .before .before .before .before .before .if1 .left) (d .result) k (c .before .before .if2 .left)
 
 pub read-spec : {M : Type 1} → statement M

@@ -65,8 +65,9 @@ same-length c = search needs
 
 returns : tie.Need-returns
 returns c =
-    let a = c .before .before .before .before .before .before .before .before .before .before .before .before .before .before .args in
-    let l = c .before .before .before .before .before .before .before .before .before .before .write-labels in
+    let past = c .before .before .before .before .before .before .before .before in
+    let a = past .before .before .before .before .before .before .args in
+    let l = past .before .before .write-labels in
     let r = c .before .before .before .before .before .before .write-all in
     let t = c .before .before .write in (
       refl,

@@ -28,8 +28,8 @@ shared-slice-read-fitting c = search needs
 fitting-requires : tie.Need-fitting-requires Inv-loop μ-loop
 fitting-requires c κs = search needs
 
-later-requires : tie.Need-later-requires Inv-loop μ-loop
-later-requires c κs = search needs
+larger-requires : tie.Need-larger-requires Inv-loop μ-loop
+larger-requires c κs = search needs
 
 add-i : tie.Need-add-i Inv-loop μ-loop
 add-i c = search needs
@@ -42,7 +42,7 @@ unfolding longest largest
 loop-again c =
     let loop = c .before .before .before .before .loop in
     let fitting = c .before .fitting in
-    (search needs, rw (add-one, c .later .ensures, loop .inv .1, fitting .ensures))
+    (search needs, rw (add-one, c .larger .ensures, loop .inv .1, fitting .ensures))
 
 returns : tie.Need-returns Inv-loop μ-loop
 returns c =
@@ -61,7 +61,7 @@ longest-fit-spec =
     mul-fitting
     shared-slice-read-fitting
     fitting-requires
-    later-requires
+    larger-requires
     add-i
     loop-less
     loop-again

@@ -28,8 +28,8 @@ shared-slice-read-paired c = search needs
 paired-requires : tie.Need-paired-requires Inv-loop μ-loop
 paired-requires c κs = search needs
 
-later-requires : tie.Need-later-requires Inv-loop μ-loop
-later-requires c κs = search needs
+larger-requires : tie.Need-larger-requires Inv-loop μ-loop
+larger-requires c κs = search needs
 
 add-i : tie.Need-add-i Inv-loop μ-loop
 add-i c = search needs
@@ -42,7 +42,7 @@ unfolding longestPair largest
 loop-again c =
     let loop = c .before .before .before .before .loop in
     let paired = c .before .paired in
-    (search needs, rw (add-one, c .later .ensures, loop .inv .1, paired .ensures))
+    (search needs, rw (add-one, c .larger .ensures, loop .inv .1, paired .ensures))
 
 returns : tie.Need-returns Inv-loop μ-loop
 returns c =
@@ -61,7 +61,7 @@ longest-pair-spec =
     mul-paired
     shared-slice-read-paired
     paired-requires
-    later-requires
+    larger-requires
     add-i
     loop-less
     loop-again

@@ -34,12 +34,14 @@ longest-pair-requires c κs = search needs
 
 returns-3 : tie.Need-returns-3
 returns-3 c =
-    let start = c .before .before .before .before .before .before .before .before .before .before .before in
-    let low = c .before .before .before .before .before .before .before .before .before .subset-sums in
+    let past = c .before .before .before .before .before .before .before .before in
+    let a = past .before .before .before .args in
+    let pre = past .before .before .before .pre in
+    let low = past .before .subset-sums in
     let high = c .before .before .before .before .before .before .subset-sums2 in
     let if1 = c .before .before .before .before .if1 in
     let if2 = c .before .before .before .if2 in
-    rw (c .longest-pair .ensures) (rounded-pair (low .ensures) (high .ensures) (start .args .target) (start .pre .few)
+    rw (c .longest-pair .ensures) (rounded-pair (low .ensures) (high .ensures) (a .target) (pre .few)
     (omega (arith, if1 .left)) (omega (arith, if2 .left)))
 
 pub rounded-spec : {M : Type 1} → statement M

@@ -1,48 +1,50 @@
 -- `sums::served_behind` meets its contract.
-use Prim.Native.Nat.{ℕ, _-_}
-use mathlib.Core.Path.{_≡_, ap, _∙_}
+use mathlib.Core.Path.{_≡_}
+use Prim.Native.Nat.{_-_}
 use native.Mathlib.Omega.{arith}
-use Rattle.sums.specs.Sums.{longest, servedBy}
-use Rattle.sums.proofs.Serving.{Serving, serving-start, serving-fits, serving-step}
+use Rattle.tables.specs.Part.{partIn}
+use Rattle.sums.proofs.Serving.{Serving, serving-start, serving-fits, serving-step, serving-all}
 use borrow.Author.Needs.{needs}
 use Rattle.sums.proofs.served_behind.Statement.{statement}
 use Rattle.sums.proofs.served_behind.Tie as tie
 
 abbrev Inv-loop : tie.InvT-loop
-Inv-loop at count until held placed gone free modules l target total₀ i₀ total i =
-    Serving at count until held placed gone free modules l target total i
+Inv-loop at count part gone target placed total₀ i₀ total i =
+    (placed ≡ partIn part .placed) × Serving at count (partIn part) gone target total i
 
 abbrev μ-loop : tie.MeasureT-loop
-μ-loop at count until held placed gone free modules l target total₀ i₀ total i = placed - i
+μ-loop at count part gone target placed total₀ i₀ total i = placed - i
+
+placed-requires : tie.Need-placed-requires Inv-loop μ-loop
+placed-requires c κs = search needs
 
 loop-holds : tie.Need-loop-holds Inv-loop μ-loop
-loop-holds c = serving-start (c .before .pre .0) (omega (arith, c .before .fits .target .fits))
+loop-holds c = (c .placed .ensures, serving-start (c .before .before .pre .0) (omega (arith, c .before .before .fits .target .fits)))
 
-mul-module-minutes : tie.Need-mul-module-minutes Inv-loop μ-loop
-mul-module-minutes c = search needs
-
-element-copy-out-module-minutes : tie.Need-element-copy-out-module-minutes Inv-loop μ-loop
-element-copy-out-module-minutes c = search needs
-
-mul-reach-from : tie.Need-mul-reach-from Inv-loop μ-loop
-mul-reach-from c = search needs
-
-element-copy-out-reach-from : tie.Need-element-copy-out-reach-from Inv-loop μ-loop
-element-copy-out-reach-from c = search needs
+until-requires : tie.Need-until-requires Inv-loop μ-loop
+until-requires c κs =
+    let inv = c .before .loop .inv in
+    omega (arith, inv .0, c .loop-test .taken, inv .1 .held .few)
 
 reach-from-requires : tie.Need-reach-from-requires Inv-loop μ-loop
 reach-from-requires c κs = search needs
 
-module-minutes-requires : tie.Need-module-minutes-requires Inv-loop μ-loop
-module-minutes-requires c κs = search needs
+held-requires : tie.Need-held-requires Inv-loop μ-loop
+held-requires c κs =
+    let inv = c .before .before .before .loop .inv in
+    omega (arith, inv .0, c .before .before .loop-test .taken, inv .1 .held .few)
+
+times-requires : tie.Need-times-requires Inv-loop μ-loop
+times-requires c κs = search needs
 
 add-total : tie.Need-add-total Inv-loop μ-loop
 add-total c =
     let loop = c .before .before .before .before .before .loop in
-    let loop-test = c .before .before .before .before .loop-test in
-    let reach-from = c .before .reach-from in
-    let most = rw (← reach-from .ensures) at (serving-fits (loop .inv) (loop-test .taken)) in
-    record { fits = omega (arith, most, c .module-minutes .ensures, loop .inv .small, loop .inv .running .profile .few) }
+    let serving = loop .inv .1 in
+    let most = serving-fits serving (omega (arith, loop .inv .0, c .before .before .before .before .loop-test .taken)) in
+    let reach = rw (c .before .before .before .until .ensures) at (c .before .before .reach-from .ensures) in
+    let product = rw (c .before .held .ensures, reach) at (c .times .ensures) in
+    record { fits = omega (arith, most, product, serving .small, serving .inside, serving .held .few) }
 
 add-i : tie.Need-add-i Inv-loop μ-loop
 add-i c = search needs
@@ -54,17 +56,17 @@ loop-again : tie.Need-loop-again Inv-loop μ-loop
 loop-again c =
     let loop = c .before .before .before .before .before .loop in
     let loop-test = c .before .before .before .before .loop-test in
-    let reach-from = c .before .reach-from in
-    rw (c .module-minutes .ensures, reach-from .ensures) (serving-step (loop .inv) (loop-test .taken))
+    let serving = loop .inv .1 in
+    let reach = rw (c .before .before .before .until .ensures) at (c .before .before .reach-from .ensures) in
+    let product = rw (c .before .held .ensures, reach) at (c .times .ensures) in
+    (loop .inv .0, rw product (serving-step serving (omega (arith, loop .inv .0, loop-test .taken))))
 
 returns : tie.Need-returns Inv-loop μ-loop
 returns c =
     let loop = c .before .loop in
-    let a = c .before .before .before .args in
-    let reach = longest (a .at .now) (a .count) in
-    let e : loop .i ≡ a .placed = omega (arith, loop .inv .inside, c .loop-test .left) in (
-      loop .inv .total-is ∙ ap (λ (n : ℕ). servedBy reach (a .until .now) (a .held .now) n (a .l) (a .target)) e,
-      omega (arith, loop .inv .small, loop .inv .running .profile .few),
+    let serving = loop .inv .1 in (
+      serving-all serving (omega (arith, loop .inv .0, c .loop-test .left)),
+      omega (arith, serving .small, serving .inside, serving .held .few),
     )
 
 pub served-behind-spec : {M : Type 1} → statement M
@@ -73,13 +75,12 @@ served-behind-spec =
     (tie.spec
     Inv-loop
     μ-loop
+    placed-requires
     loop-holds
-    mul-module-minutes
-    element-copy-out-module-minutes
-    mul-reach-from
-    element-copy-out-reach-from
+    until-requires
     reach-from-requires
-    module-minutes-requires
+    held-requires
+    times-requires
     add-total
     add-i
     loop-less

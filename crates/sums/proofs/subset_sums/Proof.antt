@@ -4,42 +4,47 @@ use native.Mathlib.Omega.{arith}
 use native.Mathlib.Nat.{pos-of-ne-zero}
 use lib.Count.{ones}
 use lib.ListN.{length, length-set}
-use borrow.Author.Needs.{needs}
 use Rattle.bits.proofs.Walks.{walk-less}
+use Rattle.tables.specs.Tables.{countOf}
 use Rattle.sums.proofs.Choices.{Summing, summing-none, summing-to, summing-step, summing-all}
+use borrow.Author.Needs.{needs}
 use Rattle.sums.proofs.subset_sums.Statement.{statement}
 use Rattle.sums.proofs.subset_sums.Tie as tie
 
 abbrev Inv-loop : tie.InvT-loop
-Inv-loop at₀ minutes set jobs count₀ rest₀ at count rest = Summing minutes set jobs rest at count × (length at ≡ length at₀)
+Inv-loop at₀ jobs set count₀ todo₀ at count todo = Summing jobs set (countOf jobs) todo at count × (length at ≡ length at₀)
 
 abbrev μ-loop : tie.MeasureT-loop
-μ-loop at₀ minutes set jobs count₀ rest₀ at count rest = ones rest
+μ-loop at₀ jobs set count₀ todo₀ at count todo = ones todo
 
 slice-write-at : tie.Need-slice-write-at Inv-loop μ-loop
 slice-write-at c = search needs
 
+count-requires : tie.Need-count-requires Inv-loop μ-loop
+count-requires c κs = search needs
+
 below32-requires : tie.Need-below32-requires Inv-loop μ-loop
-below32-requires c κs = omega (arith, c .before .pre .1 .few)
+below32-requires c κs = omega (arith, c .count .ensures, c .before .before .pre .1 .few)
 
 loop-holds : tie.Need-loop-holds Inv-loop μ-loop
 loop-holds c =
-    let start = c .before .before in
-    let a = start .args in
-    (rw (c .below32 .ensures) (summing-none (a .minutes .now) (a .set) (a .jobs) (a .at .now) (start .pre .0)), refl)
+    let a = c .before .before .before .args in
+    let t = a .jobs .now in
+    (rw (c .below32 .ensures, c .before .count .ensures) (summing-none t (a .set) (countOf t) (a .at .now) (c .before .before .before .pre .0)), refl)
 
 lowest32-requires : tie.Need-lowest32-requires Inv-loop μ-loop
 lowest32-requires c κs = pos-of-ne-zero (c .loop-test .taken)
 
 with-job-requires : tie.Need-with-job-requires Inv-loop μ-loop
 with-job-requires c κs =
-    let start = c .before .before .before .before .before .before in
-    let a = start .args in
+    let a = c .before .before .before .before .before .before .before .args in
+    let t = a .jobs .now in
+    let fit = c .before .before .before .before .before .before .before .pre .1 in
     let summing = c .before .before .before .loop .inv .0 in
     let j = c .before .lowest32 in
     let inside = summing .walk .below (j .result) (j .ensures .1) in (
-      summing-to (a .minutes .now) (a .set) (a .jobs) summing (j .result) (j .ensures .1) (j .ensures .2),
-      (omega (arith, inside, start .pre .1 .few), start .pre .1 .day (j .result) inside),
+      summing-to t (a .set) (countOf t) summing (j .result) (j .ensures .1) (j .ensures .2),
+      (omega (arith, inside, fit .few), fit .short (j .result) inside),
     )
 
 without-lowest32-requires : tie.Need-without-lowest32-requires Inv-loop μ-loop
@@ -52,23 +57,25 @@ loop-less c =
 
 loop-again : tie.Need-loop-again Inv-loop μ-loop
 loop-again c =
-    let low = c .before .before .before .before .before .lowest32 .ensures in
-    let a = c .before .before .before .before .before .before .before .before .before .before .args in
+    let past = c .before .before .before .before .before .before .before .before in
+    let a = past .before .before .before .args in
+    let t = a .jobs .now in
     let loop = c .before .before .before .before .before .before .before .loop in
     let j = c .before .before .before .before .before .lowest32 in
+    let low = j .ensures in
     let with-job = c .before .before .before .with-job in (
-      rw (c .without-lowest32 .ensures _ (low .1) (low .2)) (summing-step (a .minutes .now) (a .set) (a .jobs) (loop .inv .0) (j .result) (j .ensures .1) (j .ensures .2)
-          (with-job .ensures)),
+      rw (c .without-lowest32 .ensures _ (low .1) (low .2))
+          (summing-step t (a .set) (countOf t) (loop .inv .0) (j .result) (low .1) (low .2) (with-job .ensures)),
       with-job .kept .0 ∙ loop .inv .1,
     )
 
 same-length : tie.Need-same-length Inv-loop μ-loop
-same-length c = c .before .loop .inv .1 ∙ length-set (c .before .before .before .before .args .at .now) 0 0
+same-length c = c .before .loop .inv .1 ∙ length-set (c .before .before .before .before .before .args .at .now) 0 0
 
 returns : tie.Need-returns Inv-loop μ-loop
 returns c =
-    let a = c .before .before .before .before .args in
-    summing-all (a .minutes .now) (a .set) (a .jobs) (c .before .loop .inv .0) (c .loop-test .left)
+    let a = c .before .before .before .before .before .args in
+    summing-all (a .jobs .now) (a .set) (countOf (a .jobs .now)) (c .before .loop .inv .0) (c .loop-test .left)
 
 pub subset-sums-spec : {M : Type 1} → statement M
 subset-sums-spec =
@@ -77,6 +84,7 @@ subset-sums-spec =
     Inv-loop
     μ-loop
     slice-write-at
+    count-requires
     below32-requires
     loop-holds
     lowest32-requires

@@ -15,32 +15,23 @@ test32-requires c κs = search needs
 returns : tie.Need-returns
 returns c =
     let args = c .before .before .before .args in
-    let pre = c .before .before .before .pre in
     let test32 = c .before .test32 in
     let out : bit (args .set) (args .j) ≡ false = sym (test32 .ensures) ∙ not-true (test32 .result) (c .if1 .taken) in
-    sums-skip (pre .0) out
+    sums-skip (c .before .before .before .pre .0) out
 
 mul-if2 : tie.Need-mul-if2
-mul-if2 c =
-    let start = c .before .before .before in
-    record { fits = omega (arith, start .pre .0 .few, start .good .0 .1) }
+mul-if2 c = record { fits = omega (arith, c .before .before .before .pre .0 .few, c .before .before .before .good .0 .1) }
 
 returns-2 : tie.Need-returns-2
-returns-2 c =
-    let pre = c .before .before .before .before .pre in
-    sums-none (pre .0)
+returns-2 c = sums-none (c .before .before .before .before .pre .0)
 
-mul-add-job : tie.Need-mul-add-job
-mul-add-job c = search needs
-
-element-copy-out-add-job : tie.Need-element-copy-out-add-job
-element-copy-out-add-job c = search needs
+minutes-requires : tie.Need-minutes-requires
+minutes-requires c κs = search needs
 
 add-job-requires : tie.Need-add-job-requires
 add-job-requires c κs =
     let pre = c .before .before .before .before .before .before .pre in
-    let if2 = c .before .before .if2 in
-    sums-room (pre .0) (pre .1 .0) (pre .1 .1) (if2 .left)
+    rw (c .minutes .ensures) (sums-room (pre .0) (pre .1 .0) (pre .1 .1) (c .before .before .if2 .left))
 
 mul-result : tie.Need-mul-result
 mul-result c = search needs
@@ -50,10 +41,11 @@ same-length c = search needs
 
 returns-3 : tie.Need-returns-3
 returns-3 c =
-    let pre = c .before .before .before .before .before .before .before .before .before .pre in
-    let if2 = c .before .before .before .before .before .if2 in
+    let past = c .before .before .before .before .before .before .before .before in
+    let pre = past .before .pre in
     let add-job = c .before .before .add-job in
-    sums-more (pre .0) (pre .1 .1) (omega (arith, if2 .left, add-job .kept .0)) (add-job .ensures)
+    let doubled = rw (c .before .before .before .minutes .ensures) at (add-job .ensures) in
+    sums-more (pre .0) (pre .1 .1) (omega (arith, c .before .before .before .before .before .if2 .left, add-job .kept .0)) doubled
 
 pub with-job-spec : {M : Type 1} → statement M
 with-job-spec =
@@ -63,8 +55,7 @@ with-job-spec =
     returns
     mul-if2
     returns-2
-    mul-add-job
-    element-copy-out-add-job
+    minutes-requires
     add-job-requires
     mul-result
     same-length

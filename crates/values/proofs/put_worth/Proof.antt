@@ -6,14 +6,16 @@ use Prim.Native.Nat.{_+_, _-_, _*_, _≤_}
 use lib.ListN.{getD}
 use Rattle.weights.specs.Weights.{Put}
 use Rattle.weights.proofs.Puts.{put-none, put-more}
+use Rattle.figures.specs.Figures.{mostJobs}
+use Rattle.values.specs.Values.{worthPlace}
 use Rattle.values.proofs.put_worth.Statement.{statement}
 use Rattle.values.proofs.put_worth.Tie as tie
 
 abbrev Inv-loop : tie.InvT-loop
-Inv-loop weight value next₀ k₀ next k = (k ≤ 20) × Put (λ i. 1089 + i) (next₀ .of) (next .of) k (λ i. getD weight i 0 * getD value i 0)
+Inv-loop weight value next₀ k₀ next k = (k ≤ mostJobs) × Put (λ i. worthPlace + i) (next₀ .of) (next .of) k (λ i. getD weight i 0 * getD value i 0)
 
 abbrev μ-loop : tie.MeasureT-loop
-μ-loop weight value next₀ k₀ next k = 20 - k
+μ-loop weight value next₀ k₀ next k = mostJobs - k
 
 loop-holds : tie.Need-loop-holds Inv-loop μ-loop
 loop-holds c = (search needs, put-none _ _ _)
@@ -59,7 +61,7 @@ returns : tie.Need-returns Inv-loop μ-loop
 returns c =
     let loop = c .before .loop in
     let loop-test = c .loop-test in
-    let e : loop .k ≡ 20 = omega (arith, loop .inv .0, loop-test .left) in
+    let e : loop .k ≡ mostJobs = omega (arith, loop .inv .0, loop-test .left) in
     rw e at (loop .inv .1)
 
 pub put-worth-spec : {M : Type 1} → statement M

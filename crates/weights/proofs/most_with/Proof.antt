@@ -4,7 +4,6 @@ use Prim.Native.Nat.{_-_}
 use borrow.Author.Tests.{le-leb, lt-leb}
 use Rattle.weights.specs.Weights.{mostWith}
 use borrow.Author.Needs.{needs}
-use borrow.Author.Needs.{needs}
 use Rattle.weights.proofs.most_with.Statement.{statement}
 use Rattle.weights.proofs.most_with.Tie as tie
 

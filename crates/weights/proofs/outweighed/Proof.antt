@@ -4,29 +4,26 @@ use mathlib.Core.Path.{refl}
 use mathlib.Core.Bool.{false}
 use Prim.Native.Nat.{_-_, _≤_}
 use Rattle.counting.proofs.Tests.{clash}
+use Rattle.weights.specs.Weights.{weightings}
 use Rattle.weights.proofs.Walks.{outweighs}
 use borrow.Author.Needs.{needs}
 use Rattle.weights.proofs.outweighed.Statement.{statement}
 use Rattle.weights.proofs.outweighed.Tie as tie
 
 abbrev Inv-loop : tie.InvT-loop
-Inv-loop need minutes worth most until held placed gone free modules set jobs least target room weight q₀ q = q ≤ 5
+Inv-loop jobs prepared part gone free least target room weight q₀ q = q ≤ weightings
 
 abbrev μ-loop : tie.MeasureT-loop
-μ-loop need minutes worth most until held placed gone free modules set jobs least target room weight q₀ q = 5 - q
+μ-loop jobs prepared part gone free least target room weight q₀ q = weightings - q
 
 returns : tie.Need-returns Inv-loop μ-loop
 returns c = λ e. clash false e refl
 
 room-for-requires : tie.Need-room-for-requires Inv-loop μ-loop
-room-for-requires c κs =
-    let pre = c .before .pre in
-    ((pre .0 .1 .most-small, pre .1), (pre .0 .0 .most, c .if1 .left))
+room-for-requires c κs = ((c .before .pre .0 .1 .most-small, c .before .pre .1), (c .before .pre .0 .0 .most, c .if1 .left))
 
 set-worth-requires : tie.Need-set-worth-requires Inv-loop μ-loop
-set-worth-requires c κs =
-    let pre = c .before .before .pre in
-    (pre .0 .1 .worth-small, pre .0 .0 .few)
+set-worth-requires c κs = (c .before .before .pre .0 .0 .few, c .before .before .pre .0 .1 .worth-small)
 
 loop-holds : tie.Need-loop-holds Inv-loop μ-loop
 loop-holds c = search needs
@@ -45,11 +42,11 @@ element-copy-out-if2-2 c = search needs
 
 returns-2 : tie.Need-returns-2 Inv-loop μ-loop
 returns-2 c =
-    let loop = c .before .before .before .before .loop in
     let loop-test = c .before .before .before .loop-test in
-    let pre = c .before .before .before .before .before .before .before .before .pre in
-    let room-for = c .before .before .before .before .before .before .room-for in
+    let loop = c .before .before .before .before .loop in
     let set-worth = c .before .before .before .before .before .set-worth in
+    let room-for = c .before .before .before .before .before .before .room-for in
+    let pre = c .before .before .before .before .before .before .before .before .pre in
     let q = loop .q in
     let low = loop-test .taken in
     λ e. outweighs (pre .0 .1 .each q low) (omega (arith, c .if2 .taken, room-for .ensures q low, set-worth .ensures q low))

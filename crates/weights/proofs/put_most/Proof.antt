@@ -3,7 +3,7 @@ use native.Mathlib.Omega.{arith}
 use mathlib.Core.Path.{_≡_, refl}
 use Prim.Native.Nat.{_+_, _*_, _-_, _≤_}
 use lib.ListN.{getD}
-use Rattle.weights.specs.Weights.{Put}
+use Rattle.weights.specs.Weights.{weightings, widths, Put}
 use Rattle.weights.proofs.Puts.{put-none, put-more}
 use borrow.Author.Needs.{needs}
 use Rattle.weights.proofs.put_most.Statement.{statement}
@@ -11,11 +11,11 @@ use Rattle.weights.proofs.put_most.Tie as tie
 
 abbrev Inv-loop : tie.InvT-loop
 Inv-loop q table next₀ x₀ next x =
-    (x ≤ 65) × (
-    Put (λ i. i * 5 + q) (next₀ .most) (next .most) x (λ i. getD table i 0) × (next .worth ≡ next₀ .worth))
+    (x ≤ widths) × (
+    Put (λ i. i * weightings + q) (next₀ .most) (next .most) x (λ i. getD table i 0) × (next .worth ≡ next₀ .worth))
 
 abbrev μ-loop : tie.MeasureT-loop
-μ-loop q table next₀ x₀ next x = 65 - x
+μ-loop q table next₀ x₀ next x = widths - x
 
 loop-holds : tie.Need-loop-holds Inv-loop μ-loop
 loop-holds c = (search needs, (put-none _ _ _, refl))
@@ -53,7 +53,7 @@ loop-again c =
 returns : tie.Need-returns Inv-loop μ-loop
 returns c =
     let loop = c .before .loop in
-    let e : loop .x ≡ 65 = omega (arith, loop .inv .0, c .loop-test .left) in
+    let e : loop .x ≡ widths = omega (arith, loop .inv .0, c .loop-test .left) in
     rw e at (loop .inv .1)
 
 pub put-most-spec : {M : Type 1} → statement M

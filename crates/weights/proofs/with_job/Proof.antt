@@ -3,7 +3,7 @@ use native.Mathlib.Omega.{arith}
 use mathlib.Core.Path.{_≡_}
 use Prim.Native.Nat.{ℕ, _+_, _-_, _≤_, _<_}
 use lib.ListN.{replicate, length-replicate}
-use Rattle.weights.specs.Weights.{mostWith, Put}
+use Rattle.weights.specs.Weights.{widths, mostWith, Put}
 use Rattle.weights.proofs.Puts.{put-none, put-more}
 use borrow.Author.Needs.{needs}
 use Rattle.weights.proofs.with_job.Statement.{statement}
@@ -11,7 +11,7 @@ use Rattle.weights.proofs.with_job.Tie as tie
 
 abbrev Inv-loop : tie.InvT-loop
 Inv-loop width weight modules table next₀ x₀ next x =
-    (x ≤ modules + 1) × Put (λ y. y) (replicate 65 0) next x (mostWith (table .at) width weight)
+    (x ≤ modules + 1) × Put (λ y. y) (replicate widths 0) next x (mostWith (table .at) width weight)
 
 abbrev μ-loop : tie.MeasureT-loop
 μ-loop width weight modules table next₀ x₀ next x = modules + 1 - x
@@ -42,8 +42,8 @@ loop-again c =
     let loop = c .before .before .before .before .loop in
     let pre = c .before .before .before .before .before .pre in
     let loop-test = c .before .before .before .loop-test in
-    let size = length-replicate {A = ℕ} 65 0 in
-    let low : loop .x < 65 = omega (arith, pre .1 .1, loop-test .taken) in
+    let size = length-replicate {A = ℕ} widths 0 in
+    let low : loop .x < widths = omega (arith, pre .1 .1, loop-test .taken) in
     (search needs, put-more (loop .inv .1) _ (λ k m e. omega arith) (omega arith) (c .most-with .ensures))
 
 returns : tie.Need-returns Inv-loop μ-loop

@@ -8,7 +8,7 @@ use Rattle.counting.specs.Counting.{every}
 use Rattle.desk.specs.declared.Desk.{Desk}
 use Rattle.desk.specs.Desk.{mostControllers}
 use Rattle.desk.specs.Checks.{placeOkAt}
-use Rattle.desk.proofs.Loops.{every-more, every-not}
+use Rattle.counting.proofs.Loops.{every-more, every-not}
 use Rattle.desk.proofs.Desk.places_ok.Statement.{statement}
 use Rattle.desk.proofs.Desk.places_ok.Tie as tie
 

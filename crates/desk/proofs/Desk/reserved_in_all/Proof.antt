@@ -9,7 +9,7 @@ use Rattle.desk.specs.declared.Desk.{Desk}
 use Rattle.desk.specs.Desk.{mostModules, mostControllers, reserved}
 use Rattle.desk.specs.Checks.{placeOkAt}
 use Rattle.desk.proofs.Sound.{place-says, place-small}
-use Rattle.desk.proofs.Loops.{sum-more}
+use Rattle.counting.proofs.Loops.{sum-more}
 use Rattle.desk.proofs.Desk.reserved_in_all.Statement.{statement}
 use Rattle.desk.proofs.Desk.reserved_in_all.Tie as tie
 

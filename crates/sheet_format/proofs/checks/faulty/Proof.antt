@@ -52,7 +52,8 @@ either-requires-4 c κs = search needs
 returns : tie.Need-returns
 unfolding faulty
 returns c =
-    let a = c .before .before .before .before .before .before .before .before .before .before .before .before .before .args in
+    let past = c .before .before .before .before .before .before .before .before in
+    let a = past .before .before .before .before .before .args in
     let four = c .before .before .before .before .before in
     let three = four .before .before in
     let two = three .before .before in

@@ -79,6 +79,7 @@ add-if4-2 c = search needs
 returns-4 : tie.Need-returns-4
 unfolding firstFailing
 returns-4 c =
+    let past = c .before .before .before .before .before .before .before .before in
     rw (
       sym (c .before .before .before .before .before .before .before .before .outside .ensures) ∙
           c .before .before .before .before .before .before .before .if1 .left,
@@ -91,13 +92,14 @@ returns-4 c =
       sym (c .before .before .before .outside2 .ensures) ∙ c .before .before .if3 .left,
       ← c .before .offset .ensures,
       ne-eqb (c .before .offset .result + recordSize * c .before .before .before .before .before .before .count .result +
-          trailerSize) (length (c .before .before .before .before .before .before .before .before .before .before .args .sheet .now))
+          trailerSize) (length (past .before .before .args .sheet .now))
           (c .if4 .taken),
     )
 
 returns-5 : tie.Need-returns-5
 unfolding firstFailing
 returns-5 c =
+    let past = c .before .before .before .before .before .before .before .before in
     rw (
       sym (c .before .before .before .before .before .before .before .before .outside .ensures) ∙
           c .before .before .before .before .before .before .before .if1 .left,
@@ -110,7 +112,7 @@ returns-5 c =
       sym (c .before .before .before .outside2 .ensures) ∙ c .before .before .if3 .left,
       ← c .before .offset .ensures,
       eq-eqb (c .before .offset .result + recordSize * c .before .before .before .before .before .before .count .result +
-          trailerSize) (length (c .before .before .before .before .before .before .before .before .before .before .args .sheet .now))
+          trailerSize) (length (past .before .before .args .sheet .now))
           (c .if4 .left),
     )
 

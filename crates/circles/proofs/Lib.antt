@@ -1,0 +1,2 @@
+-- Laws of taking jobs out one after another.
+pub mod Taking

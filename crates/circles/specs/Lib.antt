@@ -1,0 +1,2 @@
+-- Jobs that wait for one another in a circle.
+pub mod Circles

@@ -1,0 +1,18 @@
+-- Figures that several crates share. Each stands here once; src/lib.rt has a constant for each.
+use Prim.Native.Nat.{ℕ}
+
+-- jobs on a sheet, at most
+abbrev pub mostJobs : ℕ
+mostJobs = 20
+
+-- modules of a cabinet, at most
+abbrev pub mostModules : ℕ
+mostModules = 64
+
+-- minutes of a job, at most
+abbrev pub mostMinutes : ℕ
+mostMinutes = 1440
+
+-- no minute: no start, no end, no target
+abbrev pub noMinute : ℕ
+noMinute = 65535

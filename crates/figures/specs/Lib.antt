@@ -1,0 +1,2 @@
+-- Figures that several crates share.
+pub mod Figures

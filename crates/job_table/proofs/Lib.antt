@@ -1,0 +1,2 @@
+-- Laws of the job table of a reading.
+pub mod Copies

@@ -1,0 +1,80 @@
+-- `job_table::put_job` meets its contract.
+use mathlib.Core.Path.{refl}
+use borrow.Author.Needs.{needs}
+use Rattle.job_table.specs.Table.{withJob}
+use Rattle.job_table.proofs.put_job.Statement.{statement}
+use Rattle.job_table.proofs.put_job.Tie as tie
+
+mul-table : tie.Need-mul-table
+mul-table c = search needs
+
+element-write-table : tie.Need-element-write-table
+element-write-table c = search needs
+
+add-table : tie.Need-add-table
+add-table c = search needs
+
+mul-table-2 : tie.Need-mul-table-2
+mul-table-2 c = search needs
+
+element-write-table-2 : tie.Need-element-write-table-2
+element-write-table-2 c = search needs
+
+cast-table : tie.Need-cast-table
+cast-table c = search needs
+
+mul-table-3 : tie.Need-mul-table-3
+mul-table-3 c = search needs
+
+add-table-2 : tie.Need-add-table-2
+add-table-2 c = search needs
+
+mul-table-4 : tie.Need-mul-table-4
+mul-table-4 c = search needs
+
+element-write-table-3 : tie.Need-element-write-table-3
+element-write-table-3 c = search needs
+
+cast-table-2 : tie.Need-cast-table-2
+cast-table-2 c = search needs
+
+mul-table-5 : tie.Need-mul-table-5
+mul-table-5 c = search needs
+
+add-table-3 : tie.Need-add-table-3
+add-table-3 c = search needs
+
+add-table-4 : tie.Need-add-table-4
+add-table-4 c = search needs
+
+mul-table-6 : tie.Need-mul-table-6
+mul-table-6 c = search needs
+
+element-write-table-4 : tie.Need-element-write-table-4
+element-write-table-4 c = search needs
+
+returns : tie.Need-returns
+unfolding withJob
+returns c = refl
+
+pub put-job-spec : {M : Type 1} → statement M
+put-job-spec =
+    tie.close
+    (tie.spec
+    mul-table
+    element-write-table
+    add-table
+    mul-table-2
+    element-write-table-2
+    cast-table
+    mul-table-3
+    add-table-2
+    mul-table-4
+    element-write-table-3
+    cast-table-2
+    mul-table-5
+    add-table-3
+    add-table-4
+    mul-table-6
+    element-write-table-4
+    returns)

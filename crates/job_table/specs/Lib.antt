@@ -1,0 +1,2 @@
+-- The job table of a reading.
+pub mod Table

@@ -1,2 +1,0 @@
--- The tables of a reading's jobs.
-pub mod Tables

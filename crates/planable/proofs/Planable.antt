@@ -1,0 +1,104 @@
+-- What checks 1 to 9 say where they pass, and what the front of the planning calls gives.
+use mathlib.Core.Path.{_≡_, refl, sym, _∙_}
+use mathlib.Core.Logic.{_↔_}
+use mathlib.Core.Bool.{false}
+use mathlib.Core.List.{List}
+use Prim.Native.Nat.{ℕ, _≤_, _<_}
+use native.Mathlib.Omega.{arith}
+use Rattle.figures.specs.Figures.{mostJobs}
+use Rattle.schedule.specs.Plan.{Plan, Valid, overWide, Circular}
+use Rattle.schedule.proofs.Existence.{has-plan}
+use Rattle.tables.specs.Tables.{sheetOf, countOf, Fit}
+use Rattle.checking.specs.Checking.{firstFailing, FirstFails}
+use Rattle.checking.proofs.Order.{all-passed, none-failing, both-passed, first-in-front, first-behind, refused-exactly}
+use Rattle.sheet.specs.Read.{readChecks, readRefusal, reading}
+use Rattle.sheet.proofs.Answers.{read-number}
+use Rattle.job_table.specs.Table.{TableOf}
+use Rattle.planable.specs.Planable.{sheetIn, noOrder, orderChecks, orderRefusal, planableChecks, planableRefusal}
+use Rattle.planable.specs.Results.{CheckedOf}
+use Rattle.planable.proofs.Same.{SameJobs, circular-same}
+use Rattle.planable.proofs.Circles.{ordered-when, refusal-same}
+use Rattle.planable.proofs.Tables.{few-read, lasting-read, same-jobs, fit-table}
+
+-- The number is k exactly when check k fails and no earlier one of 1 to 9 does.
+pub planable-refused : (s : List ℕ) (k : ℕ) → 0 < k → (planableRefusal s ≡ k) ↔ FirstFails (planableChecks s) k
+unfolding planableRefusal
+planable-refused s k h = refused-exactly (planableChecks s) k h
+
+-- ---- where all pass
+
+pub record Passes (s : List ℕ) : Type 0 where
+  pub reads : readRefusal s ≡ 0
+  pub narrow : overWide (sheetIn s) ≡ false
+  pub ordered : noOrder (sheetIn s) ≡ false
+
+pub passes : (s : List ℕ) → planableRefusal s ≡ 0 → Passes s
+unfolding planableRefusal
+passes s e =
+    let p = both-passed (readChecks s) (orderChecks (sheetIn s)) (all-passed (planableChecks s) refl e) in
+    record { reads = none-failing (readChecks s) (p .0); narrow = p .1 .0; ordered = p .1 .1 .0 }
+
+-- behind a sheet that reads, 8 and 9
+pub behind-reading : (s : List ℕ) → readRefusal s ≡ 0 → planableRefusal s ≡ orderRefusal (sheetIn s)
+unfolding planableRefusal orderRefusal
+behind-reading s e = first-behind (readChecks s) (orderChecks (sheetIn s)) (all-passed (readChecks s) refl e)
+
+-- The calls that check 1 to 9 answer exactly the sheets that read and have a valid plan.
+pub planable-when : (s : List ℕ) → (planableRefusal s ≡ 0) ↔ ((readRefusal s ≡ 0) × ((P : Plan) × Valid (sheetIn s) P))
+unfolding orderRefusal firstFailing
+planable-when s = (there, back)
+  where
+    there : planableRefusal s ≡ 0 → (readRefusal s ≡ 0) × ((P : Plan) × Valid (sheetIn s) P)
+    there e =
+        let p = passes s e in
+        (p .reads, has-plan (sheetIn s) (lasting-read s (p .reads)) .1 (p .narrow, ordered-when (sheetIn s) .0 (p .ordered)))
+
+    back : (readRefusal s ≡ 0) × ((P : Plan) × Valid (sheetIn s) P) → planableRefusal s ≡ 0
+    back h =
+        let p = has-plan (sheetIn s) (lasting-read s (h .0)) .0 (h .1) in
+        behind-reading s (h .0) ∙ rw (p .0, ordered-when (sheetIn s) .1 (p .1)) refl
+
+-- ---- the table
+
+-- what is known of the table of a sheet that passes
+pub record Ready (s t : List ℕ) : Type 0 where
+  pub reads : readRefusal s ≡ 0
+  pub fit : Fit t
+  pub free : ¬ Circular (sheetOf t)
+  pub same : SameJobs (sheetOf t) (sheetIn s)
+
+pub ready-table : (s t : List ℕ) → planableRefusal s ≡ 0 → TableOf (reading s) t → Ready s t
+ready-table s t e h =
+    let p = passes s e in
+    let same = same-jobs s (p .reads) t h in
+    record {
+      reads = p .reads;
+      fit = fit-table s (p .reads) t h (p .narrow);
+      free = λ c. ordered-when (sheetIn s) .0 (p .ordered) (circular-same same c);
+      same = same;
+    }
+
+-- ---- the front
+
+module _ (s : List ℕ) where
+  -- a sheet that does not read
+  pub turned-away : (t : List ℕ) → (reading s .refusal ≡ 0 → ⊥) → CheckedOf s (record { refusal = reading s .refusal; jobs = t })
+  unfolding planableRefusal
+  turned-away t h = record {
+    refusal = read-number s ∙ sym (first-in-front (readChecks s) (orderChecks (sheetIn s)) (λ z. h (read-number s ∙ z)));
+    table = λ z. absurd (h z);
+  }
+
+  module _ (z : reading s .refusal ≡ 0) where
+    pub reads-well : readRefusal s ≡ 0
+    reads-well = sym (read-number s) ∙ z
+
+    module _ (t : List ℕ) (h : TableOf (reading s) t) where
+      pub few-table : countOf t ≤ mostJobs
+      few-table = omega (arith, few-read s reads-well, h .count)
+
+      pub checked : (k : ℕ) → k ≡ orderRefusal (sheetOf t) → CheckedOf s (record { refusal = k; jobs = t })
+      checked k e = record {
+        refusal = e ∙ refusal-same (same-jobs s reads-well t h) ∙ sym (behind-reading s reads-well);
+        table = λ y. h;
+      }

@@ -1,0 +1,79 @@
+-- The figures of a sheet that reads: within their ranges, and in a table.
+use mathlib.Core.Path.{_≡_, refl, sym, ap, subst}
+use mathlib.Core.Bool.{false}
+use mathlib.Core.List.{List}
+use Prim.Native.Nat.{ℕ, _≤_, _<_}
+use native.Mathlib.Omega.{arith}
+use lib.ListN.{length}
+use Rattle.figures.specs.Figures.{mostJobs, mostModules}
+use Rattle.bits.specs.Bits.{bit}
+use Rattle.schedule.specs.Plan.{overWide, Lasting, Needing}
+use Rattle.schedule.proofs.Existence.{narrow-says}
+use Rattle.tables.specs.Tables.{sheetOf, Fit}
+use Rattle.sheet_format.specs.Format.{jobsIn, countOf, jobOf}
+use Rattle.sheet_format.proofs.Bounds.{Legal, legal}
+use Rattle.sheet_format.proofs.Lists.{length-places, job-in-place}
+use Rattle.sheet.specs.declared.Reading.{Reading}
+use Rattle.sheet.specs.Read.{readRefusal, reading}
+use Rattle.sheet.proofs.Answers.{read-answer, reads}
+use Rattle.job_table.specs.Table.{TableOf}
+use Rattle.planable.specs.Planable.{sheetIn}
+use Rattle.planable.proofs.Same.{SameJobs}
+
+module _ (s : List ℕ) (e : readRefusal s ≡ 0) where
+  abbrev r : Reading
+  r = reading s
+
+  pub few-read : r .count ≤ mostJobs
+  few-read = subst (λ (r : Reading). r .count ≤ mostJobs) (sym (read-answer s e)) (reads s e .trailer .few)
+
+  pub some-read : 0 < r .modules
+  some-read = subst (λ (r : Reading). 0 < r .modules) (sym (read-answer s e)) (reads s e .trailer .some)
+
+  pub most-read : r .modules ≤ mostModules
+  most-read = subst (λ (r : Reading). r .modules ≤ mostModules) (sym (read-answer s e)) (reads s e .trailer .most)
+
+  pub places-read : length (r .jobs) ≡ mostJobs
+  places-read = subst (λ (r : Reading). length (r .jobs) ≡ mostJobs) (sym (read-answer s e))
+      (length-places (countOf s) (jobOf s) (reads s e .trailer .few))
+
+  pub job-read : (j : ℕ) → j < r .count → Legal (countOf s) (jobsIn (r .jobs) j)
+  job-read = subst (λ (r : Reading). (j : ℕ) → j < r .count → Legal (countOf s) (jobsIn (r .jobs) j)) (sym (read-answer s e))
+      (λ j l. subst (Legal (countOf s)) (sym (job-in-place (countOf s) (jobOf s) j l))
+      (legal (countOf s) (jobOf s j) (reads s e .sound j l)))
+
+  pub lasting-read : Lasting (sheetIn s)
+  lasting-read j l = job-read j l .minutes-some
+
+  pub needing-read : Needing (sheetIn s)
+  needing-read j l = job-read j l .modules-some
+
+  -- ---- in a table
+
+  module _ (t : List ℕ) (h : TableOf r t) where
+    pub same-jobs : SameJobs (sheetOf t) (sheetIn s)
+    same-jobs = record {
+      jobs = h .count;
+      modules = h .modules;
+      rest = refl;
+      need = λ j l. h .need j (omega (arith, few-read, h .count));
+      minutes = λ j l. h .minutes j (omega (arith, few-read, h .count));
+      before = λ i j k l. ap (λ (x : ℕ). bit x i) (h .earlier j (omega (arith, few-read, h .count)));
+      arrival = λ j l. refl;
+    }
+
+    pub fit-table : overWide (sheetIn s) ≡ false → Fit t
+    fit-table w = record {
+      few = omega (arith, few-read, h .count);
+      some = omega (arith, some-read, h .modules);
+      most = omega (arith, most-read, h .modules);
+      narrow = λ j l.
+          let k : j < r .count = omega (arith, h .count) in
+          omega (arith, same-jobs .need j l, h .modules, narrow-says (sheetIn s) w j k);
+      lasting = λ j l.
+          let k : j < r .count = omega (arith, h .count) in
+          omega (arith, same-jobs .minutes j l, job-read j k .minutes-some);
+      short = λ j l.
+          let k : j < r .count = omega (arith, h .count) in
+          omega (arith, same-jobs .minutes j l, job-read j k .minutes-most);
+    }

@@ -1,0 +1,3 @@
+-- What every planning call begins with.
+pub mod Planable
+pub mod Results

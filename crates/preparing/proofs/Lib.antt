@@ -1,0 +1,2 @@
+-- Laws of the prepared table.
+pub mod Filling

@@ -1,0 +1,2 @@
+-- What the prepared table says.
+pub mod Preparing
