@@ -11,7 +11,7 @@ use Rattle.bits.specs.Bits.{bit, withoutBit, setOf}
 use Rattle.bits.proofs.Digits.{bit-none}
 use Rattle.bits.proofs.Walks.{Walk, walk-first, walk-none, walk-next, walk-gone}
 use Rattle.candidates.specs.declared.Choice.{Choice}
-use Rattle.candidates.specs.Candidates.{Chosen, ChoiceOf}
+use Rattle.candidates.specs.Candidates.{LowerRank, ChoiceOf}
 
 -- the choice, by rank, among the jobs of the set that are not still to come
 pub record Choosing (at : List ℕ) (set jobs todo job rank : ℕ) : Type 0 where
@@ -30,7 +30,7 @@ module _ (at : List ℕ) (set jobs : ℕ) where
   }
 
   pub choosing-step : (todo j chain c rank d least : ℕ) → getD at j 0 ≤ 65535 → Choosing at set jobs todo c rank → bit todo j ≡ true
-      → Chosen c rank j (getD at j 0 * 65536 + (65535 - chain)) d least → Choosing at set jobs (withoutBit todo j) d least
+      → LowerRank c rank j (getD at j 0 * 65536 + (65535 - chain)) d least → Choosing at set jobs (withoutBit todo j) d least
   choosing-step todo j chain c rank d least top h t (inl (e, (f, m))) = record {
     walk = walk-next j (h .walk);
     first = λ k l x g. go k l x (walk-gone todo j k g);

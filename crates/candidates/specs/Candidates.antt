@@ -9,7 +9,7 @@ use Rattle.figures.specs.Figures.{noMinute}
 use Rattle.bits.specs.Bits.{bit}
 use Rattle.schedule.specs.Plan.{Sheet}
 use Rattle.schedule.specs.ListPlan.{PartPlan, ready, startOf, partOf}
-use Rattle.tables.specs.Tables.{sheetOf, countOf, Fit}
+use Rattle.tables.specs.Tables.{sheetOf, Fit}
 use Rattle.tables.specs.Part.{Part, wordOf}
 use Rattle.placement.specs.Part.{IsPart}
 use Rattle.candidates.specs.declared.Choice.{Choice}
@@ -43,15 +43,11 @@ JobStart t p = StartOr (sheetOf t) (theoryPart t p)
 abbrev pub JobStarts : List ℕ → Part → List ℕ → ℕ → Type 0
 JobStarts t p = StartsOf (sheetOf t) (theoryPart t p)
 
--- these are the starts of all jobs
-abbrev pub EachStart : List ℕ → Part → List ℕ → Type 0
-EachStart t p at = (j : ℕ) → j < countOf t → JobStart t p j (getD at j 0)
-
 -- ---- the next job
 
 -- of job c and job j, job d has the lower rank
-abbrev pub Chosen : ℕ → ℕ → ℕ → ℕ → ℕ → ℕ → Type 0
-Chosen c low j rank d least =
+abbrev pub LowerRank : ℕ → ℕ → ℕ → ℕ → ℕ → ℕ → Type 0
+LowerRank c low j rank d least =
     ((d ≡ c) × ((least ≡ low) × (low ≤ rank))) ⊎ ((d ≡ j) × ((least ≡ rank) × (rank ≤ low)))
 
 -- a choice among the first n jobs of a set: the one that starts first; none where none of them may come next

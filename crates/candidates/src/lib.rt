@@ -6,7 +6,7 @@ ghost use Rattle.figures.specs.Figures.{mostJobs};
 ghost use Rattle.bits.specs.Bits.{bit};
 ghost use Rattle.tables.specs.Tables.{countOf};
 ghost use Rattle.tables.specs.Part.{partIn};
-ghost use Rattle.candidates.specs.Candidates.{Known, JobStart, JobStarts, Chosen, ChoiceOf};
+ghost use Rattle.candidates.specs.Candidates.{Known, JobStart, JobStarts, LowerRank, ChoiceOf};
 use figures::MOST_JOBS;
 use figures::NO_MINUTE;
 use tables::Jobs;
@@ -87,7 +87,7 @@ fn rank_of(start: u16, chain: u32) -> u32
 
 // The choice so far, or job j where its rank is less.
 fn choose(c: Ranked, j: usize, rank: u32) -> Ranked
-    ensures { λ r. ⌜ Chosen (c .job) (c .rank) j rank (r .job) (r .rank) ⌝ }
+    ensures { λ r. ⌜ LowerRank (c .job) (c .rank) j rank (r .job) (r .rank) ⌝ }
 {
     if rank < c.rank {
         return Ranked { job: j, rank };

@@ -31,7 +31,7 @@ use Rattle.planable.proofs.Circles.{circular-when, ordered-when}
 use Rattle.planable.proofs.Tables.{lasting-read}
 use Rattle.planable.proofs.Planable.{Passes, passes, Ready, ready-table}
 use Rattle.planner.specs.Planning.{roomChecks, planChecks, planRefusal, bestCard, cardAfter}
-use Rattle.planner.specs.Planned.{Planned}
+use Rattle.planner.specs.Planned.{Answered}
 use Rattle.planner.proofs.Cards.{card-same, decodes-same, best-card}
 
 -- ---- the checks
@@ -159,7 +159,7 @@ module _ (s card : List ℕ) (e : planRefusal s (length card) ≡ 0) where
   last : planEnd S (planOn (cardAfter s card)) ≡ endOf S o
   last = card-end S (narrow-says S (p .narrow)) o (best .order) (cardAfter s card) decodes ∙ decodes .last
 
-  pub plan-answered : (order : List ℕ) × Planned s card order
+  pub plan-answered : (order : List ℕ) × Answered s card order
   plan-answered = (
     o,
     record {

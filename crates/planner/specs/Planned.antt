@@ -15,7 +15,7 @@ abbrev pub ourPlan : List ℕ → List ℕ → Plan
 ourPlan s card = planOn (cardAfter s card)
 
 -- An answered call's card, and whatever stands behind it in the lent bytes. T is the sheet that s reads as.
-pub record PlannedFor (T : Sheet) (s card order : List ℕ) : Type 0 where
+pub record AnsweredFor (T : Sheet) (s card order : List ℕ) : Type 0 where
   -- "the one that document 01's tie rule names"
   pub best : Best T order
   pub written : cardAfter s card ≡ cardOf T order ++ drop (cardSize (T .jobs)) card
@@ -26,5 +26,5 @@ pub record PlannedFor (T : Sheet) (s card order : List ℕ) : Type 0 where
   -- "every valid plan, whoever finds it and however, ends no earlier than ours"
   pub earliest : (Q : Plan) → Valid T Q → planEnd T (ourPlan s card) ≤ planEnd T Q
 
-abbrev pub Planned : List ℕ → List ℕ → List ℕ → Type 0
-Planned s = PlannedFor (sheetIn s) s
+abbrev pub Answered : List ℕ → List ℕ → List ℕ → Type 0
+Answered s = AnsweredFor (sheetIn s) s

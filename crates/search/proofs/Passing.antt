@@ -36,8 +36,8 @@ use Rattle.candidates.proofs.Children.{word-length, word-at, child-placeable, c
 use Rattle.branching.specs.Branching.{settledNow, AllAwaited, EndsInBlock, PassedOver}
 use Rattle.search.specs.Search.{Fails, SettledAt, SameStart, SettledSo, Searching, TriedSo, Choosing}
 
-module _ {t prepared : List ℕ} {part : Part} {target : ℕ} {memory by : List ℕ} {same tried job at : ℕ}
-    (s : Searching t prepared part target memory by same) (choosing : Choosing t part target tried job at) where
+module _ {t prepared : List ℕ} {part : Part} {target : ℕ} {memory settled : List ℕ} {same tried job at : ℕ}
+    (s : Searching t prepared part target memory settled same) (choosing : Choosing t part target tried job at) where
   abbrev S : Sheet
   S = sheetOf t
 
@@ -116,7 +116,7 @@ module _ {t prepared : List ℕ} {part : Part} {target : ℕ} {memory by : List 
       (omega (arith, a .soon, branch-start S narrow u i q f)) z (suc target) (a .fails))
 
   swapped : (i : ℕ) → i < jobs → Swapping t i job → getD (part .ends) i 0 ≡ at → bit (part .unplaced) i ≡ false
-      → bit (getD by i 0) job ≡ true → Fails S target (w ++ (job ∷ []))
+      → bit (getD settled i 0) job ≡ true → Fails S target (w ++ (job ∷ []))
   swapped i m t e p b = go (placed-splits S w i placed)
     where
       placed : P .placed i ≡ true
@@ -140,7 +140,7 @@ module _ {t prepared : List ℕ} {part : Part} {target : ℕ} {memory by : List 
       → Fails S target (x ++ (job ∷ []))) (sym e)
       (λ f a k. block-cut S lasting narrow u i q f job (a .may-come) k (suc target) (a .fails))
 
-  module _ (awaited : ℕ) (all : AllAwaited t (part .unplaced) awaited) (b : EndsInBlock t part by awaited at job) where
+  module _ (awaited : ℕ) (all : AllAwaited t (part .unplaced) awaited) (b : EndsInBlock t part settled awaited at job) where
     abbrev m : ℕ
     m = b .at
 
@@ -232,7 +232,7 @@ module _ {t prepared : List ℕ} {part : Part} {target : ℕ} {memory by : List 
       here = λ k x p. zero-le;
     })
 
-  pub passed-cut : PassedOver t (relatedIn prepared) part by same tried at job → Fails S target (w ++ (job ∷ []))
+  pub passed-cut : PassedOver t (relatedIn prepared) part settled same tried at job → Fails S target (w ++ (job ∷ []))
   passed-cut (inl (i, h, b)) = let pair = s .going .tabled .related job l .alike i b in come-first i (pair .0) h (pair .1)
   passed-cut (inr (inl (z, b))) = same-minute (sym z) (s .settled-so .same-start job l b)
   passed-cut (inr (inr (inl (i, m, b, (e, (p, x)))))) = swapped i m (s .going .tabled .related job l .swapping i b .1) e p x
@@ -291,23 +291,23 @@ module _ {t prepared : List ℕ} {part : Part} {target : ℕ} {memory by : List 
       go true e b = either (eqb-true _ _ e) (bit same x) refl (sym (bit-or same tried x) ∙ b)
       go false e b = by-tried b
 
-  settled-more : SettledSo S target (w ++ (job ∷ [])) (set by job tried)
+  settled-more : SettledSo S target (w ++ (job ∷ [])) (set settled job tried)
       (settledNow same tried at (part .last))
   settled-more = record {
-    size = length-set by job tried ∙ s .settled-so .size;
+    size = length-set settled job tried ∙ s .settled-so .size;
     each = λ u i q x e m b. go u i q x m b (split-last w job u i q e);
     same-start = same-more;
   }
     where
-      go : (u : List ℕ) (i : ℕ) (q : List ℕ) (x : ℕ) → x < jobs → bit (getD (set by job tried) i 0) x ≡ true
+      go : (u : List ℕ) (i : ℕ) (q : List ℕ) (x : ℕ) → x < jobs → bit (getD (set settled job tried) i 0) x ≡ true
           → ((w ≡ u) × (job ≡ i)) ⊎ ((p : List ℕ) × (w ≡ u ++ (i ∷ p))) → SettledAt S target u i x
       go u i q x m b (inl (e, j)) =
-          let here = getD-set-same by job tried 0 (omega (arith, s .settled-so .size, s .going .known .fit .few)) in
-          let here-too : bit tried x ≡ true = ap (λ (y : ℕ). bit y x) (sym here ∙ ap (λ (k : ℕ). getD (set by job tried) k 0) j) ∙ b in
+          let here = getD-set-same settled job tried 0 (omega (arith, s .settled-so .size, s .going .known .fit .few)) in
+          let here-too : bit tried x ≡ true = ap (λ (y : ℕ). bit y x) (sym here ∙ ap (λ (k : ℕ). getD (set settled job tried) k 0) j) ∙ b in
           subst (λ (v : List ℕ). SettledAt S target v i x) e (subst (λ (k : ℕ). SettledAt S target w k x) j (settled-here x m here-too))
       go u i q x m b (inr (p, e)) =
           s .settled-so .each u i p x e m
-          (ap (λ (y : ℕ). bit y x) (sym (getD-set-other by job i tried 0 (not-job u i p e))) ∙ b)
+          (ap (λ (y : ℕ). bit y x) (sym (getD-set-other settled job i tried 0 (not-job u i p e))) ∙ b)
 
   pub choice-placeable : Placeable t part job at
   choice-placeable = child-placeable (s .going .known) l start low
@@ -321,7 +321,7 @@ module _ {t prepared : List ℕ} {part : Part} {target : ℕ} {memory by : List 
     pub choice-word : wordOf child ≡ w ++ (job ∷ [])
     choice-word = child-word (s .going .known) l start low placed
 
-    pub choice-searching : Searching t prepared child target memory (set by job tried)
+    pub choice-searching : Searching t prepared child target memory (set settled job tried)
         (settledNow same tried at (part .last))
     choice-searching = record {
       going = record {
@@ -334,9 +334,9 @@ module _ {t prepared : List ℕ} {part : Part} {target : ℕ} {memory by : List 
     }
 
     -- what is settled of the longer word is settled of the shorter one
-    pub settled-less : {by′ : List ℕ} {same′ : ℕ} → SettledSo S target (wordOf child) by′ same′ → SettledSo S target w by′ same
-    settled-less {by′} {same′} h =
-        let longer : SettledSo S target (w ++ (job ∷ [])) by′ same′ = rw choice-word at h in
+    pub settled-less : {settled′ : List ℕ} {same′ : ℕ} → SettledSo S target (wordOf child) settled′ same′ → SettledSo S target w settled′ same
+    settled-less {settled′} {same′} h =
+        let longer : SettledSo S target (w ++ (job ∷ [])) settled′ same′ = rw choice-word at h in
         record {
           size = longer .size;
           each = λ u i q x e. longer .each u i (q ++ (job ∷ [])) x

@@ -23,7 +23,7 @@ pub struct Records {
 }
 
 // What the writer's pass over its jobs finds.
-pub struct Found {
+pub struct Surveyed {
     pub total: usize,
     pub faulty: bool,
 }
@@ -108,7 +108,7 @@ pub fn label_start(sheet: &[u8], offset: usize, job: usize) -> usize
 }
 
 // The writer's pass over the first `count` jobs.
-pub fn survey(jobs: [Job; MOST_JOBS], count: usize) -> Found
+pub fn survey(jobs: [Job; MOST_JOBS], count: usize) -> Surveyed
     requires { ⌜ count ≤ mostJobs ⌝ }
     ensures { λ r. ⌜ (r .total ≡ labelLengths count (jobsIn jobs)) × (r .faulty ≡ someFaulty count (jobsIn jobs)) ⌝ }
 {
@@ -121,7 +121,7 @@ pub fn survey(jobs: [Job; MOST_JOBS], count: usize) -> Found
         found = either(found, faulty(count, job));
         i += 1;
     }
-    Found {
+    Surveyed {
         total,
         faulty: found,
     }

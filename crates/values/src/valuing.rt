@@ -38,7 +38,7 @@ struct Shares {
 }
 
 // The values that bound best so far, the worth of all jobs with them, and what a lane serves.
-struct Best {
+struct Valuation {
     value: [u16; MOST_JOBS],
     worth: u64,
     served: u16,
@@ -211,13 +211,13 @@ fn outdone(most: u16, served: u16, worth: u64) -> bool {
 }
 
 // The best values so far, or these where they bound better.
-fn keep(best: Best, value: Figures, worth: u64, served: u16) -> Best
+fn keep(best: Valuation, value: Figures, worth: u64, served: u16) -> Valuation
     requires { ⌜ (best .worth ≤ mostTotal) × (worth ≤ mostTotal) ⌝ }
     ensures { λ r. ⌜ (r .worth ≤ mostTotal) × ((r .value ≡ best .value) ⊎ (r .value ≡ value .of)) ⌝ }
 {
     if multiple(best.worth, served) < multiple(worth, best.served) {
         let of = value.of;
-        return Best {
+        return Valuation {
             value: of,
             worth: worth,
             served: served,
@@ -256,7 +256,7 @@ pub fn values_for(jobs: &Jobs, weight: &[u16; MOST_JOBS], most: u16, step: u16, 
 {
     let count = tables::count(jobs);
     let mut shares = first_shares(jobs);
-    let mut best = Best {
+    let mut best = Valuation {
         value: [0u16; MOST_JOBS],
         worth: 0,
         served: 1,
