@@ -2,7 +2,7 @@
 use std::path::Path;
 use std::{env, process};
 
-const LIBRARY: &str = "libfirmware.a";
+const LIBRARY: &str = "libdepot.a";
 
 fn main() {
     let package = env::var("CARGO_MANIFEST_DIR").expect("cargo names the package's folder");
@@ -13,10 +13,10 @@ fn main() {
         refuse("the static library is compiled for x86-64 alone");
     }
     if !library.is_file() {
-        refuse("target/staticlib/libfirmware.a is missing: make it with 'rt staticlib firmware'");
+        refuse("target/staticlib/libdepot.a is missing: make it with 'rt staticlib depot'");
     }
     println!("cargo:rustc-link-search=native={}", folder.display());
-    println!("cargo:rustc-link-lib=static=firmware");
+    println!("cargo:rustc-link-lib=static=depot");
 }
 
 fn refuse(why: &str) -> ! {

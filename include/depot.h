@@ -1,7 +1,7 @@
 /*
  * depot.h: the charging planner, the job sheets and the share desk of one depot feeder, for C.
  *
- * Link target/staticlib/libfirmware.a (x86-64; 'rt staticlib firmware' makes it). docs/FIRMWARE.md says how to build, how to size
+ * Link target/staticlib/libdepot.a (x86-64; 'rt staticlib depot' makes it). docs/FIRMWARE.md says how to build, how to size
  * the buffers, and what is proved; docs/PROMISES.md has every promise. host/c/example.c uses every call.
  *
  * OF EVERY CALL

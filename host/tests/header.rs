@@ -150,7 +150,7 @@ fn constant(text: &str, name: &str) -> usize {
 fn calls_agree() {
     let declared = c_calls();
     assert_eq!(declared.len(), 8);
-    assert_eq!(calls(&source("crates/firmware/src/lib.rt")), declared);
+    assert_eq!(calls(&source("crates/depot/src/lib.rt")), declared);
     assert_eq!(calls(&source("host/src/ffi.rs")), declared);
 }
 
@@ -221,7 +221,7 @@ fn refusals_agree() {
 /// The archive defines the declared calls and no other name, and needs no more of C than the header says.
 #[test]
 fn archive_has_the_declared_names() {
-    let archive = top().join("target/staticlib/libfirmware.a");
+    let archive = top().join("target/staticlib/libdepot.a");
     let listed = Command::new("nm").arg("--extern-only").arg(archive).output().expect("nm runs");
     assert!(listed.status.success());
     let listed = String::from_utf8(listed.stdout).expect("names");

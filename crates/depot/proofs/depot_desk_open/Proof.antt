@@ -1,4 +1,4 @@
--- `firmware::depot_desk_open` meets its contract: a walk of its code. It copies the lent desk, calls `opened_over` by value with it and the two
+-- `depot::depot_desk_open` meets its contract: a walk of its code. It copies the lent desk, calls `opened_over` by value with it and the two
 -- lent lists, stores the desk that this hands back, and returns the number. Of `opened_over` it knows that it meets its contract.
 use mathlib.Core.Path.{_≡_, refl, ap}
 use mathlib.Core.List.{List, [], _∷_}
@@ -54,11 +54,11 @@ use Rattle.lent.proofs.opened_over as by-value
 use Rattle.lent.proofs.opened_over.Symbol as by-value-symbol
 use Rattle.lent.proofs.opened_over.Symbol.{name as #lent·opened-over}
 use Rattle.lent.proofs.opened_over.Met as by-value-met
-use Rattle.firmware.proofs.Machine.{deskV, number-fits, desk-is}
-use Rattle.firmware.proofs.depot_desk_open as thin
-use Rattle.firmware.proofs.depot_desk_open.Key.{name as #firmware·depot-desk-open}
-use Rattle.firmware.proofs.depot_desk_open.Statement.{statement}
-use Rattle.firmware.proofs.depot_desk_open.Code as code
+use Rattle.depot.proofs.Machine.{deskV, number-fits, desk-is}
+use Rattle.depot.proofs.depot_desk_open as thin
+use Rattle.depot.proofs.depot_desk_open.Key.{name as #depot·depot-desk-open}
+use Rattle.depot.proofs.depot_desk_open.Statement.{statement}
+use Rattle.depot.proofs.depot_desk_open.Code as code
 
 abbrev stayed : Stays (thin.ended .signature .params) (thin.ended .kept)
 stayed = (
@@ -243,7 +243,7 @@ pub depot-desk-open-spec : {M : Type 1} → statement M
 unfolding code.routine tablesOf
 depot-desk-open-spec 𝓤 H 𝓜 𝓖 𝓡 =
     entered 𝓤 H (tripleOf 𝓤 H (𝓖 .A) thin.signature (thin.spec 𝓤 H (𝓖 .A) (𝓜 .mem) (𝓡 .run)))
-    (tables 𝓤 H 𝓜 𝓡 code.env .C) (tables 𝓤 H 𝓜 𝓡 code.env .Λ) #firmware·depot-desk-open code.function (code.unfolded 𝓤 H 𝓜 𝓡)
+    (tables 𝓤 H 𝓜 𝓡 code.env .C) (tables 𝓤 H 𝓜 𝓡 code.env .Λ) #depot·depot-desk-open code.function (code.unfolded 𝓤 H 𝓜 𝓡)
     (meets 𝓤 H (𝓖 .A) (givenOf 𝓤 H 𝓜 𝓖) (𝓜 .mem) (𝓡 .run) (tablesOf 𝓤 H 𝓜 (tables 𝓤 H 𝓜 𝓡 code.env))
     (cited 𝓤 H (ByValue 𝓤 H (𝓖 .A) (𝓜 .mem) (𝓡 .run)) 𝓜 𝓡 code.env #lent·opened-over by-value-symbol.routine
     code.calls-lent·opened-over (by-value-met.met 𝓤 H 𝓜 𝓖 𝓡)))

@@ -1,4 +1,4 @@
--- `firmware::depot_desk_look` meets its contract: a walk of its code. It copies the lent desk, calls `look` by value with it, and gives the
+-- `depot::depot_desk_look` meets its contract: a walk of its code. It copies the lent desk, calls `look` by value with it, and gives the
 -- lent figure on to `show`, which sets it where the number is 0. Of the two it knows that each meets its contract.
 use mathlib.Core.Path.{_≡_, refl, sym, ap, ap₂, _∙_}
 use mathlib.Core.List.{List, [], _∷_}
@@ -56,11 +56,11 @@ use Rattle.lent.proofs.show as show
 use Rattle.lent.proofs.show.Symbol as show-symbol
 use Rattle.lent.proofs.show.Symbol.{name as #lent·show}
 use Rattle.lent.proofs.show.Met as show-met
-use Rattle.firmware.proofs.Machine.{deskV}
-use Rattle.firmware.proofs.depot_desk_look as thin
-use Rattle.firmware.proofs.depot_desk_look.Key.{name as #firmware·depot-desk-look}
-use Rattle.firmware.proofs.depot_desk_look.Statement.{statement}
-use Rattle.firmware.proofs.depot_desk_look.Code as code
+use Rattle.depot.proofs.Machine.{deskV}
+use Rattle.depot.proofs.depot_desk_look as thin
+use Rattle.depot.proofs.depot_desk_look.Key.{name as #depot·depot-desk-look}
+use Rattle.depot.proofs.depot_desk_look.Statement.{statement}
+use Rattle.depot.proofs.depot_desk_look.Code as code
 
 abbrev stayed : Stays (thin.ended .signature .params) (thin.ended .kept)
 stayed = (
@@ -262,7 +262,7 @@ pub depot-desk-look-spec : {M : Type 1} → statement M
 unfolding code.routine tablesOf
 depot-desk-look-spec 𝓤 H 𝓜 𝓖 𝓡 =
     entered 𝓤 H (tripleOf 𝓤 H (𝓖 .A) thin.signature (thin.spec 𝓤 H (𝓖 .A) (𝓜 .mem) (𝓡 .run)))
-    (tables 𝓤 H 𝓜 𝓡 code.env .C) (tables 𝓤 H 𝓜 𝓡 code.env .Λ) #firmware·depot-desk-look code.function (code.unfolded 𝓤 H 𝓜 𝓡)
+    (tables 𝓤 H 𝓜 𝓡 code.env .C) (tables 𝓤 H 𝓜 𝓡 code.env .Λ) #depot·depot-desk-look code.function (code.unfolded 𝓤 H 𝓜 𝓡)
     (meets 𝓤 H (𝓖 .A) (givenOf 𝓤 H 𝓜 𝓖) (𝓜 .mem) (𝓡 .run) (tablesOf 𝓤 H 𝓜 (tables 𝓤 H 𝓜 𝓡 code.env))
     (cited 𝓤 H (ByValue 𝓤 H (𝓖 .A) (𝓜 .mem) (𝓡 .run)) 𝓜 𝓡 code.env #desk·Desk·look by-value-symbol.routine
     code.calls-desk·Desk·look (by-value-met.met 𝓤 H 𝓜 𝓖 𝓡))

@@ -1,7 +1,7 @@
--- `firmware::depot_label` meets its contract: the place that the label call answers.
+-- `depot::depot_label` meets its contract: the place that the label call answers.
 use borrow.Author.Needs.{needs}
-use Rattle.firmware.proofs.depot_label.Statement.{statement}
-use Rattle.firmware.proofs.depot_label.Tie as tie
+use Rattle.depot.proofs.depot_label.Statement.{statement}
+use Rattle.depot.proofs.depot_label.Tie as tie
 
 label-place-requires : tie.Need-label-place-requires
 label-place-requires c κs = search needs

@@ -1,7 +1,7 @@
--- `firmware::depot_plan` meets its contract: what planning answers and leaves.
+-- `depot::depot_plan` meets its contract: what planning answers and leaves.
 use borrow.Author.Needs.{needs}
-use Rattle.firmware.proofs.depot_plan.Statement.{statement}
-use Rattle.firmware.proofs.depot_plan.Tie as tie
+use Rattle.depot.proofs.depot_plan.Statement.{statement}
+use Rattle.depot.proofs.depot_plan.Tie as tie
 
 plan-requires : tie.Need-plan-requires
 plan-requires c κs = search needs

@@ -44,7 +44,7 @@ use Rattle.desk.proofs.Desk as D
 use Rattle.desk.proofs.Desk.Laws as D′
 use Rattle.desk.proofs.Booked as B
 use Rattle.desk.proofs.Booked.Laws as B′
-use Rattle.firmware.proofs.Machine.{deskV, number-fits, desk-is}
+use Rattle.depot.proofs.Machine.{deskV, number-fits, desk-is}
 
 -- ---- the thin call and the call by value, over what the latter answers
 

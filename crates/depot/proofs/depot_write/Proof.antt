@@ -1,4 +1,4 @@
--- `firmware::depot_write` meets its contract: a walk of its code. It hands the lent records, the label bytes, N and the buffer to
+-- `depot::depot_write` meets its contract: a walk of its code. It hands the lent records, the label bytes, N and the buffer to
 -- `write_list`, at their own lifetimes, shares and ghost names. Of `write_list` it knows that it meets its contract.
 use mathlib.Core.Path.{_≡_, refl}
 use mathlib.Core.List.{List, [], _∷_}
@@ -50,10 +50,10 @@ use Rattle.sheet_list.proofs.write_list as list
 use Rattle.sheet_list.proofs.write_list.Symbol as list-symbol
 use Rattle.sheet_list.proofs.write_list.Symbol.{name as #sheet-list·write-list}
 use Rattle.sheet_list.proofs.write_list.Met as list-met
-use Rattle.firmware.proofs.depot_write as thin
-use Rattle.firmware.proofs.depot_write.Key.{name as #firmware·depot-write}
-use Rattle.firmware.proofs.depot_write.Statement.{statement}
-use Rattle.firmware.proofs.depot_write.Code as code
+use Rattle.depot.proofs.depot_write as thin
+use Rattle.depot.proofs.depot_write.Key.{name as #depot·depot-write}
+use Rattle.depot.proofs.depot_write.Statement.{statement}
+use Rattle.depot.proofs.depot_write.Code as code
 
 abbrev stayed : Stays (thin.ended .signature .params) (thin.ended .kept)
 stayed = (
@@ -230,7 +230,7 @@ pub depot-write-spec : {M : Type 1} → statement M
 unfolding code.routine tablesOf
 depot-write-spec 𝓤 H 𝓜 𝓖 𝓡 =
     entered 𝓤 H (tripleOf 𝓤 H (𝓖 .A) thin.signature (thin.spec 𝓤 H (𝓖 .A) (𝓜 .mem) (𝓡 .run)))
-    (tables 𝓤 H 𝓜 𝓡 code.env .C) (tables 𝓤 H 𝓜 𝓡 code.env .Λ) #firmware·depot-write code.function (code.unfolded 𝓤 H 𝓜 𝓡)
+    (tables 𝓤 H 𝓜 𝓡 code.env .C) (tables 𝓤 H 𝓜 𝓡 code.env .Λ) #depot·depot-write code.function (code.unfolded 𝓤 H 𝓜 𝓡)
     (meets 𝓤 H (𝓖 .A) (givenOf 𝓤 H 𝓜 𝓖) (𝓜 .mem) (𝓡 .run) (tablesOf 𝓤 H 𝓜 (tables 𝓤 H 𝓜 𝓡 code.env))
     (cited 𝓤 H (WriteList 𝓤 H (𝓖 .A) (𝓜 .mem) (𝓡 .run)) 𝓜 𝓡 code.env #sheet-list·write-list list-symbol.routine
     code.calls-sheet-list·write-list (list-met.met 𝓤 H 𝓜 𝓖 𝓡)))
