@@ -71,7 +71,7 @@ pub fn replay(jobs: &Jobs, order: &[u8; MOST_JOBS]) -> Slots
         let j = counting::index(order[k]);
         let start = placement::start_of(jobs, &part, j);
         slots = with_job(slots, jobs, j, start);
-        part = placement::with_job(jobs, &part, j, start);
+        placement::place(&mut part, jobs, j, start);
         k += 1;
     }
     slots

@@ -132,7 +132,8 @@ fn try_children(
         return none_found();
     }
     settled[job] = tried;
-    let child = placement::with_job(jobs, part, job, start);
+    let mut child = *part;
+    placement::place(&mut child, jobs, job, start);
     let same_now = branching::settled_now(same, tried, start, tables::last(part));
     visit(memory, settled, &child, same_now, target, jobs, prepared)
 }
@@ -210,7 +211,8 @@ fn try_place(
     if start == NO_MINUTE {
         return none_found();
     }
-    let child = placement::with_job(jobs, part, j, start);
+    let mut child = *part;
+    placement::place(&mut child, jobs, j, start);
     let mut settled = [0u32; MOST_JOBS];
     visit(memory, &mut settled, &child, 0, target, jobs, prepared)
 }
@@ -242,15 +244,15 @@ fn settle_place(
     best
 }
 
-// The part-plan with the next job of the order.
-fn go_on(part: &Part, j: usize, jobs: &Jobs) -> Part
+// Places the next job of the order.
+fn go_on(part: &mut Part, j: usize, jobs: &Jobs)
     requires { ⌜ (Known (now jobs) (partIn (now part))) × (ready (sheetOf (now jobs)) (theoryPart (now jobs) (partIn (now part)) .placed) j ≡ true) ⌝ }
-    ensures { λ r. ⌜ (Known (now (jobs .entry)) (partIn r))
-        × ((wordOf (partIn r) ≡ wordOf (partIn (now (part .entry))) ++ (j ∷ []))
-        × (partIn r .placed ≡ partIn (now (part .entry)) .placed + 1)) ⌝ }
+    ensures { λ _. ⌜ (Known (now (jobs .entry)) (partIn (now (part .exit))))
+        × ((wordOf (partIn (now (part .exit))) ≡ wordOf (partIn (now (part .entry))) ++ (j ∷ []))
+        × (partIn (now (part .exit)) .placed ≡ partIn (now (part .entry)) .placed + 1)) ⌝ }
 {
     let start = candidates::start_or_none(jobs, part, j);
-    placement::with_job(jobs, part, j, start)
+    placement::place(part, jobs, j, start);
 }
 
 // The tie rule's order, from one that ends first.
@@ -265,7 +267,7 @@ fn first_order(memory: &mut [u8], least: Found, jobs: &Jobs, prepared: &Prepared
     let mut k: usize = 0;
     while k < count {
         best = settle_place(memory, &part, best, jobs, prepared);
-        part = go_on(&part, counting::index(best.order[k]), jobs);
+        go_on(&mut part, counting::index(best.order[k]), jobs);
         k += 1;
     }
     best

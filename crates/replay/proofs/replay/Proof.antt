@@ -67,8 +67,8 @@ with-job-requires c κs =
     let short = next-short now (inv .2) (c .start-of .ensures) in
     (c .before .before .before .before .before .before .before .before .pre .0, (next-low now, omega arith))
 
-with-job-requires-2 : tie.Need-with-job-requires-2 Inv-loop μ-loop
-with-job-requires-2 c κs =
+place-requires : tie.Need-place-requires Inv-loop μ-loop
+place-requires c κs =
     let inv = c .before .before .before .before .before .before .before .loop .inv in
     let now = turn (c .before .before .before .before) in
     next-placeable now (inv .2) (c .before .before .start-of .ensures)
@@ -89,7 +89,7 @@ loop-again c =
     let now = turn (c .before .before .before .before .before) in (
       inv .0,
       omega (arith, c .before .before .before .before .before .before .before .loop-test .taken),
-      next-part now (inv .2) start (c .with-job2 .ensures),
+      next-part now (inv .2) start (c .place .ensures),
       next-slots now (inv .2) start (inv .3) (c .before .before .with-job .ensures),
     )
 
@@ -115,7 +115,7 @@ replay-spec =
     index-requires
     start-of-requires
     with-job-requires
-    with-job-requires-2
+    place-requires
     add-k
     loop-less
     loop-again

@@ -30,7 +30,7 @@ use Rattle.candidates.proofs.next_choice.Reads as next-choice-reads
 use Rattle.candidates.proofs.starts_of.Reads as starts-of-reads
 use Rattle.listing.proofs.finished.Reads as finished-reads
 use Rattle.memory.proofs.remember.Reads as remember-reads
-use Rattle.placement.proofs.with_job.Reads as with-job-reads
+use Rattle.placement.proofs.place.Reads as place-reads
 use Rattle.search.proofs.cut_off.Reads as cut-off-reads
 use Rattle.search.proofs.none_found.Reads as none-found-reads
 use Rattle.tables.proofs.count.Reads as count-reads
@@ -82,8 +82,8 @@ try-children-claims t = (
   passed-over-reads.Learnt,
   none-found-reads.Asked,
   none-found-reads.Learnt,
-  with-job-reads.Asked,
-  with-job-reads.Learnt,
+  place-reads.Asked,
+  place-reads.Learnt,
   last-reads.Asked,
   last-reads.Learnt,
   settled-now-reads.Asked,
@@ -151,9 +151,9 @@ try-children-element-write-settled t c =
     let p = c .before .before .before .before .pre .1 in
     omega (arith, p .1 .inside, p .0 .going .known .fit .few)
 
-try-children-with-job-requires : (t : ℕ) → try-children-lts.Need-with-job-requires (try-children-claims t) (try-children-at t) try-children.Post
-try-children-with-job-requires t c κs =
-    let p = c .before .before .before .before .pre .1 in
+try-children-place-requires : (t : ℕ) → try-children-lts.Need-place-requires (try-children-claims t) (try-children-at t) try-children.Post
+try-children-place-requires t c κs =
+    let p = c .before .before .before .before .before .before .pre .1 in
     choice-placeable (p .0) (p .1)
 
 try-children-last-requires : (t : ℕ) → try-children-lts.Need-last-requires (try-children-claims t) (try-children-at t) try-children.Post
@@ -164,10 +164,10 @@ try-children-settled-now-requires t c κs = tt
 
 try-children-visit-requires : (t : ℕ) → try-children-lts.Need-visit-requires (try-children-claims t) (try-children-at t) try-children.Post
 try-children-visit-requires t c κs =
-    let past = c .before .before .before .before .before .before .before .before in
-    let pre = past .before .before .pre in
+    let past = c .before .before .before .before .before in
+    let pre = past .before .before .before .before .before .before .before .pre in
     let p = pre .1 in
-    let child = c .before .before .before .before .before .with-job .ensures in
+    let child = past .place .ensures in
     (omega (arith, pre .0, choice-fewer (p .0) (p .1) child), rw (c .before .before .before .settled-now .ensures, c .before .before .before .before .last .ensures) (choice-searching (p .0) (p .1) child))
 
 try-children-same-length : (t : ℕ) → try-children-lts.Need-same-length (try-children-claims t) (try-children-at t) try-children.Post
@@ -176,8 +176,8 @@ try-children-same-length t c = c .before .before .visit .kept .0
 try-children-returns-2 : (t : ℕ) → try-children-lts.Need-returns-2 (try-children-claims t) (try-children-at t) try-children.Post
 try-children-returns-2 t c =
     let past = c .before .before .before .before .before .before .before .before in
-    let p = past .before .before .before .before .before .pre .1 in
-    let child = c .before .before .before .before .before .before .before .before .with-job .ensures in
+    let p = past .before .before .before .before .before .before .before .pre .1 in
+    let child = past .place .ensures in
     let visit = c .before .before .visit .ensures in
     (rw (choice-word (p .0) (p .1) child) at (visit .0), (settled-less (p .0) (p .1) child (visit .1 .0), visit .1 .1))
 
@@ -361,7 +361,7 @@ pub +try-children+visit-spec : {M : Type 1} → statement M
     (try-children-returns t)
     (try-children-mul-settled t)
     (try-children-element-write-settled t)
-    (try-children-with-job-requires t)
+    (try-children-place-requires t)
     (try-children-last-requires t)
     (try-children-settled-now-requires t)
     (try-children-visit-requires t)

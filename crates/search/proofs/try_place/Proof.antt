@@ -18,30 +18,32 @@ returns c =
     let g = pre .0 in
     (rw (c .none-found .ensures) (none-outcome (not-next g (pre .1) (c .before .before .start-or-none .ensures) (c .before .if1 .taken))), g .remembered)
 
-with-job-requires : tie.Need-with-job-requires
-with-job-requires c κs =
-    let pre = c .before .before .before .pre in
+place-requires : tie.Need-place-requires
+place-requires c κs =
+    let pre = c .before .before .before .before .before .pre in
     let g = pre .0 in
-    let start = c .before .start-or-none .ensures in
-    child-placeable (g .known) (pre .1) start (start-low (g .known) start (c .if1 .left))
+    let start = c .before .before .before .start-or-none .ensures in
+    child-placeable (g .known) (pre .1) start (start-low (g .known) start (c .before .before .if1 .left))
 
 visit-requires : tie.Need-visit-requires
 visit-requires c κs =
-    let pre = c .before .before .before .before .before .before .before .pre in
+    let goes-on = c .before .before .before .before .before .before in
+    let pre = goes-on .before .before .before .pre in
     let g = pre .0 in
-    let start = c .before .before .before .before .before .start-or-none .ensures in
-    place-enter g (pre .1) start (start-low (g .known) start (c .before .before .before .before .if1 .left)) (c .before .before .before .with-job .ensures)
+    let start = goes-on .before .start-or-none .ensures in
+    place-enter g (pre .1) start (start-low (g .known) start (goes-on .if1 .left)) (c .before .before .before .place .ensures)
 
 same-length : tie.Need-same-length
 same-length c = c .before .before .visit .kept .0
 
 returns-2 : tie.Need-returns-2
 returns-2 c =
-    let past = c .before .before .before .before .before .before .before .before in
-    let pre = past .before .before .pre in
+    let placed = c .before .before .before .before .before .before in
+    let goes-on = placed .before .before .before in
+    let pre = goes-on .before .before .before .pre in
     let g = pre .0 in
-    let start = c .before .before .before .before .before .before .before .before .start-or-none .ensures in
-    let word = child-word (g .known) (pre .1) start (start-low (g .known) start (c .before .before .before .before .before .before .before .if1 .left)) (c .before .before .before .before .before .before .with-job .ensures) in
+    let start = goes-on .before .start-or-none .ensures in
+    let word = child-word (g .known) (pre .1) start (start-low (g .known) start (goes-on .if1 .left)) (placed .place .ensures) in
     let visit = c .before .before .visit .ensures in
     (rw word at (visit .0), visit .1 .1)
 
@@ -52,7 +54,7 @@ try-place-spec =
     start-or-none-requires
     none-found-requires
     returns
-    with-job-requires
+    place-requires
     visit-requires
     same-length
     returns-2)
