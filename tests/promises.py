@@ -28,6 +28,14 @@ PAPERS = re.compile(r'\b[Dd]ocuments? 0?0?[0-9]|\b[Dd]emands? [0-9]')
 LINKS = '<!-- links, written by tests/promises.py --write -->'
 
 
+def texts():
+    """The other files of the repository that a person reads."""
+    for folder in ('crates', 'host/src', 'host/tests', 'host/c', 'include', 'tests', 'examples'):
+        for path in sorted((ROOT / folder).rglob('*')):
+            if path.suffix in ('.rt', '.antt', '.rs', '.c', '.h', '.py', '.edit', '.csv', '.desk') and path.name != 'promises.py':
+                yield path
+
+
 def documents():
     """The Markdown files of the repository."""
     found = [path for folder in ('', 'docs', 'examples', 'host') for path in (ROOT / folder).glob('*.md')]
@@ -173,6 +181,9 @@ def main():
             wrong.append(f'{document}: its link to {target} leads nowhere')
         for paper in PAPERS.findall(text):
             wrong.append(f'{document}: says {paper!r}; cite the number of {REQUIREMENTS}')
+    for path in texts():
+        for paper in PAPERS.findall(path.read_text()):
+            wrong.append(f'{path.relative_to(ROOT)}: says {paper!r}; cite the number of {REQUIREMENTS}')
 
     everywhere = {crate.name for crate in CRATES.iterdir()} | {edit.stem for edit in CRATES.glob('*/must-fail/*.edit')}
     for kind in ('antt', 'rt'):
