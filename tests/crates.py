@@ -1,11 +1,18 @@
 #!/usr/bin/env python3
-"""Holds crates.txt to the crates: each line lists exactly the crates that the crate's own files use, and none stands in two groups."""
+"""Holds the crates to their order.
+
+- crates.txt lists for each crate exactly the crates that its own files use, and each crate once.
+- What a reader must believe stands in specs/ and src/: nothing there imports from a proofs/ folder.
+- Nothing uses the crates of TOP: the demands, the examples, the library for C and the programs.
+"""
 import pathlib
 import re
 import sys
 
 ROOT = pathlib.Path(__file__).parent.parent
 KIT = {'check', 'libc', 'io', 'os', 'bytes'}
+# crates above all others: no crate uses them
+TOP = {'demands', 'examples', 'depot', 'print_plan', 'edges'}
 
 
 def listed():
@@ -24,15 +31,30 @@ def used(crate, names):
     return (cited | called) - {crate}
 
 
+def proofs_in_specs():
+    """The lines of definitions and contracts that name a proofs/ folder."""
+    for folder in ('specs', 'src'):
+        for path in sorted((ROOT / 'crates').glob(f'*/{folder}/**/*')):
+            for line in path.read_text().splitlines() if path.suffix in ('.rt', '.antt') else []:
+                if re.search(r'Rattle·\w+(·proofs)?\.proofs\.', re.sub(r'(//|--).*', '', line)):
+                    yield path.relative_to(ROOT), line
+
+
 def main():
     uses = listed()
     wrong = 0
+    for path, line in proofs_in_specs():
+        print(f'{path}: rests on proofs: {line}')
+        wrong += 1
     for crate, said in uses.items():
         real = used(crate, set(uses))
         for name in sorted(real - set(said)):
             print(f'crates.txt: {crate} uses {name}, which its line leaves out')
             wrong += 1
         for name in said:
+            if name in TOP:
+                print(f'crates.txt: {crate} uses {name}, which stands above all others')
+                wrong += 1
             if name not in real or said.count(name) > 1:
                 print(f'crates.txt: {crate} lists {name}, which nothing in it uses')
                 wrong += 1

@@ -1,4 +1,4 @@
-"""An independent model of document 01's desk, and the rows that the checker holds the definitions to.
+"""An independent model of the desk (docs/REQUIREMENTS.md, K and C), and the rows that the checker holds the definitions to.
 
 The model keeps a ledger of modules, one entry for each module that somebody holds, and finds the desks that can be by
 making every call from the opening on. It shares nothing with the definitions in crates/desk/specs. With a fixed seed it

@@ -1,4 +1,4 @@
-"""An independent model of document 01's plans, and the rows that the checker holds the definitions to.
+"""An independent model of plans (docs/REQUIREMENTS.md, P), and the rows that the checker holds the definitions to.
 
 The model reads the document minute by minute: a grid of modules and minutes, every permutation of the jobs. It shares
 nothing with the definitions in crates/schedule/specs. With a fixed seed it writes crates/schedule/proofs/Samples.antt,
@@ -87,7 +87,7 @@ def answer(sheet):
 
 
 def valid(sheet, slots):
-    """The four rules of document 01 (and arrivals), with a module's minutes counted one by one."""
+    """P-2 to P-5 (and arrivals), with a module's minutes counted one by one."""
     used = {}
     for (start, modules), job in zip(slots, sheet.jobs):
         if len(set(modules)) != job.need or any(m >= sheet.modules for m in modules) or start < job.arrival:

@@ -1,5 +1,5 @@
 #!/usr/bin/env python3
-"""A model of job sheets, written from document 01 alone: reading, labels, writing and their refusals.
+"""A model of job sheets, written from docs/REQUIREMENTS.md alone: reading, labels, writing and their refusals.
 
 Run as a program it tries the round trip, both ways, on random sheets, sheets at the edges and damaged sheets, and writes
 rows, a sheet and what is read of it, that the checker computes by the definitions; with --check it compares them instead."""

@@ -1,5 +1,5 @@
 /*
- * A cabinet's controller in small: it reads and plans the job sheet of document 01's E1, prints the plan as the printing program
+ * A cabinet's controller in small: it reads and plans the job sheet of the example E1, prints the plan as the printing program
  * does, writes the sheet anew, and claims and hands back modules as in E9 and E10. It checks all that it gets and exits with 1
  * where something differs.
  */
@@ -84,7 +84,7 @@ static void plan_e1(void)
     check(i == sizeof work, "working memory is left all zero");
 
     plan_lines(e1, sizeof e1, card, text, sizeof text);
-    check(strcmp(text, e1_lines) == 0, "E1's lines are document 01's");
+    check(strcmp(text, e1_lines) == 0, "E1's lines are as they should be");
     fputs(text, stdout);
 }
 

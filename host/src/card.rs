@@ -1,4 +1,4 @@
-//! The plan card, decoded: document 01, 'Plan card'.
+//! The plan card, decoded: docs/REQUIREMENTS.md, P-20.
 use crate::card_length;
 
 /// A job's row: when it starts and ends, and its modules, bit m for module m.
@@ -53,7 +53,7 @@ impl Row {
 mod tests {
     use super::*;
 
-    /// The card of E1, as document 01 has it.
+    /// The card of E1, as docs/REQUIREMENTS.md has it.
     const E1: [u8; 47] = [
         0, 0, 10, 0, 1, 0, 0, 0, 0, 0, 0, 0, 10, 0, 30, 0, 3, 0, 0, 0, 0, 0, 0, 0, 0, 0, 10, 0, 2, 0, 0, 0, 0, 0, 0, 0, 0, 2, 1,
         36, 0, 0, 0, 30, 0, 3, 0,

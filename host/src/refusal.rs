@@ -2,7 +2,7 @@
 use std::error::Error;
 use std::fmt;
 
-/// Why a call was refused: document 01, 'Checking order'. The number of each is its place there.
+/// Why a call was refused: docs/REQUIREMENTS.md, C. The number of each is its place there.
 #[derive(Clone, Copy, Debug, PartialEq, Eq, Hash)]
 #[repr(u32)]
 pub enum Refusal {
@@ -57,7 +57,7 @@ impl Refusal {
         IN_WORDS.get(place as usize).map(|(refusal, _)| *refusal)
     }
 
-    /// Its number in document 01.
+    /// Its number in docs/REQUIREMENTS.md.
     pub fn number(self) -> u32 {
         self as u32
     }

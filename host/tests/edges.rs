@@ -1,5 +1,5 @@
 //! Every exported call with every argument at its edges, at the least, at the most and just past them: the answer and all lent
-//! memory are what a reading of document 01 says.
+//! memory are what a reading of the requirements says.
 use depot_host::guarded::{Against, Guarded};
 use depot_host::raw_sheet::Sheet;
 use depot_host::{card_length, ffi, reference, Desk, Job, LONGEST_SHEET, MOST_JOBS};

@@ -1,4 +1,4 @@
-//! Document 01's examples E1 to E11, and the edges of a sheet, through the exported calls.
+//! The examples E1 to E11 of docs/REQUIREMENTS.md, and the edges of a sheet, through the exported calls.
 use depot_host::raw_sheet::Sheet;
 use depot_host::{card_length, plan, Desk, Job, Refusal};
 

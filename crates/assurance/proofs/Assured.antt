@@ -1,4 +1,4 @@
--- The second half of demand 3: a controller that follows a valid plan within its assured share is granted every call of it.
+-- R-3.3, of every valid plan: a controller that follows a valid plan within its assured share is granted every call of it.
 use mathlib.Core.Path.{_≡_, refl, sym, _∙_, subst}
 use mathlib.Core.Bool.{Bool, true, false}
 use mathlib.Core.List.{List, [], _∷_, _++_, map}

@@ -1,4 +1,4 @@
--- The theorem of demand 3 over the desk's calls, and an instance of it.
+-- The theorem of R-3.3 over the desk's calls, and an instance of it.
 pub mod Turns
 pub mod Course
 pub mod Shares

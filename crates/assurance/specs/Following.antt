@@ -1,4 +1,4 @@
--- Following a plan on a desk: document 01, 'The desk', and the second half of demand 3.
+-- Following a plan on a desk: K-5, K-6, and what R-3.3 asks.
 use mathlib.Core.Path.{_≡_}
 use mathlib.Core.Bool.{Bool, true, false, cond}
 use mathlib.Core.List.{List, [], _∷_, map}
@@ -11,7 +11,7 @@ use Rattle.desk.specs.Calls.{Call, claim, handBack, look, refusalOf, deskAfter}
 
 -- ---- the calls of a plan
 
--- A job begins, and ends. (A job's modules are handed back when they have rested; in document 01 the rest is 0.)
+-- A job begins, and ends. (A job's modules are handed back when they have rested; in the base the rest is 0.)
 pub data Event : Type 0 where
   begin end : ℕ → Event
 

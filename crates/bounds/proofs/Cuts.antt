@@ -12,8 +12,8 @@ use Rattle.counting.proofs.Tests.{true-or-false}
 use Rattle.counting.proofs.Sums.{sum-same, sum-add}
 use Rattle.schedule.specs.Plan.{Sheet, finish}
 use Rattle.schedule.specs.ListPlan.{PartPlan}
-use Rattle.schedule.proofs.Area.{work, todo}
-use Rattle.schedule.proofs.Places.{CannotBeat}
+use Rattle.schedule.specs.Bounds.{work, todo}
+use Rattle.schedule.specs.Beginnings.{CannotBeat}
 use Rattle.schedule.proofs.Cuts.{area-cut, chain-cut}
 use Rattle.tables.specs.Tables.{sheetOf, countOf, modulesOf}
 use Rattle.tables.specs.Part.{Part, wordOf}

@@ -16,7 +16,7 @@ use Rattle.bits.specs.Bits.{bit}
 use Rattle.schedule.specs.Plan.{Sheet, finish}
 use Rattle.schedule.specs.ListPlan.{PartPlan, occupies, occupied}
 use Rattle.schedule.specs.Bounds.{mustRun, gain}
-use Rattle.schedule.proofs.Places.{CannotBeat}
+use Rattle.schedule.specs.Beginnings.{CannotBeat}
 use Rattle.schedule.proofs.Bounds.{overlap-cut, weights-cut, reach-cut, modules-cut}
 use Rattle.tables.specs.Tables.{sheetOf, minutesAt, countOf, modulesOf}
 use Rattle.tables.specs.Part.{Part, wordOf}

@@ -14,11 +14,11 @@ use Rattle.bits.specs.Bits.{bit, withoutBit, setOf}
 use Rattle.bits.proofs.Digits.{bit-none}
 use Rattle.bits.proofs.Walks.{Walk, walk-first, walk-none, walk-next, walk-gone}
 use Rattle.schedule.specs.Plan.{Sheet}
-use Rattle.schedule.specs.ListPlan.{PartPlan, ready}
+use Rattle.schedule.specs.ListPlan.{PartPlan, ready, partOf}
+use Rattle.schedule.specs.PartPlans.{NoneBefore}
 use Rattle.tables.specs.Tables.{sheetOf, earlierAt, countOf}
 use Rattle.tables.specs.Part.{Part, wordOf}
 use Rattle.schedule.proofs.Starts.{ready-says, start-may}
-use Rattle.schedule.proofs.Cuts.{NoneBefore}
 use Rattle.placement.specs.Part.{StartFor, isReady}
 use Rattle.placement.proofs.Parts.{ready-is, start-is, last-short}
 use Rattle.candidates.specs.Candidates.{StartOr, Known, theoryPart, JobStart, JobStarts}
@@ -67,7 +67,7 @@ module _ {t : List ℕ} {p : Part} (known : Known t p) where
 
   -- no job that can come next starts before the least
   pub none-before : {at : List ℕ} {least : ℕ} → JobStarts t p at least
-      → NoneBefore S (known .fit .narrow) (wordOf p) (known .is .follows) least
+      → NoneBefore S (partOf S (wordOf p)) least
   none-before starts j r =
       let l = ready-says S (P .placed) j r .job in
       omega (arith, starts .first j l, starts .each j l .here r)

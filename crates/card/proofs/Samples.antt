@@ -1,4 +1,4 @@
--- The cards of document 01's examples E1 and E2, computed from the definitions; the theorem of decoding at E1.
+-- The cards of the examples E1 and E2, computed from the definitions; the theorem of decoding at E1.
 use mathlib.Core.Path.{_≡_, refl}
 use mathlib.Core.List.{List, [], _∷_, _++_}
 use Prim.Native.Nat.{ℕ}

@@ -1,4 +1,4 @@
--- Document 01: plan card.
+-- The plan card (P-20).
 use mathlib.Core.List.{List, [], _∷_, _++_}
 use Prim.Native.Nat.{ℕ, _+_, _*_, _/_, _%_, _^_}
 use lib.IntN.{ℤ, pos, _-ℤ_}

@@ -1,4 +1,4 @@
--- Document 01, 'Checking order': a refusal is the number of the first check that fails.
+-- The order of checks (requirements, C): a refusal is the number of the first check that fails.
 use mathlib.Core.Path.{_≡_}
 use mathlib.Core.Bool.{Bool, true, false, cond}
 use mathlib.Core.List.{List, [], _∷_}

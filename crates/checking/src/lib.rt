@@ -1,1 +1,1 @@
-// Document 01, 'Checking order': a refusal is the number of the first check that fails. No code.
+// The order of checks (requirements, C): a refusal is the number of the first check that fails. No code.

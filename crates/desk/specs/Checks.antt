@@ -1,4 +1,4 @@
--- Checks 11 to 18 of document 01, 'Checking order': each test is true where its check fails. A call gives the first that fails.
+-- C-11 to C-18: each test is true where its check fails. A call gives the first that fails.
 use mathlib.Core.Bool.{Bool, not, _&&_, _||_}
 use mathlib.Core.List.{List, [], _∷_}
 use Prim.Native.Nat.{ℕ, _+_}

@@ -1,4 +1,4 @@
--- The figures of a desk: document 01, 'The desk'. Controllers are numbered from 0; a figure past the end of a list is 0.
+-- The figures of a desk: requirements, K. Controllers are numbered from 0; a figure past the end of a list is 0.
 use mathlib.Core.Bool.{not}
 use mathlib.Core.List.{List, _++_}
 use Prim.Native.Nat.{ℕ, max}

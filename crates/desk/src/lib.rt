@@ -278,7 +278,7 @@ impl Desk {
     }
 
     // The largest claim by the controller that would be granted now, 0 if none: check 14. The desk is as before.
-    pub fn look(self, controller: u32) -> Looked
+    pub fn look(mut self, controller: u32) -> Looked
         ensures { λ r. ⌜ r ≡ looked self controller ⌝ }
     {
         if self.not_of_desk(controller) {

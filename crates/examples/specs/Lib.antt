@@ -1,3 +1,3 @@
--- Document 01's examples, and what their rows say.
+-- The examples E1 to E11, and what their rows say.
 pub mod Rows
 pub mod Table

@@ -1,4 +1,4 @@
--- Document 01, 'Examples from the yard': a row an example, with what the document says of it.
+-- The examples E1 to E11: a row an example, with what the requirements say of it.
 use mathlib.Core.List.{List, [], _∷_, _++_}
 use Prim.Native.Nat.{ℕ}
 use lib.ListN.{length, take, replicate}

@@ -1,1 +1,1 @@
-// Document 01's examples from the yard, as one proved table: no code.
+// The examples E1 to E11, as one proved table: no code.

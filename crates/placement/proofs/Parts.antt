@@ -23,8 +23,9 @@ use Rattle.bits.proofs.Sets.{and-empty, empty-and, all-bits}
 use Rattle.bits.proofs.Ones.{ones-count, ones-without, ones-ones}
 use Rattle.schedule.specs.Plan.{Sheet, finish}
 use Rattle.schedule.specs.ListPlan.{PartPlan, ready, occupies, notBefore, startOf, place, placeAll, partOf, occupied}
+use Rattle.schedule.specs.PartPlans.{Sound}
 use Rattle.schedule.proofs.Starts.{Ready, ready-says, ready-when, start-may, not-before-le}
-use Rattle.schedule.proofs.Sound.{Sound, part-sound}
+use Rattle.schedule.proofs.Sound.{part-sound}
 use Rattle.schedule.proofs.Occupied.{room-sum}
 use Rattle.schedule.proofs.Jumps.{start-here}
 use Rattle.schedule.proofs.Horizon.{ends-within}

@@ -1,4 +1,4 @@
--- The lines that are printed of a plan and of a refusal: document 01, 'Examples from the yard'.
+-- The lines that are printed of a plan and of a refusal: X-2 to X-4.
 use mathlib.Core.List.{List, [], _∷_}
 use Prim.Native.Nat.{ℕ}
 use Rattle.figures.specs.Figures.{mostJobs}

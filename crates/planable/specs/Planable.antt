@@ -1,4 +1,4 @@
--- The checks that the planning calls share: document 01, 'Checking order', 1 to 9.
+-- The checks that the planning calls share: C-1 to C-9.
 use mathlib.Core.Bool.{Bool, true, false}
 use mathlib.Core.List.{List, [], _∷_, _++_}
 use mathlib.Core.Option.{none, some}

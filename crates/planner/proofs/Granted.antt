@@ -1,4 +1,4 @@
--- Demand 3's second half, of the plan on the card of an answered call.
+-- R-3.3, of the plan on the card of an answered call.
 use mathlib.Core.Path.{_≡_}
 use mathlib.Core.List.{List}
 use Prim.Native.Nat.{ℕ, _≤_}

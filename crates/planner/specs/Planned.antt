@@ -1,4 +1,4 @@
--- What is promised of an answered planning call, in the words of demands 2 and 3.
+-- What is promised of an answered planning call, in the words of R-2 and R-3.
 use mathlib.Core.Path.{_≡_}
 use mathlib.Core.List.{List, _++_}
 use Prim.Native.Nat.{ℕ, _+_, _≤_}
@@ -16,7 +16,7 @@ ourPlan s card = planOn (cardAfter s card)
 
 -- An answered call's card, and whatever stands behind it in the lent bytes. T is the sheet that s reads as.
 pub record AnsweredFor (T : Sheet) (s card order : List ℕ) : Type 0 where
-  -- "the one that document 01's tie rule names"
+  -- the one that the tie rule names (R-2.4)
   pub best : Best T order
   pub written : cardAfter s card ≡ cardOf T order ++ drop (cardSize (T .jobs)) card
   -- "A plan keeps constraints (2) to (5)"

@@ -1,5 +1,5 @@
 -- What planning answers of a job sheet's bytes, and what it leaves in the lent card and working memory:
--- document 01, 'A plan' and 'Checking order'.
+-- requirements, P and C.
 use mathlib.Core.Bool.{cond}
 use mathlib.Core.List.{List, [], _∷_, _++_}
 use mathlib.Core.Option.{none, some}

@@ -12,10 +12,10 @@ use Rattle.counting.specs.Counting.{only, largest}
 use Rattle.counting.proofs.Tests.{same-or-not, only-le}
 use Rattle.counting.proofs.Ranges.{largest-le, largest-same}
 use Rattle.bits.specs.Bits.{bit}
-use Rattle.schedule.proofs.Chains.{chain}
 use Rattle.tables.specs.Tables.{sheetOf, minutesAt, earlierAt, countOf, Fit}
 use Rattle.tables.proofs.Laws.{zeros}
 use Rattle.relations.specs.Relations.{ChainsOf}
+use Rattle.schedule.specs.Bounds.{chain}
 
 -- a chain of k jobs takes 1440 minutes a job at the most
 pub chain-short : (t : List ℕ) → Fit t → (k j : ℕ) → j < countOf t → chain (sheetOf t) k j ≤ 1440 * k

@@ -6,10 +6,10 @@ use mathlib.Core.List.{List}
 use Prim.Native.Nat.{ℕ, _+_, _*_, _<_}
 use lib.ListN.{getD, set}
 use Rattle.bits.specs.Bits.{bit, withBit, setOf}
-use Rattle.schedule.proofs.Chains.{chain}
 use Rattle.tables.specs.Tables.{sheetOf, needAt, minutesAt, earlierAt, countOf, modulesOf}
 use Rattle.pairs.specs.Pairs.{AreAlike, MaySwap}
 use Rattle.relations.specs.declared.Row.{Row}
+use Rattle.schedule.specs.Bounds.{chain}
 
 -- ---- chains and later jobs
 

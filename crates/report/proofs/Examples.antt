@@ -1,4 +1,4 @@
--- The whole output of document 01's example E1, and of sheets that are refused, computed from the definitions.
+-- The whole output of the example E1, and of sheets that are refused, computed from the definitions.
 use mathlib.Core.Path.{_≡_, refl}
 use mathlib.Core.List.{List, [], _∷_, _++_}
 use Prim.Native.Nat.{ℕ}

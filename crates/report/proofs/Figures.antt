@@ -25,6 +25,7 @@ use Rattle.planner.specs.Planning.{planChecks, planRefusal}
 use Rattle.planner.proofs.Planning.{front-passes, found, ends-short}
 use Rattle.plan_text.specs.Printed.{departureOf, longestCard}
 use Rattle.plan_text.proofs.Sheets.{few}
+use Rattle.report.specs.Figures.{Small}
 
 -- ---- a refusal's number
 
@@ -48,15 +49,7 @@ refusal-small s =
     first-small 10 (planChecks s longestCard)
     (l 1 tt, (l 2 tt, (l 3 tt, (l 4 tt, (l 5 tt, (l 6 tt, (l 7 tt, (l 8 tt, (l 9 tt, (l 10 tt, tt))))))))))
 
--- ---- the figures of a plan P of the sheet S that s reads as
-
-pub record Small (s : List ℕ) (S : Sheet) (P : Plan) : Type 0 where
-  pub end : planEnd S P < 100000
-  pub jobs : S .jobs < 100000
-  pub modules : S .modules < 100000
-  pub starts : (j : ℕ) → j < S .jobs → P .start j < 100000
-  pub finishes : (j : ℕ) → j < S .jobs → finish S P j < 100000
-  pub late : (j : ℕ) → j < S .jobs → natAbs (latenessOf (finish S P j) (departureOf s j)) < 100000
+-- ---- the figures of a plan
 
 module _ (s : List ℕ) (z : planRefusal s longestCard ≡ 0) where
   abbrev S : Sheet

@@ -1,2 +1,3 @@
 -- What is printed of a sheet.
 pub mod Report
+pub mod Figures

@@ -1,4 +1,4 @@
--- What the printing program prints of a job sheet's bytes: document 01, 'Examples from the yard'.
+-- What the printing program prints of a job sheet's bytes: X-1 to X-4.
 use mathlib.Core.Bool.{cond}
 use mathlib.Core.List.{List, [], _++_}
 use mathlib.Core.Option.{none, some}

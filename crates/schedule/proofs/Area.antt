@@ -1,32 +1,26 @@
 -- The area bound: module-minutes that are gone or still needed, over the modules, are a lower bound on every completion's end.
 use mathlib.Core.Path.{_≡_, refl, sym, ap, _∙_}
 use mathlib.Core.Logic.{_⊎_, inl, inr}
-use mathlib.Core.Bool.{Bool, true, false, not, cond, _&&_}
+use mathlib.Core.Bool.{Bool, true, false, not, _&&_}
 use mathlib.Core.List.{List, [], _∷_}
 use Prim.Native.Nat.{ℕ, _+_, _-_, _*_, _≤_, _<_}
 use native.Mathlib.Omega.{arith}
 use native.Mathlib.Nat.{le-refl, le-trans, le-of-eq, mul-le-mul-left, mul-le-mul-right, mul-add}
 use lib.Dec.{ltb, eqb}
 use borrow.Author.Tests.{ltb-false, eqb-true}
-use Rattle.counting.specs.Counting.{only, sum, largest}
+use Rattle.counting.specs.Counting.{only, sum}
 use Rattle.counting.proofs.Tests.{true-or-false, only-within}
 use Rattle.counting.proofs.Sums.{sum-le, sum-same, sum-add, sum-mul, sum-zero, sum-const, sum-swap, le-sum}
 use Rattle.counting.proofs.Ranges.{le-largest, largest-le}
 use Rattle.counting.proofs.Counts.{count-insert, sum-alike}
 use Rattle.schedule.specs.Plan.{Sheet, finish, planEnd, Narrow}
 use Rattle.schedule.specs.ListPlan.{PartPlan, occupies, startOf, place, placeAll, occupied}
+use Rattle.schedule.specs.PartPlans.{Sound, Completes, nextStart}
+use Rattle.schedule.specs.Bounds.{todo, work, availableFrom}
 use Rattle.schedule.proofs.Starts.{Ready, ready-says, start-may}
-use Rattle.schedule.proofs.Sound.{Sound, part-end-le, place-sound, Completes, completes-all}
+use Rattle.schedule.proofs.Sound.{part-end-le, place-sound, completes-all}
 use Rattle.schedule.proofs.Occupied.{free-count}
-use Rattle.schedule.proofs.Dominance.{nextStart, last-le-next}
-
--- the module-minutes of job i from minute l on: what is left of it if it is placed, and all of it if not
-abbrev pub todo : Sheet → PartPlan → ℕ → ℕ → ℕ
-todo S P l i = cond (P .placed i) (S .need i * (finish S (P .plan) i - l)) (S .need i * S .minutes i)
-
--- the module-minutes that are gone at minute l, and those of all jobs from then on
-unfoldable pub work : Sheet → PartPlan → ℕ → ℕ
-work S P l = S .modules * l + sum (S .jobs) (todo S P l)
+use Rattle.schedule.proofs.Dominance.{last-le-next}
 
 module _ (S : Sheet) (P : PartPlan) (h : Sound S P) (l : ℕ) (m : P .last ≤ l) where
   -- from l to t the occupied modules do at most so much
@@ -105,11 +99,7 @@ area-bound S w P h l m (j ∷ o) (f, c) k =
     (area-bound S w (place S P j t) s t (le-refl t) o
     (f .1, omega (arith, count-insert (S .jobs) (P .placed) j (r .job) (r .new))) (last-le-next S w (place S P j t) s o (f .1)))
 
--- ---- formula (6) of document 002
-
--- AT: the minute from which module m is free of the placed jobs
-abbrev pub availableFrom : Sheet → PartPlan → ℕ → ℕ
-availableFrom S P m = largest (S .jobs) (λ i. only (P .placed i && P .plan .uses i m) (finish S (P .plan) i))
+-- ---- the paper's formula (6) (P-17)
 
 -- The left side of (6) is no more than the work at the last start, so that the area bound cuts wherever (6) does.
 -- (7), with (8), is (6) with the placed jobs' module-minutes taken from both sides.

@@ -12,7 +12,7 @@ use Rattle.counting.proofs.Tests.{true-or-false, and-both, only-mono, only-le}
 use Rattle.counting.proofs.Sums.{sum-le, sum-add, sum-single}
 use Rattle.schedule.specs.Plan.{Sheet, Plan, finish}
 use Rattle.schedule.specs.ListPlan.{PartPlan, occupies, MayStart, occupied}
-use Rattle.schedule.proofs.Sound.{Sound}
+use Rattle.schedule.specs.PartPlans.{Sound}
 use Rattle.schedule.proofs.Occupied.{occupied-falls, room-sum}
 use Rattle.schedule.proofs.Timed.{runs, runs-to, runs-not-yet, load}
 

@@ -13,24 +13,12 @@ use Rattle.counting.proofs.Sums.{sum-le}
 use Rattle.counting.proofs.Ranges.{le-largest, largest-le}
 use Rattle.schedule.specs.Plan.{Sheet, Plan, finish, planEnd, Narrow, Lasting}
 use Rattle.schedule.specs.ListPlan.{PartPlan, noJobs, ready, Follows, startOf, partOf}
+use Rattle.schedule.specs.Beginnings.{CannotBeat}
+use Rattle.schedule.specs.PartPlans.{Block}
 use Rattle.schedule.proofs.Starts.{ready-says}
 use Rattle.schedule.proofs.Timed.{runs, runs-on, runs-from, runs-to, load, Timed}
-use Rattle.schedule.proofs.Places.{CannotBeat}
 use Rattle.schedule.proofs.Branch.{branch-follows, branch-kept, branch-placed, branch-behind}
 use Rattle.schedule.proofs.Settled.{StartsNext, settled-next, Completion, by-plans}
-
--- those of v from i on, behind u, are a block: what came before has ended when i starts, all have ended when j would start, and no job that
--- is left waits for one of the block
-pub record Block (S : Sheet) (u : List ℕ) (i : ℕ) (v : List ℕ) (j : ℕ) : Type 0 where
-  pub new : partOf S v .placed j ≡ false
-  pub within : i < S .jobs
-  pub soon : startOf S (partOf S u) j ≤ partOf S v .plan .start i
-  pub before : (k : ℕ) → k < S .jobs → partOf S u .placed k ≡ true
-      → finish S (partOf S v .plan) k + S .rest ≤ partOf S v .plan .start i
-  pub ended : (k : ℕ) → k < S .jobs → partOf S v .placed k ≡ true → finish S (partOf S v .plan) k + S .rest ≤ startOf S (partOf S v) j
-  pub unawaited : (k x : ℕ) → k < S .jobs → x < S .jobs → partOf S u .placed k ≡ false → partOf S v .placed k ≡ true
-      → partOf S v .placed x ≡ false → S .before k x ≡ false
-  pub here : (k : ℕ) → k < S .jobs → partOf S v .placed k ≡ false → S .arrival k ≤ partOf S v .plan .start i
 
 module _ (S : Sheet) (w : Lasting S) (n : Narrow S) (u : List ℕ) (i : ℕ) (q : List ℕ) (f : Follows S noJobs (u ++ (i ∷ q))) (j : ℕ)
     (r : ready S (partOf S u .placed) j ≡ true) where

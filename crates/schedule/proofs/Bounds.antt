@@ -11,20 +11,21 @@ use Rattle.counting.specs.Counting.{only, sum, Rises, Holds}
 use Rattle.counting.proofs.Tests.{clash, less-or-not}
 use Rattle.schedule.specs.Plan.{Sheet, Plan, Valid, finish, planEnd, Narrow, Lasting}
 use Rattle.schedule.specs.ListPlan.{PartPlan, noJobs, Follows, occupies, placeAll, partOf, occupied}
-use Rattle.schedule.specs.Bounds.{mustRun, gain}
-use Rattle.schedule.proofs.Sound.{Sound, part-sound, place-all-sound, Completes, completes-all, complete-valid}
+use Rattle.schedule.specs.Bounds.{mustRun, gain, Lasts}
+use Rattle.schedule.specs.PartPlans.{Sound, Completes, NoneBefore}
+use Rattle.schedule.specs.Beginnings.{CannotBeat}
+use Rattle.schedule.proofs.Sound.{part-sound, place-all-sound, completes-all, complete-valid}
 use Rattle.schedule.proofs.Earliest.{valid-timed}
 use Rattle.schedule.proofs.Along.{place-all-keeps}
 use Rattle.schedule.proofs.Branch.{next-first}
-use Rattle.schedule.proofs.Places.{CannotBeat}
-use Rattle.schedule.proofs.Cuts.{NoneBefore, by-completions}
+use Rattle.schedule.proofs.Cuts.{by-completions}
 use Rattle.schedule.proofs.Weights.{GoesOn, weights-bound}
 use Rattle.schedule.proofs.Reach.{reach-bound}
 use Rattle.schedule.proofs.Overlaps.{must-fit}
-use Rattle.schedule.proofs.Modulewise.{Lasts, GoesOnWith, modules-bound, by-profile}
+use Rattle.schedule.proofs.Modulewise.{GoesOnWith, modules-bound, by-profile}
 
 module _ (S : Sheet) (lasting : Lasting S) (n : Narrow S) (w : List ℕ) (f : Follows S noJobs w) (l : ℕ) (from : partOf S w .last ≤ l)
-    (next : NoneBefore S n w f l) (T : ℕ) where
+    (next : NoneBefore S (partOf S w) l) (T : ℕ) where
   abbrev P : PartPlan
   P = partOf S w
 

@@ -8,20 +8,17 @@ use native.Mathlib.Nat.{le-trans, le-of-eq}
 use lib.Dec.{eqb}
 use lib.ListN.{length}
 use borrow.Author.Tests.{eqb-true, ne-eqb, not-true}
-use Rattle.counting.specs.Counting.{only, largest, count}
+use Rattle.counting.specs.Counting.{only, count}
 use Rattle.counting.proofs.Tests.{clash, not-of-false, only-within}
 use Rattle.counting.proofs.Ranges.{le-largest, largest-le, any-none, none-any}
 use Rattle.counting.proofs.Counts.{count-mono, count-insert}
 use Rattle.schedule.specs.Plan.{Sheet, Plan, Valid, finish, planEnd, Narrow}
 use Rattle.schedule.specs.ListPlan.{PartPlan, ready, occupies, free, startOf, place, placeAll, MayStart}
+use Rattle.schedule.specs.PartPlans.{Sound, Completes}
+use Rattle.schedule.specs.Bounds.{chain}
 use Rattle.schedule.proofs.Starts.{Ready, ready-says, start-le, start-may}
-use Rattle.schedule.proofs.Sound.{Sound, place-all-sound, complete-valid, Completes, completes-all}
+use Rattle.schedule.proofs.Sound.{place-all-sound, complete-valid, completes-all}
 use Rattle.schedule.proofs.Along.{next-start-kept}
-
--- the minutes of the longest chain of at most k jobs, each an earlier job of the next, that begins with job j
-unfoldable pub chain : Sheet → ℕ → ℕ → ℕ
-chain S zero j = 0
-chain S (suc k) j = S .minutes j + largest (S .jobs) (λ i. only (S .before j i) (chain S k i))
 
 -- in a valid plan the chain fits between the job's start and the plan's end
 pub chain-le : (S : Sheet) (P : Plan) → Valid S P → (k j : ℕ) → j < S .jobs → P .start j + chain S k j ≤ planEnd S P

@@ -14,13 +14,15 @@ use Rattle.counting.proofs.Counts.{count-same}
 use Rattle.schedule.specs.Plan.{Sheet, planEnd, Narrow}
 use Rattle.schedule.specs.ListPlan.{Order, PartPlan, noJobs, placing, ready, Follows, startOf, placeAll, partOf}
 use Rattle.schedule.specs.TieRule.{endOf}
+use Rattle.schedule.specs.PartPlans.{Completes, Ahead, nextStart, NoneBefore}
+use Rattle.schedule.specs.Bounds.{work, chain}
+use Rattle.schedule.specs.Beginnings.{CannotBeat}
 use Rattle.schedule.proofs.Starts.{ready-says, ready-when}
-use Rattle.schedule.proofs.Sound.{part-sound, Completes}
-use Rattle.schedule.proofs.Dominance.{Ahead, nextStart, ahead-ends}
-use Rattle.schedule.proofs.Area.{work, area-bound}
-use Rattle.schedule.proofs.Chains.{chain, chain-bound}
+use Rattle.schedule.proofs.Sound.{part-sound}
+use Rattle.schedule.proofs.Dominance.{ahead-ends}
+use Rattle.schedule.proofs.Area.{area-bound}
+use Rattle.schedule.proofs.Chains.{chain-bound}
 use Rattle.schedule.proofs.Prefixes.{order-split, order-join, end-split, part-count, next-ready}
-use Rattle.schedule.proofs.Places.{CannotBeat}
 
 -- which jobs can follow depends on the jobs of the sheet alone
 pub follows-same : (S : Sheet) (d e : ℕ → Bool) (o : List ℕ) → ((i : ℕ) → i < S .jobs → d i ≡ e i) → Follows S d o → Follows S e o
@@ -56,16 +58,12 @@ module _ (S : Sheet) (n : Narrow S) (w : List ℕ) (f : Follows S noJobs w) wher
       let c = order-split S w p (subst (λ (x : List ℕ). Order S x) q d) .1 in
       omega (arith, h p c, ap (endOf S) q, end-split S w p)
 
-  -- no job that can come next starts before minute l
-  abbrev pub NoneBefore : ℕ → Type 0
-  NoneBefore l = (j : ℕ) → ready S (P .placed) j ≡ true → l ≤ startOf S P j
-
-  next-from : (l : ℕ) → NoneBefore l → length w < S .jobs → (p : List ℕ) → Completes S P p → l ≤ nextStart S P p
+  next-from : (l : ℕ) → NoneBefore S P l → length w < S .jobs → (p : List ℕ) → Completes S P p → l ≤ nextStart S P p
   next-from l h m [] (g, c) = absurd (omega (arith, part-count S w f))
   next-from l h m (j ∷ p) (g, c) = h j (g .0)
 
   -- The area cut: the work of the part-plan is more than the modules can do by minute T.
-  pub area-cut : (l T : ℕ) → P .last ≤ l → NoneBefore l → length w < S .jobs → S .modules * T < work S P l → CannotBeat S (suc T) w
+  pub area-cut : (l T : ℕ) → P .last ≤ l → NoneBefore S P l → length w < S .jobs → S .modules * T < work S P l → CannotBeat S (suc T) w
   area-cut l T k h m a = by-completions (suc T) (λ p c.
       go p (area-bound S n P (part-sound S n w f) l k p c (next-from l h m p c)) (less-or-not T (planEnd S (placeAll S P p .plan))))
     where
@@ -79,7 +77,7 @@ module _ (S : Sheet) (n : Narrow S) (w : List ℕ) (f : Follows S noJobs w) wher
   chain-cut k j e r h = by-completions e (λ p c. omega (arith, chain-bound S n P (part-sound S n w f) p c k j r))
 
   -- The cut by a remembered part-plan: v is ahead of w, and cannot beat e.
-  pub ahead-cut : (v : List ℕ) → Follows S noJobs v → (l e : ℕ) → Ahead S (partOf S v) P l → NoneBefore l → length w < S .jobs
+  pub ahead-cut : (v : List ℕ) → Follows S noJobs v → (l e : ℕ) → Ahead S (partOf S v) P l → NoneBefore S P l → length w < S .jobs
       → CannotBeat S e v → CannotBeat S e w
   unfolding CannotBeat
   ahead-cut v g l e a h m s = by-completions e (λ p c.

@@ -13,16 +13,10 @@ use Rattle.counting.proofs.Ranges.{le-largest, largest-le}
 use Rattle.counting.proofs.Counts.{count-insert}
 use Rattle.schedule.specs.Plan.{Sheet, finish, planEnd, Narrow}
 use Rattle.schedule.specs.ListPlan.{PartPlan, Follows, occupies, startOf, place, placeAll, MayStart, occupied}
+use Rattle.schedule.specs.PartPlans.{Sound, Completes, Ahead, nextStart}
 use Rattle.schedule.proofs.Starts.{Ready, ready-says, start-le, start-may}
-use Rattle.schedule.proofs.Sound.{Sound, partEnd, part-end-le, place-sound, Completes, completes-all}
+use Rattle.schedule.proofs.Sound.{part-end-le, place-sound, completes-all}
 use Rattle.schedule.proofs.Occupied.{room-sum, sum-room}
-
--- From minute l on, A has placed the same jobs as B and keeps no module longer.
-pub record Ahead (S : Sheet) (A B : PartPlan) (l : ℕ) : Type 0 where
-  pub same : (i : ℕ) → i < S .jobs → A .placed i ≡ B .placed i
-  pub last : A .last ≤ l
-  pub ends : (i : ℕ) → i < S .jobs → A .placed i ≡ true
-      → finish S (A .plan) i + S .rest ≤ max (finish S (B .plan) i + S .rest) l
 
 -- ---- one step
 
@@ -64,11 +58,6 @@ module _ (S : Sheet) (A B : PartPlan) (l : ℕ) (h : Ahead S A B l) where
       omega (arith, h .ends i k (full i k), le-largest (S .jobs) (finish S (B .plan)) i k))
 
 -- ---- whole orders
-
--- the start of the next job, and the end of the placed jobs where there is none
-abbrev pub nextStart : Sheet → PartPlan → List ℕ → ℕ
-nextStart S P [] = partEnd S P
-nextStart S P (j ∷ o) = startOf S P j
 
 pub last-le-next : (S : Sheet) → Narrow S → (P : PartPlan) → Sound S P → (o : List ℕ) → Follows S (P .placed) o → P .last ≤ nextStart S P o
 last-le-next S w P h [] f = h .ended

@@ -14,10 +14,10 @@ use Rattle.counting.proofs.Sums.{sum-le}
 use Rattle.counting.proofs.Ranges.{le-largest, largest-le}
 use Rattle.schedule.specs.Plan.{Sheet, Plan, finish, planEnd, Narrow, Lasting}
 use Rattle.schedule.specs.ListPlan.{PartPlan, noJobs, ready, Follows, startOf, partOf, MayStart}
+use Rattle.schedule.specs.Beginnings.{CannotBeat}
 use Rattle.schedule.proofs.Starts.{Ready, ready-says, start-may}
 use Rattle.schedule.proofs.Sound.{part-sound}
 use Rattle.schedule.proofs.Timed.{runs, runs-from, runs-to, load, Timed}
-use Rattle.schedule.proofs.Places.{CannotBeat}
 use Rattle.schedule.proofs.Beside.{beside-room}
 use Rattle.schedule.proofs.Settled.{StartsNext, settled-next, Completion, by-plans}
 

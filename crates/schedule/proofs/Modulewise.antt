@@ -15,16 +15,11 @@ use Rattle.counting.proofs.Ranges.{le-largest, largest-le, any-some}
 use Rattle.counting.proofs.Counts.{sum-alike}
 use Rattle.schedule.specs.Plan.{Sheet, Plan, Valid, finish, planEnd, Lasting}
 use Rattle.schedule.specs.ListPlan.{PartPlan, occupies, free, occupied}
-use Rattle.schedule.proofs.Sound.{Sound}
+use Rattle.schedule.specs.PartPlans.{Sound}
+use Rattle.schedule.specs.Bounds.{availableFrom, Lasts}
 use Rattle.schedule.proofs.Occupied.{free-count}
-use Rattle.schedule.proofs.Area.{availableFrom}
 use Rattle.schedule.proofs.Weights.{GoesOn}
 use Rattle.schedule.proofs.Lanes.{OnLanes, lanes-bound}
-
--- no set of jobs that are left and last x minutes together weighs more than Z x
-abbrev pub Lasts : Sheet → PartPlan → (ℕ → ℕ) → (ℕ → ℕ) → Type 0
-Lasts S P y Z = (X : ℕ → Bool) (x : ℕ) → ((k : ℕ) → X k ≡ true → P .placed k ≡ false)
-    → sum (S .jobs) (λ k. only (X k) (S .minutes k)) ≤ x → sum (S .jobs) (λ k. only (X k) (y k)) ≤ Z x
 
 -- Q goes on from P, and keeps the placed jobs on their modules too
 pub record GoesOnWith (S : Sheet) (P : PartPlan) (l : ℕ) (Q : Plan) : Type 0 where

@@ -14,8 +14,8 @@ use Rattle.counting.proofs.Ranges.{any-none}
 use Rattle.counting.proofs.Counts.{count-one, count-not, count-none, any-le-count, only-count}
 use Rattle.schedule.specs.Plan.{Sheet, finish}
 use Rattle.schedule.specs.ListPlan.{PartPlan, occupies, free, occupied, MayStart, notBefore, firstMinute, allFreeFrom, startOf}
+use Rattle.schedule.specs.PartPlans.{Sound}
 use Rattle.schedule.proofs.Starts.{first-minute-same}
-use Rattle.schedule.proofs.Sound.{Sound}
 
 -- it never rises
 pub occupied-falls : (S : Sheet) (P : PartPlan) (t u : ℕ) → t ≤ u → occupied S P u ≤ occupied S P t

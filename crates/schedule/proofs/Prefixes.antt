@@ -10,8 +10,8 @@ use Rattle.counting.proofs.Counts.{count-insert, count-none}
 use Rattle.schedule.specs.Plan.{Sheet, planEnd}
 use Rattle.schedule.specs.ListPlan.{Order, PartPlan, noJobs, ready, Follows, startOf, place, emptyPart, placeAll, partOf}
 use Rattle.schedule.specs.TieRule.{endOf}
+use Rattle.schedule.specs.PartPlans.{Completes}
 use Rattle.schedule.proofs.Starts.{ready-says}
-use Rattle.schedule.proofs.Sound.{Completes}
 use Rattle.schedule.proofs.Along.{place-all-append}
 
 module _ (S : Sheet) where

@@ -9,7 +9,7 @@ use native.Mathlib.Omega.{arith}
 use Rattle.counting.proofs.Tests.{true-or-false}
 use Rattle.schedule.specs.Plan.{Sheet, Plan, Narrow, Lasting}
 use Rattle.schedule.specs.ListPlan.{PartPlan, noJobs, ready, Follows, startOf, partOf}
-use Rattle.schedule.proofs.Places.{CannotBeat}
+use Rattle.schedule.specs.Beginnings.{CannotBeat}
 use Rattle.schedule.proofs.Branch.{branch-follows, branch-kept, branch-behind}
 use Rattle.schedule.proofs.Settled.{StartsNext, settled-next, Completion, by-plans}
 

@@ -14,14 +14,15 @@ use Rattle.counting.proofs.Counts.{count-le}
 use Rattle.schedule.specs.Plan.{Sheet, Plan, finish, planEnd, Narrow, Lasting}
 use Rattle.schedule.specs.ListPlan.{Order, PartPlan, noJobs, ready, Follows, startOf, place, emptyPart, placeAll, partOf, listPlan}
 use Rattle.schedule.specs.TieRule.{endOf}
+use Rattle.schedule.specs.PartPlans.{Sound, Completes}
+use Rattle.schedule.specs.Beginnings.{CannotBeat}
 use Rattle.schedule.proofs.Starts.{ready-says, start-may}
-use Rattle.schedule.proofs.Sound.{Sound, part-sound, Completes, completes-all, list-plan-valid}
+use Rattle.schedule.proofs.Sound.{part-sound, completes-all, list-plan-valid}
 use Rattle.schedule.proofs.Timed.{Timed, KeepsUp, timed-narrow, keep-up}
 use Rattle.schedule.proofs.Earliest.{valid-timed}
 use Rattle.schedule.proofs.Along.{place-all-append, place-all-keeps, next-start-kept}
 use Rattle.schedule.proofs.Prefixes.{order-split, order-join, end-split, part-count, part-more, follows-more}
 use Rattle.schedule.proofs.Branch.{next-first}
-use Rattle.schedule.proofs.Places.{CannotBeat}
 
 -- A plan that has the jobs of v no earlier than v's part-plan, and the others behind them, ends no earlier than v's completions.
 pub settled : (S : Sheet) → Lasting S → (e : ℕ) (v : List ℕ) → Follows S noJobs v → CannotBeat S e v

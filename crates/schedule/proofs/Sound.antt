@@ -7,37 +7,20 @@ use Prim.Native.Nat.{ℕ, _+_, _≤_, _<_, zero-le}
 use native.Mathlib.Omega.{arith}
 use native.Mathlib.Nat.{le-refl, le-trans}
 use lib.Dec.{ltb, eqb}
-use lib.ListN.{length}
 use borrow.Author.Tests.{ltb-true, ltb-false, eqb-true, lt-ltb, eq-eqb, ne-eqb, not-true}
-use Rattle.counting.specs.Counting.{only, largest, count}
+use Rattle.counting.specs.Counting.{only, count}
 use Rattle.counting.proofs.Tests.{true-or-false, clash, and-left, and-right, and-both, only-le}
 use Rattle.counting.proofs.Ranges.{le-largest, largest-le, any-none}
 use Rattle.counting.proofs.Counts.{count-full, count-insert, count-lowest, count-none, count-same}
 use Rattle.schedule.specs.Plan.{Sheet, Valid, finish, planEnd, Narrow}
 use Rattle.schedule.specs.ListPlan.{Order, PartPlan, noJobs, Follows, occupies, free, lowest, startOf, MayStart}
 use Rattle.schedule.specs.ListPlan.{place, emptyPart, placeAll, partOf, listPlan}
+use Rattle.schedule.specs.PartPlans.{partEnd, Sound, Completes}
 use Rattle.schedule.proofs.Starts.{Ready, ready-says, start-may}
-
--- the end of the placed jobs
-abbrev pub partEnd : Sheet → PartPlan → ℕ
-partEnd S P = largest (S .jobs) (λ i. only (P .placed i) (finish S (P .plan) i))
 
 pub part-end-le : (S : Sheet) (P : PartPlan) → partEnd S P ≤ planEnd S (P .plan)
 part-end-le S P =
     largest-le (S .jobs) _ _ (λ i l. le-trans (only-le (P .placed i) _) (le-largest (S .jobs) (finish S (P .plan)) i l))
-
--- the placed jobs keep the rules of a valid plan, none starts after the last start, and one ends at it or later
-pub record Sound (S : Sheet) (P : PartPlan) : Type 0 where
-  pub inside : (j m : ℕ) → j < S .jobs → P .placed j ≡ true → P .plan .uses j m ≡ true → m < S .modules
-  pub enough : (j : ℕ) → j < S .jobs → P .placed j ≡ true → count (S .modules) (P .plan .uses j) ≡ S .need j
-  pub apart : (i j m : ℕ) → i < S .jobs → j < S .jobs → P .placed i ≡ true → P .placed j ≡ true → i ≢ j
-      → P .plan .uses i m ≡ true → P .plan .uses j m ≡ true
-      → (finish S (P .plan) i + S .rest ≤ P .plan .start j) ⊎ (finish S (P .plan) j + S .rest ≤ P .plan .start i)
-  pub after : (i j : ℕ) → i < S .jobs → j < S .jobs → P .placed j ≡ true → S .before i j ≡ true
-      → (P .placed i ≡ true) × (finish S (P .plan) i ≤ P .plan .start j)
-  pub arrived : (j : ℕ) → j < S .jobs → P .placed j ≡ true → S .arrival j ≤ P .plan .start j
-  pub early : (j : ℕ) → j < S .jobs → P .placed j ≡ true → P .plan .start j ≤ P .last
-  pub ended : P .last ≤ partEnd S P
 
 -- ---- one job more
 
@@ -149,10 +132,6 @@ place-all-sound S w P (j ∷ o) h f =
 
 pub part-sound : (S : Sheet) → Narrow S → (w : List ℕ) → Follows S noJobs w → Sound S (partOf S w)
 part-sound S n w f = place-all-sound S n emptyPart w (empty-sound S) f
-
--- how many jobs are placed and how many are still to be placed: all
-abbrev pub Completes : Sheet → PartPlan → List ℕ → Type 0
-Completes S P o = Follows S (P .placed) o × (count (S .jobs) (P .placed) + length o ≡ S .jobs)
 
 -- an order that completes a part-plan places every job
 pub completes-all : (S : Sheet) (P : PartPlan) (o : List ℕ) → Completes S P o → (i : ℕ) → i < S .jobs → placeAll S P o .placed i ≡ true

@@ -12,9 +12,9 @@ use Rattle.counting.proofs.Tests.{true-or-false, clash, less-or-not}
 use Rattle.counting.proofs.Ranges.{le-largest}
 use Rattle.schedule.specs.Plan.{Sheet, Plan, finish, planEnd, Narrow, Lasting}
 use Rattle.schedule.specs.ListPlan.{PartPlan, noJobs, ready, Follows, startOf, partOf}
+use Rattle.schedule.specs.Beginnings.{CannotBeat}
 use Rattle.schedule.proofs.Starts.{Ready, ready-says, start-may}
 use Rattle.schedule.proofs.Timed.{runs, runs-on, runs-not-yet, runs-no-more, Timed}
-use Rattle.schedule.proofs.Places.{CannotBeat}
 use Rattle.schedule.proofs.Branch.{branch-follows, branch-kept, branch-placed, branch-start, branch-behind}
 use Rattle.schedule.proofs.Settled.{StartsNext, settled-next, Completion, by-plans}
 use Rattle.schedule.proofs.Exchange.{of-each, exchanged, start-one, start-two, start-other, exchange-timed, exchange-ends}

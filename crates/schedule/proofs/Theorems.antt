@@ -22,7 +22,7 @@ use Rattle.schedule.proofs.Orders.{best-found, best-order}
 
 -- ---- the list plan
 
--- A job's start is the least minute at which document 01 lets it start, after whatever jobs are placed.
+-- A job's start is the least minute at which it may start (P-12), after whatever jobs are placed.
 pub start-least : (S : Sheet) → overWide S ≡ false → (w : List ℕ) (j : ℕ) → j < S .jobs
     → MayStart S (partOf S w) j (startOf S (partOf S w) j) × ((t : ℕ) → MayStart S (partOf S w) j t → startOf S (partOf S w) j ≤ t)
 start-least S e w j l = (start-may S (partOf S w) j (narrow-says S e j l), start-le S (partOf S w) j)

@@ -17,8 +17,9 @@ use Rattle.counting.proofs.Ranges.{argmin}
 use Rattle.counting.proofs.Counts.{count-insert, count-full, count-not, count-none}
 use Rattle.schedule.specs.Plan.{Sheet, Plan, finish, Narrow, Lasting}
 use Rattle.schedule.specs.ListPlan.{PartPlan, Follows, occupies, startOf, place, placeAll, MayStart, occupied}
+use Rattle.schedule.specs.PartPlans.{Sound}
 use Rattle.schedule.proofs.Starts.{Ready, ready-when, start-le, start-may}
-use Rattle.schedule.proofs.Sound.{Sound, place-sound}
+use Rattle.schedule.proofs.Sound.{place-sound}
 use Rattle.schedule.proofs.Occupied.{sum-room}
 
 -- ---- the load of a plan

@@ -6,44 +6,12 @@ use mathlib.Core.List.{List, [], _∷_}
 use Prim.Native.Nat.{ℕ, _+_, _<_}
 use lib.Dec.{ltb, leb, eqb}
 use borrow.Author.Tests.{ltb-true, leb-true, eqb-true, lt-ltb, le-leb, eq-eqb, ne-eqb, not-true, eqb-false}
-use Rattle.counting.specs.Counting.{every, count}
+use Rattle.counting.specs.Counting.{every}
 use Rattle.counting.proofs.Tests.{and-left, and-right, and-both, implied, implication, not-of-false}
 use Rattle.counting.proofs.Ranges.{every-at, every-intro}
 use Rattle.schedule.specs.Plan.{Sheet, Plan, Valid, finish}
 use Rattle.schedule.specs.Rows.{Slot, planOf, sameTest}
-
--- ---- one test a rule; module numbers below B are looked at
-
-module _ (B : ℕ) (S : Sheet) (P : Plan) where
-  abbrev inside : ℕ → Bool
-  inside j = every B (λ m. not (P .uses j m) || ltb m (S .modules))
-
-  abbrev enough : ℕ → Bool
-  enough j = eqb (count (S .modules) (P .uses j)) (S .need j)
-
-  abbrev apart : ℕ → ℕ → Bool
-  apart i j = leb (finish S P i + S .rest) (P .start j) || leb (finish S P j + S .rest) (P .start i)
-
-  -- i and j are two jobs, and module m is in both sets
-  abbrev shared : ℕ → ℕ → ℕ → Bool
-  shared i j m = not (eqb i j) && P .uses i m && P .uses j m
-
-  abbrev allApart : ℕ → Bool
-  allApart i = every (S .jobs) (λ j. every B (λ m. not (shared i j m) || apart i j))
-
-  abbrev after : ℕ → Bool
-  after i = every (S .jobs) (λ j. not (S .before i j) || leb (finish S P i) (P .start j))
-
-  abbrev arrived : ℕ → Bool
-  arrived j = leb (S .arrival j) (P .start j)
-
-  -- what is tested of one job
-  abbrev allOf : ℕ → Bool
-  allOf j = inside j && (enough j && (allApart j && (after j && arrived j)))
-
--- the plan is valid
-unfoldable pub isValid : ℕ → Sheet → Plan → Bool
-isValid B S P = every (S .jobs) (allOf B S P)
+use Rattle.schedule.specs.ValidTest.{inside, enough, apart, shared, allApart, after, arrived, allOf, isValid}
 
 -- ---- the test is the statement, where no set has a module from B on
 

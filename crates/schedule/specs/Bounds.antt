@@ -1,7 +1,33 @@
 -- What the bounds on a plan's end speak of.
-use mathlib.Core.Bool.{Bool, _&&_}
-use Prim.Native.Nat.{ℕ, suc, _+_, _-_}
+use mathlib.Core.Path.{_≡_}
+use mathlib.Core.Bool.{Bool, true, false, cond, _&&_}
+use Prim.Native.Nat.{ℕ, zero, suc, _+_, _-_, _*_, _≤_}
 use lib.Dec.{leb, ltb}
+use Rattle.counting.specs.Counting.{only, sum, largest}
+use Rattle.schedule.specs.Plan.{Sheet, finish}
+use Rattle.schedule.specs.ListPlan.{PartPlan}
+
+-- the minutes of the longest chain of at most k jobs, each an earlier job of the next, that begins with job j
+unfoldable pub chain : Sheet → ℕ → ℕ → ℕ
+chain S zero j = 0
+chain S (suc k) j = S .minutes j + largest (S .jobs) (λ i. only (S .before j i) (chain S k i))
+
+-- the module-minutes of job i from minute l on: what is left of it if it is placed, and all of it if not
+abbrev pub todo : Sheet → PartPlan → ℕ → ℕ → ℕ
+todo S P l i = cond (P .placed i) (S .need i * (finish S (P .plan) i - l)) (S .need i * S .minutes i)
+
+-- the module-minutes that are gone at minute l, and those of all jobs from then on
+unfoldable pub work : Sheet → PartPlan → ℕ → ℕ
+work S P l = S .modules * l + sum (S .jobs) (todo S P l)
+
+-- AT: the minute from which module m is free of the placed jobs
+abbrev pub availableFrom : Sheet → PartPlan → ℕ → ℕ
+availableFrom S P m = largest (S .jobs) (λ i. only (P .placed i && P .plan .uses i m) (finish S (P .plan) i))
+
+-- no set of jobs that are left and last x minutes together weighs more than Z x
+abbrev pub Lasts : Sheet → PartPlan → (ℕ → ℕ) → (ℕ → ℕ) → Type 0
+Lasts S P y Z = (X : ℕ → Bool) (x : ℕ) → ((k : ℕ) → X k ≡ true → P .placed k ≡ false)
+    → sum (S .jobs) (λ k. only (X k) (S .minutes k)) ≤ x → sum (S .jobs) (λ k. only (X k) (y k)) ≤ Z x
 
 -- a job of so many minutes, which starts from minute l on and ends by minute T, runs at minute m
 abbrev pub mustRun : ℕ → ℕ → ℕ → ℕ → Bool

@@ -1,4 +1,4 @@
--- Document 01: list plan. Orders in which each job follows its earlier jobs, and the plan that places the jobs in such an order.
+-- List plans (P-10 to P-13). Orders in which each job follows its earlier jobs, and the plan that places the jobs in such an order.
 use mathlib.Core.Path.{_≡_}
 use mathlib.Core.Bool.{Bool, true, false, not, cond, _&&_, _||_}
 use mathlib.Core.List.{List, [], _∷_}
@@ -39,7 +39,7 @@ times j (i ∷ o) = only (eqb j i) 1 + times j o
 
 -- ---- part-plans
 
--- Document 01: part-plan. The jobs placed so far, their part of the plan, and "the previous job's start" (0 for the first).
+-- A part-plan (P-15). The jobs placed so far, their part of the plan, and "the previous job's start" (0 for the first).
 pub record PartPlan : Type 0 where
   pub placed : ℕ → Bool
   pub plan : Plan
@@ -57,7 +57,7 @@ free S P t m = not (any (S .jobs) (λ i. occupies S P t i && P .plan .uses i m))
 unfoldable pub occupied : Sheet → PartPlan → ℕ → ℕ
 occupied S P t = sum (S .jobs) (λ i. only (occupies S P t i) (S .need i))
 
--- what document 01 asks of a start: job j may start at minute t
+-- what P-12 asks of a start: job j may start at minute t
 pub record MayStart (S : Sheet) (P : PartPlan) (j t : ℕ) : Type 0 where
   -- "no earlier than the previous job's start in that order"
   pub later : P .last ≤ t

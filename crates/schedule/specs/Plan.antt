@@ -1,4 +1,4 @@
--- Job sheets, plans and valid plans: document 01, 'A plan', and formulas (1) to (5) of document 002.
+-- Job sheets, plans and valid plans: P-1 to P-6; (1) to (5) are the paper's formulas (P-7).
 use mathlib.Core.Path.{_≡_}
 use mathlib.Core.Logic.{_⊎_, _≢_}
 use mathlib.Core.Bool.{Bool, true}
@@ -8,7 +8,7 @@ use Rattle.counting.specs.Counting.{largest, any, count}
 
 -- What a job sheet says of its jobs 0 to jobs - 1 and of the cabinet's modules 0 to modules - 1.
 -- need: "modules needed"; minutes: "minutes"; before i j: job i is one of job j's "earlier jobs".
--- arrival: the first minute at which a job may start; rest: minutes that a module rests between two jobs. Both are 0 in document 01.
+-- arrival: the first minute at which a job may start; rest: minutes that a module rests between two jobs. Both are 0 in the base.
 pub record Sheet : Type 0 where
   pub jobs : ℕ
   pub modules : ℕ

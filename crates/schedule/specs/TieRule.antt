@@ -1,4 +1,4 @@
--- Document 01: tie rule. Which order's list plan is the answer, as a statement and computed.
+-- The tie rule (P-14). Which order's list plan is the answer, as a statement and computed.
 use mathlib.Core.Path.{_≡_}
 use mathlib.Core.Logic.{_⊎_}
 use mathlib.Core.Bool.{Bool, true, false, cond}

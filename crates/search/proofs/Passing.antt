@@ -17,6 +17,7 @@ use Rattle.bits.specs.Bits.{bit}
 use Rattle.bits.proofs.Digits.{bit-or}
 use Rattle.schedule.specs.Plan.{Sheet, finish, Narrow, Lasting}
 use Rattle.schedule.specs.ListPlan.{PartPlan, noJobs, ready, Follows, startOf, partOf}
+use Rattle.schedule.specs.PartPlans.{Block}
 use Rattle.schedule.proofs.Starts.{ready-says}
 use Rattle.schedule.proofs.Prefixes.{part-more}
 use Rattle.schedule.proofs.Branch.{branch-placed, branch-start, branch-kept, placed-splits, split-last}
@@ -24,7 +25,7 @@ use Rattle.schedule.proofs.Branch.{place-splits, place-within, place-in, place-
 use Rattle.schedule.proofs.SameMinute.{same-minute-cut}
 use Rattle.schedule.proofs.Alike.{alike-cut}
 use Rattle.schedule.proofs.Swaps.{swap-cut}
-use Rattle.schedule.proofs.Blocks.{Block, block-cut}
+use Rattle.schedule.proofs.Blocks.{block-cut}
 use Rattle.tables.specs.Tables.{sheetOf, earlierAt, countOf}
 use Rattle.tables.specs.Prepared.{relatedIn}
 use Rattle.tables.specs.Part.{Part, wordOf}

@@ -12,9 +12,10 @@ use Rattle.counting.proofs.Tests.{last-or-below, less-or-not}
 use Rattle.schedule.specs.Plan.{Sheet}
 use Rattle.schedule.specs.ListPlan.{Order, ready, partOf}
 use Rattle.schedule.specs.TieRule.{endOf, DictionaryLe}
+use Rattle.schedule.specs.Beginnings.{Begins, Before, Upto, CannotBeat}
 use Rattle.schedule.proofs.Starts.{ready-says}
 use Rattle.schedule.proofs.Prefixes.{next-ready}
-use Rattle.schedule.proofs.Places.{Begins, Before, Upto, before-upto, CannotBeat}
+use Rattle.schedule.proofs.Places.{before-upto}
 use Rattle.tables.specs.Tables.{sheetOf, countOf, Fit}
 use Rattle.tables.specs.Part.{Part, wordOf}
 use Rattle.placement.specs.Part.{FirstPart, Placed}

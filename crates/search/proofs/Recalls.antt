@@ -13,8 +13,9 @@ use Rattle.bits.proofs.Ones.{ones-none}
 use Rattle.schedule.specs.Plan.{Sheet, finish}
 use Rattle.schedule.specs.ListPlan.{Order, partOf}
 use Rattle.schedule.specs.TieRule.{endOf}
-use Rattle.schedule.proofs.Places.{CannotBeat}
-use Rattle.schedule.proofs.Cuts.{ahead-cut, NoneBefore}
+use Rattle.schedule.specs.Beginnings.{CannotBeat}
+use Rattle.schedule.specs.PartPlans.{NoneBefore}
+use Rattle.schedule.proofs.Cuts.{ahead-cut}
 use Rattle.tables.specs.Tables.{sheetOf, countOf}
 use Rattle.tables.specs.Part.{Part, wordOf}
 use Rattle.placement.proofs.Parts.{left-count}
@@ -84,7 +85,7 @@ module _ {t : List ℕ} {part : Part} (known : Known t part) where
       )
 
   -- a remembered part-plan is ahead from a minute on, before which no job that may come next starts
-  pub hit-cut : {m : List ℕ} {l : ℕ} (e : ℕ) → 0 < ones (part .unplaced) → NoneBefore S (known .fit .narrow) w (known .is .follows) l
+  pub hit-cut : {m : List ℕ} {l : ℕ} (e : ℕ) → 0 < ones (part .unplaced) → NoneBefore S (partOf S w) l
       → Remembered S m e → Hit m jobs (part .ends) (part .unplaced) l → CannotBeat S e w
   unfolding Remembered
   hit-cut {m} {l} e pos none h found =

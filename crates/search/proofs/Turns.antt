@@ -9,8 +9,8 @@ use lib.ListN.{length, length-append}
 use borrow.Author.Tests.{ltb-true, ltb-false, not-true, not-false}
 use Rattle.schedule.specs.Plan.{Sheet}
 use Rattle.schedule.specs.ListPlan.{Order, PartPlan, ready}
+use Rattle.schedule.specs.Beginnings.{Begins, CannotBeat}
 use Rattle.schedule.proofs.Starts.{ready-says}
-use Rattle.schedule.proofs.Places.{Begins, CannotBeat}
 use Rattle.schedule.proofs.Cuts.{children-cut}
 use Rattle.tables.specs.Tables.{sheetOf, countOf}
 use Rattle.tables.specs.Part.{Part, wordOf}

@@ -13,7 +13,7 @@ use Rattle.bits.proofs.Digits.{bit-none}
 use Rattle.schedule.specs.Plan.{Sheet}
 use Rattle.schedule.specs.ListPlan.{Order}
 use Rattle.schedule.specs.TieRule.{endOf}
-use Rattle.schedule.proofs.Places.{CannotBeat}
+use Rattle.schedule.specs.Beginnings.{CannotBeat}
 use Rattle.schedule.proofs.EndSums.{end-sum}
 use Rattle.tables.specs.Tables.{sheetOf, countOf, Fit}
 use Rattle.tables.specs.Part.{Part, wordOf}

@@ -10,7 +10,7 @@ use Rattle.schedule.specs.Plan.{Sheet, finish}
 use Rattle.schedule.specs.ListPlan.{Order, noJobs, ready, Follows, startOf, partOf}
 use Rattle.schedule.specs.TieRule as tie
 use Rattle.schedule.specs.TieRule.{endOf}
-use Rattle.schedule.proofs.Places.{Begins, Before, CannotBeat}
+use Rattle.schedule.specs.Beginnings.{Begins, Before, CannotBeat}
 use Rattle.figures.specs.Figures.{mostJobs, noMinute}
 use Rattle.tables.specs.Tables.{sheetOf, countOf, Fit}
 use Rattle.tables.specs.Part.{Part, wordOf}

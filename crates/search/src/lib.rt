@@ -55,7 +55,7 @@ fn cut_off(
     memory::recall(memory, part, tables::count(jobs), least)
 }
 
-// Document 01: "The search goes from a part-plan to each next job". Finds an order that goes on from this part-plan and ends by the
+// P-15: the search goes from a part-plan to each next job. Finds an order that goes on from this part-plan and ends by the
 // target, or that there is none. `settled` has for each placed job the jobs that were tried before it was chosen: in its place none of
 // them leads to such an order. `same` has those of the jobs that start at the last start.
 fn visit(

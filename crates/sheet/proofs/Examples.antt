@@ -1,4 +1,4 @@
--- E1 of document 01 as a sheet, and one job whose record, lengths and label byte are wrong at once: what the definitions give.
+-- The example E1 as a sheet, and one job whose record, lengths and label byte are wrong at once: what the definitions give.
 use mathlib.Core.Path.{_≡_, refl, ap}
 use mathlib.Core.Logic.{⊎-elim}
 use mathlib.Core.Bool.{false}

@@ -1,4 +1,4 @@
--- Every sheet that reads is what writing its jobs gives, byte for byte (demand 2).
+-- Every sheet that reads is what writing its jobs gives, byte for byte (R-2.2).
 use mathlib.Core.Path.{_≡_, refl, sym, ap, ap₂, _∙_}
 use mathlib.Core.Bool.{not}
 use mathlib.Core.List.{List, _++_}

@@ -1,4 +1,4 @@
--- Whoever calls gets a result or the first refusal in the checking order (document 01, 'Checking order'; demand 1).
+-- Whoever calls gets a result or the first refusal in the order of checks (R-1.1, C).
 use mathlib.Core.Path.{_≡_, refl, sym, _∙_}
 use mathlib.Core.Logic.{_↔_}
 use mathlib.Core.Bool.{Bool, true, false, cond}

@@ -1,4 +1,4 @@
--- Legal jobs written as a sheet read back the same: the jobs, n, N and each label (demand 2).
+-- Legal jobs written as a sheet read back the same: the jobs, n, N and each label (R-2.1).
 use mathlib.Core.Path.{_≡_, refl, sym, ap, ap₂, _∙_}
 use mathlib.Core.Bool.{not}
 use mathlib.Core.List.{List, _++_}

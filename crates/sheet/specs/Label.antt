@@ -1,4 +1,4 @@
--- What the label calls answer (document 01: 'The label of one job is shown as that very part of the lent sheet').
+-- What the label calls answer (S-13: a job's label is that very part of the lent sheet).
 use mathlib.Core.Bool.{cond}
 use mathlib.Core.List.{List, [], _∷_, _++_}
 use Prim.Native.Nat.{ℕ}

@@ -1,4 +1,4 @@
--- What reading answers (document 01: 'Reading answers the job records in order, n and N').
+-- What reading answers (S-12: the job records in order, n and N).
 use mathlib.Core.Bool.{cond}
 use mathlib.Core.List.{List, _++_}
 use Prim.Native.Nat.{ℕ}

@@ -1,4 +1,4 @@
--- Demand 2: "Legal jobs written as a sheet read back the same, and every sheet that reads is what writing its jobs gives."
+-- R-2.1, R-2.2: legal jobs that are written as a sheet read back the same, and every sheet that reads is what writing its jobs gives.
 use mathlib.Core.List.{List}
 use Prim.Native.Nat.{ℕ}
 use lib.ListN.{take, drop}

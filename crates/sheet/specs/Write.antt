@@ -1,4 +1,4 @@
--- What writing answers and leaves in the lent buffer (document 01, 'The job sheet' and 'Checking order').
+-- What writing answers and leaves in the lent buffer (requirements, S and C).
 use mathlib.Core.Bool.{cond}
 use mathlib.Core.List.{List, [], _∷_, _++_}
 use Prim.Native.Nat.{ℕ}

@@ -1,4 +1,4 @@
--- The checks of reading, labels and writing (document 01, 'Checking order'), each a test that is true where the check fails.
+-- The checks of reading, labels and writing (requirements, C), each a test that is true where the check fails.
 use mathlib.Core.Bool.{Bool, not, _||_}
 use mathlib.Core.List.{List, [], _∷_}
 use Prim.Native.Nat.{ℕ, _+_, _*_, _^_}

@@ -1,4 +1,4 @@
--- The figures of document 01, 'The job sheet' and 'Checking order'. Each stands here or in `figures` once; src/layout.rt has a
+-- The figures of job sheets (requirements, S and C). Each stands here or in `figures` once; src/layout.rt has a
 -- constant for each.
 use Prim.Native.Nat.{ℕ}
 -- n is 0 to 20, N is 1 to 64, a job takes 1 to 1440 minutes

@@ -1,4 +1,4 @@
--- The bytes of a job sheet: the labels, the records, the trailer (document 01, 'The job sheet').
+-- The bytes of a job sheet: the labels, the records, the trailer (requirements, S).
 use mathlib.Core.List.{List, [], _∷_, _++_}
 use Prim.Native.Nat.{ℕ, _+_, _-_, _*_, _/_, _%_}
 use lib.ListN.{length, getD, take, replicate}

@@ -81,7 +81,7 @@ pub fn earlier(jobs: &Jobs, j: usize) -> u32
 
 // ---- the part-plan
 
-// Document 01: part-plan. Four lists of 20 numbers: the end of each placed job by its number; the placed jobs sorted by their ends, at UNTIL
+// A part-plan (P-15) has four lists of 20 numbers: the end of each placed job by its number; the placed jobs sorted by their ends, at UNTIL
 // those ends and at HELD their modules; and at ORDER the jobs as they were placed. Then single numbers: the last start, the modules that
 // are free then, how many jobs are placed, how many of those have ended by then, the set of the unplaced jobs and their module-minutes.
 pub const PART_PLACES: usize = 88;

@@ -1,4 +1,4 @@
--- Lines as they are printed: document 01, 'Examples from the yard'.
+-- Lines as they are printed: requirements, X.
 use mathlib.Core.List.{List, [], _∷_, _++_}
 use Prim.Native.Nat.{ℕ}
 

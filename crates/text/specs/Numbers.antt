@@ -1,4 +1,4 @@
--- Numbers as they are printed: document 01, 'Examples from the yard'.
+-- Numbers as they are printed: requirements, X.
 use mathlib.Core.Bool.{cond}
 use mathlib.Core.List.{List, [], _∷_, _++_}
 use Prim.Native.Nat.{ℕ, suc, _+_, _-_, _*_, _/_, _%_, _^_}

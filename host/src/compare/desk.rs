@@ -1,4 +1,4 @@
-//! The desk's calls against a reading of document 01: answers, and every byte of the lent desk.
+//! The desk's calls against a reading of the requirements: answers, and every byte of the lent desk.
 use crate::random::Random;
 use crate::reference::desk as reference;
 use crate::{ffi, Desk};

@@ -1,4 +1,4 @@
-//! The planning call against a reading of document 01 that tries every order: answers, cards, working memory, and no other byte.
+//! The planning call against a reading of the requirements that tries every order: answers, cards, working memory, and no other byte.
 use super::sheets;
 use crate::guarded::{Against, Guarded};
 use crate::random::Random;

@@ -1,4 +1,4 @@
-//! Reading, labels and writing against a reading of document 01: answers, every lent byte, and no other byte.
+//! Reading, labels and writing against a reading of the requirements: answers, every lent byte, and no other byte.
 use super::sheets;
 use crate::guarded::{Against, Guarded};
 use crate::random::Random;

@@ -1,4 +1,4 @@
-//! Independent implementations, written from document 01's text alone: slow, plain and literal.
+//! Independent implementations, written from docs/REQUIREMENTS.md alone: slow, plain and literal.
 pub mod desk;
 pub mod planning;
 pub mod reading;

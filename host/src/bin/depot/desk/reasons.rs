@@ -1,4 +1,4 @@
-//! The sums behind a refusal, in plain words: document 01's, from the desk's fields. The number itself is the library's.
+//! The sums behind a refusal, in plain words: those of K-2, from the desk's fields. The number itself is the library's.
 use super::bars::may_claim;
 use super::command::{given_names, Place};
 use depot_host::{Desk, Refusal};

@@ -1,0 +1,66 @@
+-- The demands R-1, R-2 and R-3, proved: each sentence is a theorem of the crate that it speaks of.
+use mathlib.Core.Path.{_≡_, refl, sym, _∙_}
+use mathlib.Core.Bool.{Bool, false}
+use mathlib.Core.List.{List}
+use Prim.Native.Nat.{ℕ}
+use lib.ListN.{length}
+use borrow.Author.Tests.{ne-eqb}
+use Rattle.checking.proofs.Order.{answered-exactly}
+use Rattle.sheet.proofs.Answers.{read-number}
+use Rattle.sheet.proofs.Refusals.{read-refused, read-answered, label-refused, label-answered}
+use Rattle.sheet.proofs.Refusals.{write-refused, write-answered, write-refused-leaves}
+use Rattle.sheet.proofs.WrittenReads.{written-reads, written-label}
+use Rattle.sheet.proofs.ReadIsWritten.{read-is-written, read-is-written-bytes}
+use Rattle.planner.specs.Planning.{planChecks, planRefusal, cardAfter, memoryAfter}
+use Rattle.planner.proofs.Planning.{plan-refused, plan-answered, no-plan-exactly}
+use Rattle.planner.proofs.Granted.{card-granted}
+use Rattle.desk.specs.declared.Desk.{Desk}
+use Rattle.desk.specs.Calls.{Call, claim, handBack, look, refusalOf}
+use Rattle.desk.proofs.Refusals.{open-refused, open-answered, claim-refused, claim-answered, hand-back-refused, hand-back-answered}
+use Rattle.desk.proofs.Refusals.{look-refused, look-answered}
+use Rattle.desk.proofs.Claims.{claim-granted-when}
+use Rattle.desk.proofs.Holdings.{holdings-add-up, holdings-within}
+use Rattle.desk.proofs.Lists.{refused-leaves, reachable-by-calls}
+use Rattle.demands.specs.Demands.{FirstRefusal, checksOf, EveryCallAnswers, EveryAnswerIsRight, NoneEarlierAndGranted}
+
+-- a call on the desk gives the first of its checks that fails
+call-refusal : (d : Desk) (x : Call) → FirstRefusal (refusalOf d x) (checksOf d x)
+call-refusal d (claim c k) = (claim-refused d c k, claim-answered d c k)
+call-refusal d (handBack c k) = (hand-back-refused d c k, hand-back-answered d c k)
+call-refusal d (look c) = (look-refused d c, look-answered d c)
+
+-- R-1: every call answers, and a refused one changes nothing.
+pub every-call-answers : EveryCallAnswers
+unfolding planRefusal cardAfter memoryAfter
+every-call-answers = record {
+  reads = λ s. (read-refused s, read-answered s);
+  labels = λ s job. (label-refused s job, label-answered s job);
+  writes = λ jobs n labels N out. (write-refused jobs n labels N out, write-answered jobs n labels N out);
+  plans = λ s room. (plan-refused s room, answered-exactly (planChecks s room) refl);
+  opens = λ limit assured ceilings. (open-refused limit assured ceilings, open-answered limit assured ceilings);
+  calls = call-refusal;
+  refused-write = λ jobs n labels N out e. write-refused-leaves jobs n labels N out e .0;
+  refused-plan = λ s card memory e. let z = ne-eqb (planRefusal s (length card)) 0 e in (rw z, rw z);
+  refused-call = refused-leaves;
+}
+
+-- R-2: every answer is the right one.
+pub every-answer-is-right : EveryAnswerIsRight
+every-answer-is-right = record {
+  read-back = λ jobs n labels N out e.
+      (written-reads jobs n labels N out e, λ i l. written-label jobs n labels N out e i l .1);
+  rewritten = λ s out bytes e room. (read-is-written s bytes e out room, read-is-written-bytes s bytes e out room);
+  valid = λ s card e. plan-answered s card e .1 .valid;
+  tie-ruled = λ s card e. let a = plan-answered s card e in (a .0, (a .1 .best, a .1 .written));
+  claims = λ d r c l k one. claim-granted-when d (reachable-by-calls d .1 r) c l k one;
+  holdings = λ limit assured ceilings e calls c. holdings-add-up limit assured ceilings e calls c;
+  within = λ limit assured ceilings e calls. holdings-within limit assured ceilings e calls;
+}
+
+-- R-3: no valid plan ends earlier, a sheet is refused exactly when it has none, and our plan is granted.
+pub none-earlier-and-granted : NoneEarlierAndGranted
+none-earlier-and-granted = record {
+  earliest = λ s card e. plan-answered s card e .1 .earliest;
+  refused-exactly = λ s room e. no-plan-exactly s room (sym (read-number s) ∙ e);
+  granted = λ s card e d r. card-granted s card e d (reachable-by-calls d .1 r);
+}

@@ -1,0 +1,2 @@
+-- The three theorems.
+pub mod Demands

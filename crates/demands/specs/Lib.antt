@@ -1,0 +1,2 @@
+-- The demands as a buyer reads them.
+pub mod Demands
