@@ -11,8 +11,9 @@ use borrow.Author.Tests.{ltb-true, lt-ltb, eq-eqb}
 use Rattle.counting.specs.Counting.{count}
 use Rattle.counting.proofs.Tests.{true-or-false, clash, and-left, and-right, and-both}
 use Rattle.counting.proofs.Counts.{count-up}
-use Rattle.schedule.specs.Plan.{Sheet, Plan, Valid, planEnd, overWide, Circular, Lasting}
-use Rattle.schedule.specs.ListPlan.{PartPlan, free, lowest, startOf, place, partOf, listPlan, MayStart}
+use Rattle.schedule.specs.Plan.{Sheet, Plan, Valid, planEnd, overWide, Circular, Narrow, Lasting}
+use Rattle.schedule.specs.ListPlan.{Order, PartPlan, free, lowest, startOf, place, partOf, listPlan, MayStart}
+use Rattle.schedule.specs.Ends.{EarliestEnd, EndsBy}
 use Rattle.schedule.specs.TieRule.{endOf, Best, bestOrder, wide, circular, planned, planAnswer, answerOf, Planned}
 use Rattle.schedule.proofs.Starts.{start-le, start-may}
 use Rattle.schedule.proofs.Sound.{list-plan-valid}
@@ -62,6 +63,24 @@ pub best-earliest : (S : Sheet) → Lasting S → (o : List ℕ) → Best S o �
 best-earliest S w o b Q v =
     let d = matched-end S Q v w in
     omega (arith, d .2, b .early (d .0) (d .1))
+
+-- ---- the two questions: orders answer them for all valid plans
+
+module _ (S : Sheet) (w : Lasting S) (n : Narrow S) where
+  -- The end of an order before which none ends is the earliest end.
+  pub earliest-of-orders : (o : List ℕ) → Order S o → ((p : List ℕ) → Order S p → endOf S o ≤ endOf S p) → EarliestEnd S (endOf S o)
+  earliest-of-orders o d least = record {
+    some = (listPlan S o, list-plan-valid S n o d, refl);
+    least = λ Q v. let m = matched-end S Q v w in omega (arith, m .2, least (m .0) (m .1));
+  }
+
+  -- An order that ends by minute t is a plan that does,
+  pub order-ends-by : (o : List ℕ) → Order S o → (t : ℕ) → endOf S o ≤ t → EndsBy S t
+  order-ends-by o d t l = (listPlan S o, list-plan-valid S n o d, l)
+
+  -- and where no order does, no plan does.
+  pub none-ends-by : (t : ℕ) → ((o : List ℕ) → Order S o → t < endOf S o) → ¬ EndsBy S t
+  none-ends-by t h (Q, v, l) = let m = matched-end S Q v w in omega (arith, m .2, h (m .0) (m .1))
 
 -- ---- the answer of a sheet
 

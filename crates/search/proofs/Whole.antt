@@ -1,9 +1,9 @@
 -- The whole search: from the first list plan to an order that ends first, and from there to the tie rule's.
-use mathlib.Core.Path.{_≡_, refl, sym, ap, _∙_}
-use mathlib.Core.Logic.{_⊎_, inl, inr}
+use mathlib.Core.Path.{_≡_, refl, sym, ap, _∙_, subst}
+use mathlib.Core.Logic.{_⊎_, inl, inr, _↔_}
 use mathlib.Core.Bool.{true, false}
 use mathlib.Core.List.{List, []}
-use Prim.Native.Nat.{ℕ, suc, _+_, _-_, _≤_, _<_}
+use Prim.Native.Nat.{ℕ, suc, _+_, _≤_, _<_}
 use native.Mathlib.Omega.{arith}
 use lib.ListN.{replicate, length-replicate}
 use Rattle.counting.specs.Counting.{only}
@@ -13,9 +13,11 @@ use Rattle.bits.proofs.Digits.{bit-none}
 use Rattle.schedule.specs.Plan.{Sheet}
 use Rattle.schedule.specs.ListPlan.{Order}
 use Rattle.schedule.specs.TieRule.{endOf}
+use Rattle.schedule.specs.Ends.{EarliestEnd, EndsBy}
 use Rattle.schedule.specs.Beginnings.{CannotBeat}
 use Rattle.schedule.proofs.EndSums.{end-sum}
-use Rattle.tables.specs.Tables.{sheetOf, countOf, Fit}
+use Rattle.schedule.proofs.Theorems.{earliest-of-orders, order-ends-by, none-ends-by}
+use Rattle.tables.specs.Tables.{sheetOf, Fit}
 use Rattle.tables.specs.Part.{Part, wordOf}
 use Rattle.tables.proofs.Laws.{zeros}
 use Rattle.placement.specs.Part.{FirstPart}
@@ -62,23 +64,33 @@ lower-hit {S} {best} {r} memory target s l o e m =
       remembered-less S memory (omega (arith, f .within)) m,
     )
 
--- no order ends between the target and the best
-module _ (t : List ℕ) (end target : ℕ) where
+-- ---- a target that is rounded to a sum of the jobs' minutes
+
+-- no order ends between the sum and the target
+module _ (t : List ℕ) (target sum : ℕ) where
   abbrev S : Sheet
   S = sheetOf t
 
-  abbrev jobs : ℕ
-  jobs = countOf t
-
-  pub none-between : Fit t → ¬ (end ≡ 0) → Rounded t (end - 1) target
-      → (o : List ℕ) → Order S o → suc target ≤ endOf S o → end ≤ endOf S o
-  none-between fit z h o d l = go (less-or-not (endOf S o) end)
+  pub none-between : Fit t → Rounded t target sum → (o : List ℕ) → Order S o → suc sum ≤ endOf S o → suc target ≤ endOf S o
+  none-between fit h o d l = go (less-or-not target (endOf S o))
     where
-      go : (endOf S o < end) ⊎ (end ≤ endOf S o) → end ≤ endOf S o
-      go (inr x) = x
-      go (inl x) =
+      go : (target < endOf S o) ⊎ (endOf S o ≤ target) → suc target ≤ endOf S o
+      go (inl x) = x
+      go (inr x) =
           let e = end-sum S (fit .narrow) (λ j. refl) refl o d in
           absurd (omega (arith, e .1, h .none-between (e .0) (omega (arith, e .1))))
+
+-- so that what is found of the sum is found of the target
+pub rounded-outcome : {S : Sheet} {target sum : ℕ} {r : Found} → sum ≤ target
+    → ((o : List ℕ) → Order S o → suc sum ≤ endOf S o → suc target ≤ endOf S o) → Outcome S sum [] r → Outcome S target [] r
+unfolding CannotBeat
+rounded-outcome l between m = record {
+  size = m .size;
+  hit = λ e. let f = m .hit e in record { order = f .order; begins = f .begins; end = f .end; within = omega (arith, f .within) };
+  miss = λ e o d b. between o d (m .miss e o d b);
+}
+
+-- ---- an end that is lowered
 
 -- none ends earlier
 pub lower-miss : {S : Sheet} {best : Found} → OrderOf S best → ((o : List ℕ) → Order S o → best .end ≤ endOf S o)
@@ -119,3 +131,31 @@ pub turn-last : {t prepared : List ℕ} {best : Found} {memory : List ℕ}
     → Turn t prepared best memory → best .hit ≡ false
     → Lowest (sheetOf t) best
 turn-last t e = record { is = t .state .best-is; least = t .done e }
+
+-- ---- the questions, of all valid plans
+
+-- the end of an order before which none ends
+pub earliest-end : {t : List ℕ} {r : Found} → Fit t → Lowest (sheetOf t) r → EarliestEnd (sheetOf t) (r .end)
+earliest-end {t} {r} fit h =
+    subst (EarliestEnd (sheetOf t)) (h .is .end)
+    (earliest-of-orders (sheetOf t) (fit .lasting) (fit .narrow) _ (h .is .order) (λ p d. omega (arith, h .is .end, h .least p d)))
+
+-- an order that ends by the target already
+pub listed-ends-by : {t : List ℕ} {r : Found} {target : ℕ} → Fit t → OrderOf (sheetOf t) r → r .end ≤ target
+    → (true ≡ true) ↔ EndsBy (sheetOf t) target
+listed-ends-by {t} {r} {target} fit h l =
+    (λ _. order-ends-by (sheetOf t) (fit .lasting) (fit .narrow) _ (h .order) target (omega (arith, h .end)), λ _. refl)
+
+-- the outcome of the search
+pub found-ends-by : {t : List ℕ} {r : Found} {target : ℕ} → Fit t → Outcome (sheetOf t) target [] r
+    → (r .hit ≡ true) ↔ EndsBy (sheetOf t) target
+found-ends-by {t} {r} {target} fit m = (there, λ some. back some (true-or-false (r .hit)))
+  where
+    there : r .hit ≡ true → EndsBy (sheetOf t) target
+    there e =
+        let f = m .hit e in
+        order-ends-by (sheetOf t) (fit .lasting) (fit .narrow) _ (f .order) target (omega (arith, f .end, f .within))
+
+    back : EndsBy (sheetOf t) target → (r .hit ≡ true) ⊎ (r .hit ≡ false) → r .hit ≡ true
+    back some (inl e) = e
+    back some (inr e) = absurd (none-ends-by (sheetOf t) (fit .lasting) (fit .narrow) target (none-by m e) some)

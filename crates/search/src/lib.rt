@@ -2,15 +2,19 @@
 // end until no order ends earlier, and then it settles the places of the order one after another.
 ghost use mathlib.Core.Path.{_≡_};
 ghost use mathlib.Core.Bool.{true};
+ghost use mathlib.Core.Logic.{_↔_};
 ghost use mathlib.Core.List.{[], _∷_, _++_};
 ghost use Prim.Native.Nat.{suc, _+_, _<_};
 ghost use lib.ListN.{length, getD, replicate};
 ghost use Rattle.figures.specs.Figures.{noMinute};
 ghost use Rattle.schedule.specs.Plan.{Circular};
 ghost use Rattle.schedule.specs.ListPlan.{ready};
+ghost use Rattle.schedule.specs.Ends.{EarliestEnd, EndsBy};
 ghost use Rattle.tables.specs.Tables.{sheetOf, countOf, Fit};
 ghost use Rattle.tables.specs.Part.{partIn, wordOf};
+ghost use Rattle.tables.specs.Prepared.{preparedSize};
 ghost use Rattle.candidates.specs.Candidates.{Known, theoryPart, JobStarts};
+ghost use Rattle.listing.specs.Listing.{OrderOf};
 ghost use Rattle.preparing.specs.Preparing.{Tabled};
 ghost use Rattle.search.specs.Search.{Outcome, Fails, noneFound, SettledSo, Going, Searching, Choosing, Remembered};
 ghost use Rattle.search.specs.Search.{keptAs, Lowering, Lowered, Lowest, Placing, TieRuled};
@@ -152,15 +156,16 @@ fn kept(best: Found) -> Found
     }
 }
 
-// An order that ends by the target, or none.
+// An order that ends by the target, or none. Ends are sums of the jobs' minutes: a target between two sums asks for the lower one.
 fn decide(memory: &mut [u8], target: u16, jobs: &Jobs, prepared: &Prepared) -> Found
     requires { ⌜ (Fit (now jobs)) × ((Tabled (now jobs) (now prepared)) × ((target < noMinute) × (Remembered (sheetOf (now jobs)) (now memory) (suc target)))) ⌝ }
     ensures outcome { λ r. ⌜ Outcome (sheetOf (now (jobs .entry))) target [] r ⌝ }
     ensures remembered { λ _. ⌜ Remembered (sheetOf (now (jobs .entry))) (now (memory .exit)) (suc target) ⌝ }
 {
+    let sum = sums::rounded(jobs, target);
     let part = placement::first_part(jobs);
     let mut settled = [0u32; MOST_JOBS];
-    visit(memory, &mut settled, &part, 0, target, jobs, prepared)
+    visit(memory, &mut settled, &part, 0, sum, jobs, prepared)
 }
 
 // An order that ends earlier, or the same one where there is none.
@@ -172,8 +177,7 @@ fn lower(memory: &mut [u8], best: Found, jobs: &Jobs, prepared: &Prepared) -> Fo
     if best.end == 0 {
         return kept(best);
     }
-    let target = sums::rounded(jobs, best.end - 1);
-    let found = decide(memory, target, jobs, prepared);
+    let found = decide(memory, best.end - 1, jobs, prepared);
     if found.hit {
         return found;
     }
@@ -273,29 +277,85 @@ fn first_order(memory: &mut [u8], least: Found, jobs: &Jobs, prepared: &Prepared
     best
 }
 
-// The tie rule's order, from some order. The memory is left all zero.
-fn best_order(memory: &mut [u8], listed: Found, jobs: &Jobs, prepared: &Prepared) -> Found
-    requires { ⌜ Lowering (now jobs) (now prepared) listed (now memory) ⌝ }
-    ensures answer { λ r. ⌜ TieRuled (sheetOf (now (jobs .entry))) r ⌝ }
-    ensures cleared { λ _. ⌜ now (memory .exit) ≡ replicate (length (now (memory .entry))) 0 ⌝ }
+// ---- the questions
+
+// Fills the prepared table, and gives a list plan to begin with.
+fn begin(prepared: &mut Prepared, jobs: &Jobs) -> Found
+    requires { ⌜ (length (now prepared) ≡ preparedSize) × ((Fit (now jobs)) × (¬ Circular (sheetOf (now jobs)))) ⌝ }
+    ensures listed { λ r. ⌜ OrderOf (sheetOf (now (jobs .entry))) r ⌝ }
+    ensures tabled { λ _. ⌜ Tabled (now (jobs .entry)) (now (prepared .exit)) ⌝ }
 {
-    let least = lowest(memory, listed, jobs, prepared);
-    memory::clear(memory);
-    let found = first_order(memory, least, jobs, prepared);
-    memory::clear(memory);
-    found
+    preparing::prepare(prepared, jobs);
+    let listed = listing::first_listed(jobs, prepared);
+    preparing::put_lanes(prepared, jobs, listed.end);
+    listed
 }
 
-// The tie rule's order and its list plan's end. What the memory held changes nothing, and it is left all zero.
+// An order that ends first of all, and the prepared table. What the memory held changes nothing.
+fn least_order(memory: &mut [u8], prepared: &mut Prepared, jobs: &Jobs) -> Found
+    requires { ⌜ (length (now prepared) ≡ preparedSize) × ((Fit (now jobs)) × (¬ Circular (sheetOf (now jobs)))) ⌝ }
+    ensures lowest { λ r. ⌜ Lowest (sheetOf (now (jobs .entry))) r ⌝ }
+    ensures tabled { λ _. ⌜ Tabled (now (jobs .entry)) (now (prepared .exit)) ⌝ }
+{
+    memory::clear(memory);
+    let listed = begin(prepared, jobs);
+    lowest(memory, listed, jobs, prepared)
+}
+
+// The earliest end of all valid plans. What the memory held changes nothing, and it is left all zero: so too below.
+pub fn earliest(memory: &mut [u8], jobs: &Jobs) -> u16
+    requires { ⌜ (Fit (now jobs)) × (¬ Circular (sheetOf (now jobs))) ⌝ }
+    ensures answer { λ r. ⌜ EarliestEnd (sheetOf (now (jobs .entry))) r ⌝ }
+    ensures cleared { λ _. ⌜ now (memory .exit) ≡ replicate (length (now (memory .entry))) 0 ⌝ }
+{
+    let mut prepared = [0u32; PREPARED_PLACES];
+    let least = least_order(memory, &mut prepared, jobs);
+    memory::clear(memory);
+    least.end
+}
+
+// Whether an order ends by the target: this one, or one that the search finds.
+fn some_ends_by(
+    memory: &mut [u8],
+    listed: Found,
+    target: u16,
+    jobs: &Jobs,
+    prepared: &Prepared,
+) -> bool
+    requires { ⌜ Lowering (now jobs) (now prepared) listed (now memory) ⌝ }
+    ensures { λ r. ⌜ (r ≡ true) ↔ EndsBy (sheetOf (now (jobs .entry))) target ⌝ }
+{
+    if listed.end <= target {
+        return true;
+    }
+    let found = decide(memory, target, jobs, prepared);
+    found.hit
+}
+
+// Whether some valid plan ends by the target.
+pub fn ends_by(memory: &mut [u8], target: u16, jobs: &Jobs) -> bool
+    requires { ⌜ (Fit (now jobs)) × (¬ Circular (sheetOf (now jobs))) ⌝ }
+    ensures answer { λ r. ⌜ (r ≡ true) ↔ EndsBy (sheetOf (now (jobs .entry))) target ⌝ }
+    ensures cleared { λ _. ⌜ now (memory .exit) ≡ replicate (length (now (memory .entry))) 0 ⌝ }
+{
+    memory::clear(memory);
+    let mut prepared = [0u32; PREPARED_PLACES];
+    let listed = begin(&mut prepared, jobs);
+    let ends = some_ends_by(memory, listed, target, jobs, &prepared);
+    memory::clear(memory);
+    ends
+}
+
+// The tie rule's order and its list plan's end.
 pub fn run(memory: &mut [u8], jobs: &Jobs) -> Found
     requires { ⌜ (Fit (now jobs)) × (¬ Circular (sheetOf (now jobs))) ⌝ }
     ensures answer { λ r. ⌜ TieRuled (sheetOf (now (jobs .entry))) r ⌝ }
     ensures cleared { λ _. ⌜ now (memory .exit) ≡ replicate (length (now (memory .entry))) 0 ⌝ }
 {
-    memory::clear(memory);
     let mut prepared = [0u32; PREPARED_PLACES];
-    preparing::prepare(&mut prepared, jobs);
-    let listed = listing::first_listed(jobs, &prepared);
-    preparing::put_lanes(&mut prepared, jobs, listed.end);
-    best_order(memory, listed, jobs, &prepared)
+    let least = least_order(memory, &mut prepared, jobs);
+    memory::clear(memory);
+    let found = first_order(memory, least, jobs, &prepared);
+    memory::clear(memory);
+    found
 }
