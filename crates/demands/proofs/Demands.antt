@@ -1,8 +1,5 @@
 -- The demands R-1, R-2 and R-3, proved: each sentence is a theorem of the crate that it speaks of.
-use mathlib.Core.Path.{_≡_, refl, sym, _∙_}
-use mathlib.Core.Bool.{Bool, false}
-use mathlib.Core.List.{List}
-use Prim.Native.Nat.{ℕ}
+use mathlib.Core.Path.{refl, sym, _∙_}
 use lib.ListN.{length}
 use borrow.Author.Tests.{ne-eqb}
 use Rattle.checking.proofs.Order.{answered-exactly}
@@ -11,6 +8,7 @@ use Rattle.sheet.proofs.Refusals.{read-refused, read-answered, label-refused, l
 use Rattle.sheet.proofs.Refusals.{write-refused, write-answered, write-refused-leaves}
 use Rattle.sheet.proofs.WrittenReads.{written-reads, written-label}
 use Rattle.sheet.proofs.ReadIsWritten.{read-is-written, read-is-written-bytes}
+use Rattle.sheet.specs.Label.{labelPlace}
 use Rattle.planner.specs.Planning.{planChecks, planRefusal, cardAfter, memoryAfter}
 use Rattle.planner.proofs.Planning.{plan-refused, plan-answered, no-plan-exactly}
 use Rattle.planner.proofs.Granted.{card-granted}
@@ -31,7 +29,7 @@ call-refusal d (look c) = (look-refused d c, look-answered d c)
 
 -- R-1: every call answers, and a refused one changes nothing.
 pub every-call-answers : EveryCallAnswers
-unfolding planRefusal cardAfter memoryAfter
+unfolding labelPlace planRefusal cardAfter memoryAfter
 every-call-answers = record {
   reads = λ s. (read-refused s, read-answered s);
   labels = λ s job. (label-refused s job, label-answered s job);
@@ -51,7 +49,7 @@ every-answer-is-right = record {
       (written-reads jobs n labels N out e, λ i l. written-label jobs n labels N out e i l .1);
   rewritten = λ s out bytes e room. (read-is-written s bytes e out room, read-is-written-bytes s bytes e out room);
   valid = λ s card e. plan-answered s card e .1 .valid;
-  tie-ruled = λ s card e. let a = plan-answered s card e in (a .0, (a .1 .best, a .1 .written));
+  tie-ruled = λ s card e. let a = plan-answered s card e in (a .0, a .1 .best, a .1 .written);
   claims = λ d r c l k one. claim-granted-when d (reachable-by-calls d .1 r) c l k one;
   holdings = λ limit assured ceilings e calls c. holdings-add-up limit assured ceilings e calls c;
   within = λ limit assured ceilings e calls. holdings-within limit assured ceilings e calls;
