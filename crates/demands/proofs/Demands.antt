@@ -13,7 +13,8 @@ use Rattle.planner.specs.Planning.{planChecks, planRefusal, cardAfter, memoryAf
 use Rattle.planner.proofs.Planning.{plan-refused, plan-answered, no-plan-exactly}
 use Rattle.planner.proofs.Granted.{card-granted}
 use Rattle.desk.specs.declared.Desk.{Desk}
-use Rattle.desk.specs.Calls.{Call, claim, handBack, look, refusalOf}
+use Rattle.desk.specs.Calls.{opened, Call, claim, handBack, look, refusalOf}
+use Rattle.lent.specs.Lent.{openedOver}
 use Rattle.desk.proofs.Refusals.{open-refused, open-answered, claim-refused, claim-answered, hand-back-refused, hand-back-answered}
 use Rattle.desk.proofs.Refusals.{look-refused, look-answered}
 use Rattle.desk.proofs.Claims.{claim-granted-when}
@@ -29,7 +30,7 @@ call-refusal d (look c) = (look-refused d c, look-answered d c)
 
 -- R-1: every call answers, and a refused one changes nothing.
 pub every-call-answers : EveryCallAnswers
-unfolding labelPlace planRefusal cardAfter memoryAfter
+unfolding labelPlace planRefusal cardAfter memoryAfter openedOver
 every-call-answers = record {
   reads = λ s. (read-refused s, read-answered s);
   labels = λ s job. (label-refused s job, label-answered s job);
@@ -39,6 +40,7 @@ every-call-answers = record {
   calls = call-refusal;
   refused-write = λ jobs n labels N out e. write-refused-leaves jobs n labels N out e .0;
   refused-plan = λ s card memory e. let z = ne-eqb (planRefusal s (length card)) 0 e in (rw z, rw z);
+  refused-opening = λ d limit assured ceilings e. rw (ne-eqb (opened limit assured ceilings .refusal) 0 e);
   refused-call = refused-leaves;
 }
 
