@@ -31,6 +31,18 @@
 extern "C" {
 #endif
 
+/* ---- the version ------------------------------------------------------------------------------------------------------------- */
+
+/* Of this header, and as a number: major * 1000000 + minor * 1000 + patch. Bytes of sheets and cards may differ between minors. */
+#define DEPOT_VERSION "0.1.0"
+#define DEPOT_VERSION_NUMBER 1000
+
+/*
+ * The number of the library that is linked. Compare it with DEPOT_VERSION_NUMBER at the start, so that header and library belong
+ * together. Stack: DEPOT_CALL_STACK.
+ */
+uint32_t depot_version(void);
+
 /* ---- refusals ---------------------------------------------------------------------------------------------------------------- */
 
 /*

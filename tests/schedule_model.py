@@ -155,7 +155,8 @@ use Rattle.schedule.specs.Plan.{overWide}
 use Rattle.schedule.specs.ListPlan.{ready, firstMinute, startOf, placeAll}
 use Rattle.schedule.specs.TieRule.{wide, circular, planned, ordersAfter, earliestOf, answerOf}
 use Rattle.schedule.specs.Rows.{Job, restingSheet, slot, Row, answers, places, allHold}
-use Rattle.schedule.proofs.ValidTest.{Judged, judged, isValid, allJudged}
+use Rattle.schedule.specs.ValidTest.{isValid}
+use Rattle.schedule.proofs.ValidTest.{Judged, judged, allJudged}
 
 abbrev late : ℕ → ℕ → List ℕ → ℕ → Job
 late w m e a = record { need = w; minutes = m; earlier = e; arrival = a }

@@ -72,6 +72,7 @@ static void plan_e1(void)
     memset(card, 0xEE, sizeof card);
     memset(work, 0xEE, sizeof work);
 
+    check(depot_version() == DEPOT_VERSION_NUMBER, "header and library belong together");
     check(depot_plan(e1, sizeof e1, card, DEPOT_CARD_BYTES(3) - 1, work, sizeof work) == DEPOT_BUFFER_TOO_SHORT,
           "a card with a byte too few is refused");
     check(card[0] == 0xEE && work[0] == 0xEE, "a refused call writes nothing");

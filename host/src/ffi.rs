@@ -29,6 +29,8 @@ pub struct Written {
 }
 
 extern "C" {
+    pub fn depot_version() -> u32;
+
     pub fn depot_plan(sheet: *const u8, sheet_len: usize, card: *mut u8, card_len: usize, work: *mut u8, work_len: usize) -> u32;
 
     pub fn depot_read(sheet: *const u8, sheet_len: usize) -> Reading;

@@ -1,6 +1,6 @@
 //! The depot's planner and share desk for Rust programs: a safe wrapper of the proved static library.
 //!
-//! [`plan`], [`Card`], [`read`], [`label`], [`write()`], [`Desk`] and [`Refusal`] are the product. The other modules test it and
+//! [`version`], [`plan`], [`Card`], [`read`], [`label`], [`write()`], [`Desk`] and [`Refusal`] are the product. The other modules test it and
 //! measure it.
 
 mod card;
@@ -35,6 +35,13 @@ pub const LONGEST_SHEET: usize = 448;
 /// How many bytes the card of so many jobs has.
 pub const fn card_length(jobs: usize) -> usize {
     13 * jobs + 8
+}
+
+/// The version of the library that is linked: major, minor, patch.
+pub fn version() -> [u32; 3] {
+    // SAFETY: the call is lent nothing.
+    let number = unsafe { ffi::depot_version() };
+    [number / 1_000_000, number / 1_000 % 1_000, number % 1_000]
 }
 
 /// Plans the job sheet: the plan that ends first of all valid plans, by the tie rule.

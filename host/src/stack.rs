@@ -1,7 +1,7 @@
 //! How much stack the calls need.
 use crate::guarded::{Against, Guarded};
 use crate::raw_sheet::Sheet;
-use crate::{card_length, label, plan, read, write, Desk, Job, Refusal, LONGEST_SHEET, MOST_JOBS};
+use crate::{card_length, label, plan, read, version, write, Desk, Job, Refusal, LONGEST_SHEET, MOST_JOBS};
 use std::ffi::{c_int, c_void};
 use std::ptr;
 
@@ -81,6 +81,7 @@ pub fn of_every_call() -> Vec<(&'static str, usize)> {
     let mut desk = Desk::default();
     let opening = done(|| Desk::open(4096, &[500; 8], &[4096; 8]).map(|opened| desk = opened));
     vec![
+        ("depot_version", done(|| Ok(version()))),
         ("depot_plan", planning[0].max(planning[1])),
         ("depot_read", done(|| read(&sheet))),
         ("depot_label", done(|| label(&sheet, MOST_JOBS - 1))),

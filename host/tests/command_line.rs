@@ -41,7 +41,10 @@ fn help() {
         golden(&name, &["help", verb], 0);
         golden(&name, &[verb, "-h"], 0);
     }
-    assert_eq!(depot(&["--version"], b"").text(), format!("depot {}\n", env!("CARGO_PKG_VERSION")));
+    assert_eq!(
+        depot(&["--version"], b"").text(),
+        concat!("depot ", env!("CARGO_PKG_VERSION"), "\nlibrary ", env!("CARGO_PKG_VERSION"), "\n")
+    );
 }
 
 #[test]

@@ -50,6 +50,16 @@ fn refusal<T>(answer: &Result<T, u32>) -> u32 {
     *answer.as_ref().err().unwrap_or(&0)
 }
 
+// ---- the version
+
+#[test]
+fn version() {
+    let [major, minor, patch] = depot_host::version();
+    assert!(minor < 1_000 && patch < 1_000);
+    // SAFETY: the call is lent nothing.
+    assert_eq!(unsafe { ffi::depot_version() }, 1_000_000 * major + 1_000 * minor + patch);
+}
+
 // ---- job sheets
 
 const PLAIN: Job = Job { label_len: 1, modules: 1, minutes: 1, earlier: 0, departure: 0 };

@@ -56,9 +56,9 @@ fn c_named(declaration: &str) -> Named {
 fn c_calls() -> BTreeMap<String, Signature> {
     let text = source("include/depot.h");
     let call = |statement: &str| {
-        let (head, rest) = statement.rsplit_once('}').map_or(statement, |(_, last)| last).split_once('(')?;
+        let (head, rest) = statement.rsplit_once(['{', '}']).map_or(statement, |(_, last)| last).split_once('(')?;
         let (name, result) = c_named(head);
-        let parameters = rest.split_once(')')?.0.split(',').map(c_named).collect();
+        let parameters = rest.split_once(')')?.0.split(',').filter(|one| one.trim() != "void").map(c_named).collect();
         Some((name, (result, parameters)))
     };
     text.split(';').filter_map(call).collect()
@@ -149,7 +149,7 @@ fn constant(text: &str, name: &str) -> usize {
 #[test]
 fn calls_agree() {
     let declared = c_calls();
-    assert_eq!(declared.len(), 8);
+    assert_eq!(declared.len(), 9);
     assert_eq!(calls(&source("crates/depot/src/lib.rt")), declared);
     assert_eq!(calls(&source("host/src/ffi.rs")), declared);
 }
@@ -193,6 +193,19 @@ fn numbers_agree() {
     }
     assert_eq!(depot_host::MOST_JOBS, macros["DEPOT_MOST_JOBS"]);
     assert_eq!(depot_host::LONGEST_SHEET, macros["DEPOT_LONGEST_SHEET"]);
+}
+
+/// One version: the header's two forms of it, the proved call's, and the package's.
+#[test]
+fn versions_agree() {
+    let header = fs::read_to_string(top().join("include/depot.h")).expect("the header is there");
+    let said = header.lines().find_map(|line| line.strip_prefix("#define DEPOT_VERSION ")).expect("a version");
+    assert_eq!(said, format!("{:?}", env!("CARGO_PKG_VERSION")));
+    let parts: Vec<usize> = env!("CARGO_PKG_VERSION").split('.').map(|part| part.parse().expect("a number")).collect();
+    let number = parts.iter().fold(0, |number, part| 1_000 * number + part);
+    assert_eq!(macros()["DEPOT_VERSION_NUMBER"], number);
+    assert_eq!(constant(&source("crates/depot/src/lib.rt"), "VERSION"), number);
+    assert_eq!(depot_host::version().map(|part| part as usize)[..], parts[..]);
 }
 
 /// The header names every refusal as the wrapper does, with its number.

@@ -1,8 +1,5 @@
 -- The demands R-1, R-2 and R-3, proved: each sentence is a theorem of the crate that it speaks of.
-use mathlib.Core.Path.{_≡_, refl, sym, _∙_}
-use mathlib.Core.Bool.{Bool, false}
-use mathlib.Core.List.{List}
-use Prim.Native.Nat.{ℕ}
+use mathlib.Core.Path.{refl, sym, _∙_}
 use lib.ListN.{length}
 use borrow.Author.Tests.{ne-eqb}
 use Rattle.checking.proofs.Order.{answered-exactly}
@@ -11,11 +8,13 @@ use Rattle.sheet.proofs.Refusals.{read-refused, read-answered, label-refused, l
 use Rattle.sheet.proofs.Refusals.{write-refused, write-answered, write-refused-leaves}
 use Rattle.sheet.proofs.WrittenReads.{written-reads, written-label}
 use Rattle.sheet.proofs.ReadIsWritten.{read-is-written, read-is-written-bytes}
+use Rattle.sheet.specs.Label.{labelPlace}
 use Rattle.planner.specs.Planning.{planChecks, planRefusal, cardAfter, memoryAfter}
 use Rattle.planner.proofs.Planning.{plan-refused, plan-answered, no-plan-exactly}
 use Rattle.planner.proofs.Granted.{card-granted}
 use Rattle.desk.specs.declared.Desk.{Desk}
-use Rattle.desk.specs.Calls.{Call, claim, handBack, look, refusalOf}
+use Rattle.desk.specs.Calls.{opened, Call, claim, handBack, look, refusalOf}
+use Rattle.lent.specs.Lent.{openedOver}
 use Rattle.desk.proofs.Refusals.{open-refused, open-answered, claim-refused, claim-answered, hand-back-refused, hand-back-answered}
 use Rattle.desk.proofs.Refusals.{look-refused, look-answered}
 use Rattle.desk.proofs.Claims.{claim-granted-when}
@@ -31,7 +30,7 @@ call-refusal d (look c) = (look-refused d c, look-answered d c)
 
 -- R-1: every call answers, and a refused one changes nothing.
 pub every-call-answers : EveryCallAnswers
-unfolding planRefusal cardAfter memoryAfter
+unfolding labelPlace planRefusal cardAfter memoryAfter openedOver
 every-call-answers = record {
   reads = λ s. (read-refused s, read-answered s);
   labels = λ s job. (label-refused s job, label-answered s job);
@@ -41,6 +40,7 @@ every-call-answers = record {
   calls = call-refusal;
   refused-write = λ jobs n labels N out e. write-refused-leaves jobs n labels N out e .0;
   refused-plan = λ s card memory e. let z = ne-eqb (planRefusal s (length card)) 0 e in (rw z, rw z);
+  refused-opening = λ d limit assured ceilings e. rw (ne-eqb (opened limit assured ceilings .refusal) 0 e);
   refused-call = refused-leaves;
 }
 
@@ -51,7 +51,7 @@ every-answer-is-right = record {
       (written-reads jobs n labels N out e, λ i l. written-label jobs n labels N out e i l .1);
   rewritten = λ s out bytes e room. (read-is-written s bytes e out room, read-is-written-bytes s bytes e out room);
   valid = λ s card e. plan-answered s card e .1 .valid;
-  tie-ruled = λ s card e. let a = plan-answered s card e in (a .0, (a .1 .best, a .1 .written));
+  tie-ruled = λ s card e. let a = plan-answered s card e in (a .0, a .1 .best, a .1 .written);
   claims = λ d r c l k one. claim-granted-when d (reachable-by-calls d .1 r) c l k one;
   holdings = λ limit assured ceilings e calls c. holdings-add-up limit assured ceilings e calls c;
   within = λ limit assured ceilings e calls. holdings-within limit assured ceilings e calls;

@@ -1,10 +1,12 @@
--- The demands R-1, R-2 and R-3 (docs/REQUIREMENTS.md), a record each and a field for each sentence. ../proofs/Demands.antt proves them.
+-- The demands R-1, R-2 and R-3 (docs/REQUIREMENTS.md), a record each. A sentence is one field or a few; ../proofs/Demands.antt proves them.
 --
 -- They speak of definitions. That the calls answer by these definitions, for whatever bytes and numbers they are lent, is the contract of
 -- each call in crates/depot/src/lib.rt: depot_plan answers `planRefusal` and leaves `cardAfter` and `memoryAfter`, depot_read answers
 -- `reading`, depot_label `labelPlace`, depot_write `writeAnswer` and leaves `writeLeaves`; the desk's calls answer `opened`, `claimed`,
--- `handedBack` and `looked`. That a call touches nothing else, that no sum overflows and that it ends (R-1.2 to R-1.4) is what the checker
--- proves of every function.
+-- `handedBack` and `looked`, and opening where firmware keeps desk d leaves `openedOver d`.
+--
+-- R-1.2 to R-1.4 have no field: that a call touches nothing else, that no sum overflows and that it ends is what the checker proves of
+-- every function.
 use mathlib.Core.Path.{_≡_}
 use mathlib.Core.Logic.{_⊎_, _≢_, _↔_}
 use mathlib.Core.List.{List, _++_}
@@ -29,6 +31,7 @@ use Rattle.desk.specs.Desk.{holding, assuredShare, ceilingOf, reservedForOthers
 use Rattle.desk.specs.Checks.{openChecks, claimChecks, handBackChecks, lookChecks}
 use Rattle.desk.specs.Calls.{opened, claimed, Call, claim, handBack, look, refusalOf, deskAfter, deskAfterAll, LeftByCalls}
 use Rattle.desk.specs.Calls.{grantedClaims, grantedHandBacks}
+use Rattle.lent.specs.Lent.{openedOver}
 use Rattle.assurance.specs.Following.{FollowsPlan, AllGranted}
 
 -- ---- R-1
@@ -58,6 +61,8 @@ pub record EveryCallAnswers : Type 0 where
       → writeLeaves jobs n labels N out ≡ out
   pub refused-plan : (s card memory : List ℕ) → planRefusal s (length card) ≢ 0
       → (cardAfter s card ≡ card) × (memoryAfter s (length card) memory ≡ memory)
+  pub refused-opening : (d : Desk) (limit : ℕ) (assured ceilings : List ℕ) → opened limit assured ceilings .refusal ≢ 0
+      → openedOver d limit assured ceilings .desk ≡ d
   pub refused-call : (d : Desk) (x : Call) → refusalOf d x ≢ 0 → deskAfter d x ≡ d
 
 -- ---- R-2

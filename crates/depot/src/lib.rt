@@ -1,4 +1,4 @@
-// What firmware links: planning, job sheets, and the desk where firmware keeps it. Each is a call of a proved function; include/depot.h
+// What firmware links: the version, planning, job sheets, and the desk where firmware keeps it. Each is a call of a proved function; include/depot.h
 // declares them for C. The desk's calls copy the lent desk, make the call by value, and put the desk that it hands back in its place.
 use desk::Desk;
 use sheet::LabelPlace;
@@ -14,6 +14,20 @@ ghost use Rattle.sheet.specs.Label.{labelPlace};
 ghost use Rattle.sheet.specs.Write.{writeAnswer, writeLeaves};
 ghost use Rattle.desk.specs.Calls.{claimed, handedBack, looked};
 ghost use Rattle.lent.specs.Lent.{openedOver, shownOver};
+ghost use Rattle.depot.specs.Version.{version};
+
+// ---- the version
+
+// 0.1.0
+const VERSION: u32 = 1000;
+
+// The number of this library's version; the header has the same.
+#[no_mangle]
+pub extern "C" fn depot_version() -> u32
+    ensures { λ r. ⌜ r ≡ version ⌝ }
+{
+    VERSION
+}
 
 // ---- planning
 

@@ -1,8 +1,11 @@
 // Runs the edges of job sheets, of planning and of the desk, and prints a line a case: what was tried, and the number that the call gave.
+mod desks;
+mod lines;
 mod plans;
+mod sheets;
 
 fn main() {
-    sheet_edges::run();
+    sheets::run();
     plans::run();
-    desk_edges::run();
+    desks::run();
 }

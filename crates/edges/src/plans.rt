@@ -1,5 +1,5 @@
 // The edges of planning.
-use cases::print_case;
+use super::lines::print_case;
 use sheet_format::Job;
 
 // The lengths of the sheets of one job and of twenty jobs with labels of one byte.

@@ -33,6 +33,12 @@ fn main() {
     })
 }
 
+/// The version of the command line, and that of the library that it links.
+fn versions() -> String {
+    let [major, minor, patch] = depot_host::version();
+    format!("depot {}\nlibrary {major}.{minor}.{patch}\n", env!("CARGO_PKG_VERSION"))
+}
+
 fn run(words: &[String]) -> Result<Outcome, Trouble> {
     let Some((verb, rest)) = words.split_first() else {
         return Err(Trouble::usage("a verb is missing", ""));
@@ -50,7 +56,7 @@ fn run(words: &[String]) -> Result<Outcome, Trouble> {
         "explain" => explain::run(rest),
         "help" => help::run(rest),
         "--help" | "-h" => outcome::say(help::TOP),
-        "--version" | "-V" => outcome::say(concat!("depot ", env!("CARGO_PKG_VERSION"), "\n")),
+        "--version" | "-V" => outcome::say(&versions()),
         _ => Err(Trouble::usage(format!("there is no verb '{verb}'"), "")),
     }
 }

@@ -1,4 +1,4 @@
-// The lines that a program of cases prints: what was tried, and the number that the call gave.
+// The lines that are printed: what was tried, and the number that the call gave.
 use libc::STDOUT_FILENO;
 
 pub fn print(text: &[u8]) {

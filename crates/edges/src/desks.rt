@@ -1,5 +1,5 @@
 // The edges of the desk, a line a case.
-use cases::print_case;
+use super::lines::print_case;
 use desk::Desk;
 
 // Opens with the first of the shares and of the ceilings.

@@ -1,9 +1,9 @@
 // The edges of job sheets, a line a case.
 ghost use Prim.Native.Nat.{_<_, _≤_};
-use cases::print;
-use cases::print_case;
-use cases::print_figure;
-use cases::print_number;
+use super::lines::print;
+use super::lines::print_case;
+use super::lines::print_figure;
+use super::lines::print_number;
 use sheet_format::Job;
 
 // The length of the sheet of one job with a label of one byte, and where its parts begin.

@@ -1,10 +1,10 @@
--- `sheet_edges::count_fronts` ends: no more fronts are counted than were read.
+-- `edges::sheets::count_fronts` ends: no more fronts are counted than were read.
 use Prim.Native.Nat.{_-_, _≤_}
 use native.Mathlib.Omega.{arith}
 use lib.ListN.{length}
 use borrow.Author.Needs.{needs}
-use Rattle.sheet_edges.proofs.count_fronts.Statement.{statement}
-use Rattle.sheet_edges.proofs.count_fronts.Tie as tie
+use Rattle.edges.proofs.sheets.count_fronts.Statement.{statement}
+use Rattle.edges.proofs.sheets.count_fronts.Tie as tie
 
 abbrev Inv-loop : tie.InvT-loop
 Inv-loop s number found₀ count₀ found count = (count ≤ length s) × (found ≤ count)
