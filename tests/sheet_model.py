@@ -120,7 +120,7 @@ use mathlib.Core.Path.{_≡_, refl}
 use mathlib.Core.List.{List, [], _∷_}
 use Rattle.counting.specs.Counting.{sum, any, joined}
 use Rattle.checking.specs.Checking.{firstFailing}
-use Rattle.words.specs.Words.{u16At, u32At}
+use Rattle.words.specs.Words.{numberAt}
 use Rattle.sheet_format.specs.Format.{recordAt, places}
 use Rattle.sheet_format.specs.Checks.{outside, faulty}
 use Rattle.sheet.specs.Read.{reading}
@@ -129,7 +129,7 @@ use Rattle.sheet.proofs.Rows.{Row, row, found, told}
 """
 FOOT = """
 pub rows-right : found rows ≡ told rows
-unfolding rows found told reading labelOf firstFailing outside faulty any sum places joined recordAt u16At u32At
+unfolding rows found told reading labelOf firstFailing outside faulty any sum places joined recordAt numberAt
 rows-right = refl
 """
 

@@ -22,10 +22,12 @@ use Rattle.schedule.proofs.Horizon.{ends-within}
 use Rattle.tables.specs.Tables.{sheetOf, minutesAt, countOf, modulesOf, Fit}
 use Rattle.tables.proofs.Laws.{all-minutes}
 use Rattle.card.specs.Card.{rowSize, rowEnd, rowModules, trailerSize, trailerEnd, trailerCount, orderAt, trailerAt, cardSize}
-use Rattle.card.specs.Card.{bytesOf, rowBytes, trailerBytes, cardBytes, rowOf, cardOf}
-use Rattle.card.specs.Decoding.{numberAt, Decodes}
-use Rattle.card.proofs.Joins.{bytes-length, row-length, trailer-length}
-use Rattle.card.proofs.Numbers.{number-front, number-behind, number-first, number-next, number-last, number-joined}
+use Rattle.card.specs.Card.{rowBytes, trailerBytes, cardBytes, rowOf, cardOf}
+use Rattle.card.specs.Decoding.{Decodes}
+use Rattle.card.proofs.Joins.{row-length, trailer-length}
+use Rattle.words.specs.Words.{bytesOf, numberAt}
+use Rattle.words.proofs.Bytes.{bytes-length}
+use Rattle.words.proofs.Numbers.{number-front, number-behind, number-first, number-next, number-last, number-joined}
 
 -- ---- rows and trailers
 

@@ -1,8 +1,6 @@
 -- The laws of the card, for the proofs here and in the crates above.
-pub mod Parts
 pub mod Joins
 pub mod Replays
-pub mod Numbers
 pub mod Decoding
 pub mod OnCard
 pub mod Differences

@@ -14,7 +14,8 @@ use Rattle.schedule.specs.Plan.{Sheet, Plan, Valid, finish, planEnd, Narrow}
 use Rattle.schedule.specs.ListPlan.{Order, listPlan}
 use Rattle.schedule.proofs.Sound.{list-plan-valid}
 use Rattle.card.specs.Card.{trailerEnd, trailerAt}
-use Rattle.card.specs.Decoding.{numberAt, planOn, Decodes}
+use Rattle.words.specs.Words.{numberAt}
+use Rattle.card.specs.Decoding.{planOn, Decodes}
 
 -- ---- two plans that say the same of the sheet's jobs
 

@@ -1,8 +1,9 @@
 -- The plan card (P-20).
-use mathlib.Core.List.{List, [], _∷_, _++_}
-use Prim.Native.Nat.{ℕ, _+_, _*_, _/_, _%_, _^_}
+use mathlib.Core.List.{List, _++_}
+use Prim.Native.Nat.{ℕ, _+_, _*_}
 use lib.IntN.{ℤ, pos, _-ℤ_}
 use Rattle.counting.specs.Counting.{joined}
+use Rattle.words.specs.Words.{bytesOf}
 use Rattle.bits.specs.Bits.{setOf}
 use Rattle.schedule.specs.Plan.{Sheet, finish}
 use Rattle.schedule.specs.ListPlan.{listPlan}
@@ -38,10 +39,6 @@ trailerAt n = (rowSize + 1) * n
 -- "It has 13n + 8 bytes."
 abbrev pub cardSize : ℕ → ℕ
 cardSize n = trailerAt n + trailerSize
-
--- "Numbers of several bytes are little-endian": the k lowest bytes of x, the lowest first
-abbrev pub bytesOf : ℕ → ℕ → List ℕ
-bytesOf k x = joined k (λ i. x / 2 ^ (8 * i) % 256 ∷ [])
 
 -- a row: "start (2 bytes), end (2), module set (8, bit m for module m)"
 unfoldable pub rowBytes : ℕ → ℕ → ℕ → List ℕ

@@ -1,18 +1,14 @@
 -- How a plan is read back from a card.
 use mathlib.Core.Path.{_≡_}
 use mathlib.Core.List.{List}
-use Prim.Native.Nat.{ℕ, zero, suc, _+_, _*_, _^_, _<_}
+use Prim.Native.Nat.{ℕ, _+_, _*_, _<_}
 use lib.ListN.{getD}
+use Rattle.words.specs.Words.{numberAt}
 use Rattle.bits.specs.Bits.{bit, setOf}
 use Rattle.schedule.specs.Plan.{Sheet, Plan, finish}
 use Rattle.schedule.specs.ListPlan.{listPlan}
 use Rattle.schedule.specs.TieRule.{endOf}
 use Rattle.card.specs.Card.{rowSize, rowEnd, rowModules, trailerEnd, trailerCount, orderAt, trailerAt}
-
--- the number in the k bytes from `at` on, the lowest first
-unfoldable pub numberAt : List ℕ → ℕ → ℕ → ℕ
-numberAt s at zero = 0
-numberAt s at (suc k) = getD s (at + k) 0 * 2 ^ (8 * k) + numberAt s at k
 
 -- the plan that the rows show: "start (2 bytes), … module set (8, bit m for module m)"
 abbrev pub planOn : List ℕ → Plan

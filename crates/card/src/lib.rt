@@ -8,7 +8,7 @@ ghost use Rattle.figures.specs.Figures.{mostJobs};
 ghost use Rattle.schedule.specs.ListPlan.{Order};
 ghost use Rattle.schedule.specs.TieRule.{endOf};
 ghost use Rattle.tables.specs.Tables.{sheetOf, countOf, Fit};
-ghost use Rattle.card.specs.Card.{rowSize, trailerSize, cardSize, bytesOf, rowBytes, trailerBytes, cardBytes, cardOf, latenessOf};
+ghost use Rattle.card.specs.Card.{rowSize, trailerSize, cardSize, rowBytes, trailerBytes, cardBytes, cardOf, latenessOf};
 ghost use Rattle.card.specs.Rows.{slotRow};
 use figures::MOST_JOBS;
 use replay::Slots;
@@ -28,26 +28,14 @@ pub const TRAILER_END: usize = 4;
 
 pub const TRAILER_COUNT: usize = 6;
 
-// The number over the whole part, its lowest byte first.
-fn write_number(part: &mut [u8], x: u64)
-    requires { ⌜ length (now part) ≤ 8 ⌝ }
-    ensures { λ _. ⌜ now (part .exit) ≡ bytesOf (length (now (part .entry))) x ⌝ }
-{
-    let mut i: usize = 0;
-    while i < part.len() {
-        part[i] = ((x >> (8 * i)) % 256) as u8;
-        i += 1;
-    }
-}
-
 // A row over the whole part.
 fn write_row(part: &mut [u8], start: u16, end: u16, modules: u64)
     requires { ⌜ length (now part) ≡ rowSize ⌝ }
     ensures { λ _. ⌜ now (part .exit) ≡ rowBytes start end modules ⌝ }
 {
-    write_number(&mut part[0..ROW_END], start as u64);
-    write_number(&mut part[ROW_END..ROW_MODULES], end as u64);
-    write_number(&mut part[ROW_MODULES..ROW_SIZE], modules);
+    words::write16(part, 0, start);
+    words::write16(part, ROW_END, end);
+    words::write64(part, ROW_MODULES, modules);
 }
 
 // The rows over the whole part, in job order.
@@ -86,9 +74,9 @@ fn write_trailer(part: &mut [u8], count: usize, end: u16)
     requires { ⌜ (count ≤ mostJobs) × (length (now part) ≡ trailerSize) ⌝ }
     ensures { λ _. ⌜ now (part .exit) ≡ trailerBytes count end ⌝ }
 {
-    write_number(&mut part[0..TRAILER_END], (ROW_SIZE * count) as u64);
-    write_number(&mut part[TRAILER_END..TRAILER_COUNT], end as u64);
-    write_number(&mut part[TRAILER_COUNT..TRAILER_SIZE], count as u64);
+    words::write32(part, 0, (ROW_SIZE * count) as u32);
+    words::write16(part, TRAILER_END, end);
+    words::write16(part, TRAILER_COUNT, count as u16);
 }
 
 // Writes the card at the front of the lent bytes, rows, order and trailer each into its own part; the bytes behind it stay.

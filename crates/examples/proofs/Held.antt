@@ -17,7 +17,7 @@ use Rattle.schedule.specs.Rows.{sameList}
 use Rattle.schedule.proofs.RowLaws as plans
 use Rattle.bits.specs.Bits.{bit, setOf}
 use Rattle.card.specs.Card as card
-use Rattle.words.specs.Words.{u16At, u32At}
+use Rattle.words.specs.Words.{numberAt}
 use Rattle.sheet_format.specs.Format.{recordAt, recordBytes, trailerBytes, sheetBytes}
 use Rattle.sheet_format.specs.Format.{places as sheet-places}
 use Rattle.sheet_format.specs.Checks.{outside, faulty}
@@ -62,7 +62,7 @@ holds-right (desk limit assured ceilings n l) e =
 
 table-holds : every (length table) (λ k. holds (getD table k noRow)) ≡ true
 unfolding table sum largest every any joined overWide ready firstMinute startOf placeAll ordersAfter earliestOf answerOf
-    bit setOf u16At u32At recordAt recordBytes trailerBytes sheetBytes sheet-places outside faulty reading
+    bit setOf numberAt recordAt recordBytes trailerBytes sheetBytes sheet-places outside faulty reading
     card.rowBytes card.trailerBytes card.cardBytes noOrder planRefusal bestCard cardAfter
     firstFailing wrongLengths wrongFigures sharesExceed deskOk notOfDesk openRefusal opened claimRefusal claimed handBackRefusal handedBack
     lookRefusal looked

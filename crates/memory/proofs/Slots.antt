@@ -6,12 +6,12 @@ use Prim.Native.Nat.{ℕ, suc, _+_, _-_, _*_, _/_, _%_, _^_, _≤_, _<_}
 use native.Mathlib.Omega.{arith}
 use native.Mathlib.Nat.{two-pow-succ}
 use lib.Count.{under, trailingZeros}
-use lib.ListN.{getD, length, take, drop, length-drop, length-append, take-append-drop, replicate, length-replicate, getD-replicate}
+use lib.ListN.{length, take, drop, length-drop, length-append, take-append-drop, replicate, length-replicate}
 use lib.Seq.{take-at, drop-at, drop-drop, drop-append-le, take-append-le, length-take-le}
 use borrow.Rule.Slice.PartMut.{putMid}
 use Rattle.counting.proofs.Tests.{less-or-not}
-use Rattle.words.specs.Words.{u16At, u32At}
-use Rattle.entries.proofs.Laws.{part-number}
+use Rattle.words.specs.Words.{u32At}
+use Rattle.words.proofs.Numbers.{number-part, number-zero}
 use Rattle.memory.specs.Entries.{Entry, entryIn, groupAt, entries, entryAt, EntryAhead, FiguresOf, EntryOf, Stored, Hit, Adds}
 
 -- ---- a set of entries
@@ -85,10 +85,10 @@ abbrev parts : List ℕ → List ℕ → Entry
 parts s f = record { set = u32At s 0; figures = f }
 
 entry-parts : (g : List ℕ) (way : ℕ) → entryIn g way ≡ parts (take 4 (drop (way * 4) g)) (take 42 (drop (64 + way * 42) g))
-unfolding entryIn u32At
+unfolding entryIn
 entry-parts g way =
     let z : way * 4 + 0 ≡ way * 4 = omega arith in
-    rw (part-number g 4 (way * 4) 0 (omega arith), part-number g 4 (way * 4) 2 (omega arith), z) refl
+    rw (number-part g 4 (way * 4) 0 4 (omega arith), z) refl
 
 -- an entry of which no byte is changed
 entry-same : (g g′ : List ℕ) (way : ℕ) → take 4 (drop (way * 4) g′) ≡ take 4 (drop (way * 4) g)
@@ -170,18 +170,11 @@ module _ (m : List ℕ) (jobs : ℕ) (ends : List ℕ) (u l : ℕ) where
 
 -- ---- all zero
 
-zero-number : (n a i : ℕ) → i + 1 < 736 → a + 736 ≤ n → u16At (take 736 (drop a (replicate n 0))) i ≡ 0
-unfolding u16At
-zero-number n a i h g = part-number (replicate n 0) 736 a i h ∙ omega (arith, one (a + i) (omega arith), one (a + i + 1) (omega arith))
-  where
-    one : (k : ℕ) → k < n → getD {A = ℕ} (replicate n 0) k 0 ≡ 0
-    one k h = getD-replicate n k 0 0 h
-
 -- no entry has a set
 pub zero-sets : (m : List ℕ) (n : ℕ) → m ≡ replicate n 0 → (k : ℕ) → k < entries m → entryAt m k .set ≡ 0
-unfolding entryAt entryIn groupAt u32At
+unfolding entryAt entryIn groupAt
 zero-sets m n e k l =
     let q : length m ≡ n = ap length e ∙ length-replicate n 0 in
-    let a = zero-number n (k / 16 * 736) (k % 16 * 4) (omega arith) (omega arith) in
-    let c = zero-number n (k / 16 * 736) (k % 16 * 4 + 2) (omega arith) (omega arith) in
-    rw e (omega arith)
+    rw e
+    (number-part (replicate n 0) 736 (k / 16 * 736) (k % 16 * 4) 4 (omega arith)
+    ∙ number-zero n (k / 16 * 736 + k % 16 * 4) 4 (omega arith))

@@ -6,9 +6,8 @@ ghost use mathlib.Core.Bool.{true};
 ghost use Prim.Native.Nat.{_+_, _*_, _<_, _≤_};
 ghost use lib.ListN.{length, replicate};
 ghost use Rattle.figures.specs.Figures.{mostJobs};
-ghost use Rattle.words.specs.Words.{u32At};
 ghost use Rattle.tables.specs.Part.{partIn};
-ghost use Rattle.memory.specs.Entries.{ways, setBytes, figureBytes, groupBytes, groupOf, FiguresOf, Stored, Hit, Adds};
+ghost use Rattle.memory.specs.Entries.{ways, figureBytes, groupBytes, groupOf, FiguresOf, Stored, Hit, Adds};
 use entries::ENDS;
 use entries::FIGURES;
 use entries::GROUP;
@@ -38,15 +37,6 @@ fn ways_with(group: &[u8], unplaced: u32) -> u32
     ways
 }
 
-// Writes the set of an entry.
-fn write_set(set: &mut [u8], unplaced: u32)
-    requires { ⌜ length (now set) ≡ setBytes ⌝ }
-    ensures { λ _. ⌜ u32At (now (set .exit)) 0 ≡ unplaced ⌝ }
-{
-    words::write16(set, 0, (unplaced % 65536) as u16);
-    words::write16(set, 2, (unplaced / 65536) as u16);
-}
-
 // Writes the figures of an entry.
 fn write_figures(figures: &mut [u8], part: &Part, jobs: usize)
     requires { ⌜ (length (now figures) ≡ figureBytes) × (jobs ≤ mostJobs) ⌝ }
@@ -69,7 +59,7 @@ fn store(group: &mut [u8], way: usize, part: &Part, jobs: usize)
     let unplaced = tables::unplaced(part);
     let from = way * SET;
     let to = from + SET;
-    write_set(&mut group[from..to], unplaced);
+    words::write32(&mut group[from..to], 0, unplaced);
     let at = SETS + way * FIGURES;
     let end = at + FIGURES;
     write_figures(&mut group[at..end], part, jobs);

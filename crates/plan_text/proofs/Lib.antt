@@ -1,3 +1,2 @@
 -- Laws of the lines of a plan.
-pub mod Numbers
 pub mod Sheets

@@ -3,7 +3,7 @@ use mathlib.Core.List.{List, _++_}
 use Prim.Native.Nat.{ℕ, _+_, _*_}
 use Rattle.counting.specs.Counting.{joined}
 use Rattle.card.specs.Card.{rowSize, rowEnd, rowModules, trailerAt, trailerEnd}
-use Rattle.card.specs.Decoding.{numberAt}
+use Rattle.words.specs.Words.{numberAt}
 use Rattle.sheet.specs.Read.{reading}
 use Rattle.sheet.specs.Label.{labelOf}
 use Rattle.plan_text.specs.Printed.{planLine, jobLine, departureOf}

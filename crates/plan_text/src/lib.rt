@@ -1,9 +1,8 @@
 // The lines of a plan, from its sheet and its card, and of a refusal.
 ghost use mathlib.Core.Path.{_≡_};
-ghost use Prim.Native.Nat.{_+_, _≤_, _<_};
+ghost use Prim.Native.Nat.{_<_};
 ghost use lib.ListN.{length};
 ghost use Rattle.figures.specs.Figures.{mostJobs};
-ghost use Rattle.card.specs.Decoding.{numberAt};
 ghost use Rattle.sheet.specs.Read.{reading};
 ghost use Rattle.text.specs.Texts.{empty, adding};
 ghost use Rattle.plan_text.specs.Printed.{planLine, jobLine, refusedLine, longestCard};
@@ -20,24 +19,6 @@ use text::Text;
 
 // The length of the longest card.
 pub const LONGEST_CARD: usize = (ROW_SIZE + 1) * MOST_JOBS + TRAILER_SIZE;
-
-// The number of two bytes at a place.
-fn number16(card: &[u8], at: usize) -> u16
-    requires { ⌜ at + 2 ≤ length (now card) ⌝ }
-    ensures { λ r. ⌜ r ≡ numberAt (now (card .entry)) at 2 ⌝ }
-{
-    words::read16(card, at)
-}
-
-// The number of eight bytes at a place.
-fn number64(card: &[u8], at: usize) -> u64
-    requires { ⌜ at + 8 ≤ length (now card) ⌝ }
-    ensures { λ r. ⌜ r ≡ numberAt (now (card .entry)) at 8 ⌝ }
-{
-    let low = words::read32(card, at) as u64;
-    let high = words::read32(card, at + 4) as u64;
-    low + high * 4294967296
-}
 
 // The text with a job's line behind it.
 fn with_line(text: Text, label: &[u8], start: u16, end: u16, departure: u16, modules: u64) -> Text
@@ -56,9 +37,9 @@ fn with_row(text: Text, sheet: &[u8], card: &[u8], j: usize, departure: u16) -> 
     ensures { λ r. ⌜ r ≡ adding text (rowLine (now (sheet .entry)) (now (card .entry)) departure j) ⌝ }
 {
     let at = ROW_SIZE * j;
-    let start = number16(card, at);
-    let end = number16(card, at + ROW_END);
-    let modules = number64(card, at + ROW_MODULES);
+    let start = words::read16(card, at);
+    let end = words::read16(card, at + ROW_END);
+    let modules = words::read64(card, at + ROW_MODULES);
     with_line(text, label(sheet, j), start, end, departure, modules)
 }
 
@@ -95,7 +76,7 @@ pub fn plan_lines(sheet: &[u8], card: &[u8]) -> Text
 {
     let found = sheet::read(sheet);
     let jobs = found.count;
-    let end = number16(card, (ROW_SIZE + 1) * jobs + TRAILER_END);
+    let end = words::read16(card, (ROW_SIZE + 1) * jobs + TRAILER_END);
     let text = plan_line(end, jobs as u32, found.modules);
     with_rows(text, sheet, card, found)
 }

@@ -12,7 +12,8 @@ use Rattle.schedule.specs.TieRule.{Best, endOf}
 use Rattle.schedule.proofs.Orders.{best-is}
 use Rattle.schedule.proofs.Theorems.{best-exists}
 use Rattle.card.specs.Card.{trailerEnd, trailerCount, orderAt, trailerAt, rowBytes, rowOf, trailerBytes, cardBytes, cardOf}
-use Rattle.card.specs.Decoding.{numberAt, Decodes}
+use Rattle.words.specs.Words.{numberAt}
+use Rattle.card.specs.Decoding.{Decodes}
 use Rattle.planable.proofs.Same.{SameJobs, plan-same, finish-same, end-same, best-same}
 use Rattle.planner.specs.Planning.{bestCard}
 

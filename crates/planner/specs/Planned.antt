@@ -6,7 +6,8 @@ use lib.ListN.{drop}
 use Rattle.schedule.specs.Plan.{Sheet, Plan, Valid, planEnd}
 use Rattle.schedule.specs.TieRule.{Best}
 use Rattle.card.specs.Card.{cardSize, cardOf, trailerAt, trailerEnd}
-use Rattle.card.specs.Decoding.{numberAt, planOn}
+use Rattle.words.specs.Words.{numberAt}
+use Rattle.card.specs.Decoding.{planOn}
 use Rattle.planable.specs.Planable.{sheetIn}
 use Rattle.planner.specs.Planning.{cardAfter}
 

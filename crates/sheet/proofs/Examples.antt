@@ -13,7 +13,7 @@ use Rattle.counting.proofs.Tests.{less-or-not}
 use Rattle.counting.proofs.Ranges.{any-none}
 use Rattle.checking.specs.Checking.{firstFailing}
 use Rattle.sheet_format.specs.declared.Job.{Job}
-use Rattle.words.specs.Words.{byteAt, u16At, u32At}
+use Rattle.words.specs.Words.{byteAt, numberAt}
 use Rattle.sheet_format.specs.Format.{recordAt, recordBytes, trailerBytes, sheetBytes, jobsIn}
 use Rattle.sheet_format.specs.Format.{places}
 use Rattle.sheet_format.specs.Checks.{outside, faulty}
@@ -46,15 +46,15 @@ e1 =
     ++ (3 ∷ 0 ∷ 0 ∷ 0 ∷ 3 ∷ 0 ∷ 2 ∷ 0 ∷ [])
 
 pub e1-reads : reading e1 ≡ answered 3 (jobsIn jobs) 2
-unfolding e1 labels jobs job reading firstFailing outside faulty any sum places joined recordAt u16At u32At
+unfolding e1 labels jobs job reading firstFailing outside faulty any sum places joined recordAt numberAt
 e1-reads = refl
 
 pub e1-label : labelOf e1 1 ≡ 66 ∷ []
-unfolding e1 labels labelOf firstFailing outside faulty any sum recordAt u16At u32At
+unfolding e1 labels labelOf firstFailing outside faulty any sum recordAt numberAt
 e1-label = refl
 
 pub e1-no-label : labelRefusal e1 3 ≡ 14
-unfolding e1 labels firstFailing outside faulty any sum recordAt u16At u32At
+unfolding e1 labels firstFailing outside faulty any sum recordAt numberAt
 e1-no-label = refl
 
 -- into a buffer that is longer than the sheet
@@ -78,19 +78,19 @@ one byte len minutes =
     byte ∷ len ∷ 1 ∷ minutes ∷ 0 ∷ 0 ∷ 0 ∷ 0 ∷ 0 ∷ 0 ∷ 0 ∷ 1 ∷ 0 ∷ 0 ∷ 0 ∷ 1 ∷ 0 ∷ 1 ∷ 0 ∷ []
 
 pub all-wrong : reading (one 32 2 0) .refusal ≡ 5
-unfolding one reading firstFailing outside faulty any sum places joined recordAt u16At u32At
+unfolding one reading firstFailing outside faulty any sum places joined recordAt numberAt
 all-wrong = refl
 
 pub lengths-wrong : reading (one 32 2 1) .refusal ≡ 6
-unfolding one reading firstFailing outside faulty any sum places joined recordAt u16At u32At
+unfolding one reading firstFailing outside faulty any sum places joined recordAt numberAt
 lengths-wrong = refl
 
 pub byte-wrong : reading (one 32 1 1) .refusal ≡ 7
-unfolding one reading firstFailing outside faulty any sum places joined recordAt u16At u32At
+unfolding one reading firstFailing outside faulty any sum places joined recordAt numberAt
 byte-wrong = refl
 
 pub none-wrong : reading (one 33 1 1) .refusal ≡ 0
-unfolding one reading firstFailing outside faulty any sum places joined recordAt u16At u32At
+unfolding one reading firstFailing outside faulty any sum places joined recordAt numberAt
 none-wrong = refl
 
 -- ---- E1 read and written again

@@ -1,4 +1,4 @@
--- Where the parts of a written sheet lie: its trailer, its records and its labels are found again, whatever the jobs.
+-- Where the parts of a written sheet lie: its trailer, its records and its labels are found again.
 use mathlib.Core.Path.{_≡_, sym, ap, ap₂, _∙_}
 use mathlib.Core.List.{List, _++_, append-assoc}
 use Prim.Native.Nat.{ℕ, _+_, _*_, _<_}
@@ -10,14 +10,15 @@ use Rattle.counting.specs.Counting.{joined}
 use Rattle.counting.proofs.Joins.{joined-split}
 use Rattle.sheet_format.specs.declared.Job.{Job}
 use Rattle.sheet_format.specs.Figures.{recordSize}
-use Rattle.words.specs.Words.{u16At, u32At}
+use Rattle.words.specs.Words.{numberAt}
+use Rattle.words.proofs.Numbers.{number-behind}
 use Rattle.sheet_format.specs.Format.{recordAt, recordBytes, trailerBytes, sheetBytes}
 use Rattle.sheet_format.specs.Format.{trailerAt, offsetOf, countOf, modulesOf, jobOf, labelsOf}
 use Rattle.sheet_format.proofs.Parts.{length-records}
-use Rattle.sheet_format.proofs.Digits.{record-read, trailer-read, u16-behind, u32-behind, record-behind}
-use Rattle.sheet.proofs.Writes.{length-sheet}
+use Rattle.sheet_format.proofs.Digits.{record-read, trailer-read, record-behind}
+use Rattle.sheet.proofs.Writes.{length-sheet, Writes}
 
-module _ (jobs : ℕ → Job) (n : ℕ) (labels : List ℕ) (N : ℕ) where
+module _ (jobs : ℕ → Job) (n : ℕ) (labels : List ℕ) (N room : ℕ) (w : Writes jobs n labels N room) where
   abbrev s : List ℕ
   s = sheetBytes jobs n labels N
 
@@ -40,23 +41,23 @@ module _ (jobs : ℕ → Job) (n : ℕ) (labels : List ℕ) (N : ℕ) where
   at-trailer : trailerAt s ≡ length labels + recordSize * n
   at-trailer = omega (arith, length-sheet jobs n labels N)
 
+  in-trailer : (a k : ℕ) → numberAt s (trailerAt s + a) k ≡ numberAt trailer a k
+  in-trailer a k =
+      ap₂ (λ (l : List ℕ) (i : ℕ). numberAt l (i + a) k) split-trailer at-trailer
+      ∙ number-behind (front n) trailer (length labels + recordSize * n) a k (length-front n)
+
+  trailer-holds : (numberAt trailer 0 4 ≡ length labels) × (numberAt trailer 4 2 ≡ n) × (numberAt trailer 6 2 ≡ N)
+  trailer-holds =
+      trailer-read (length labels) n N (omega (arith, w .short, w .few)) (omega (arith, w .few)) (omega (arith, w .most))
+
   pub offset-is : offsetOf s ≡ length labels
-  offset-is =
-      ap₂ u32At split-trailer (at-trailer ∙ sym (add-zero (length labels + recordSize * n)))
-      ∙ u32-behind (front n) trailer (length labels + recordSize * n) (length-front n) 0
-      ∙ trailer-read (length labels) n N .0
+  offset-is = ap (λ (i : ℕ). numberAt s i 4) (sym (add-zero (trailerAt s))) ∙ in-trailer 0 4 ∙ trailer-holds .0
 
   pub count-is : countOf s ≡ n
-  count-is =
-      ap₂ (λ (l : List ℕ) (k : ℕ). u16At l (k + 4)) split-trailer at-trailer
-      ∙ u16-behind (front n) trailer (length labels + recordSize * n) (length-front n) 4
-      ∙ trailer-read (length labels) n N .1
+  count-is = in-trailer 4 2 ∙ trailer-holds .1
 
   pub modules-is : modulesOf s ≡ N
-  modules-is =
-      ap₂ (λ (l : List ℕ) (k : ℕ). u16At l (k + 6)) split-trailer at-trailer
-      ∙ u16-behind (front n) trailer (length labels + recordSize * n) (length-front n) 6
-      ∙ trailer-read (length labels) n N .2
+  modules-is = in-trailer 6 2 ∙ trailer-holds .2
 
   pub labels-is : labelsOf s ≡ labels
   unfolding sheetBytes
@@ -73,4 +74,4 @@ module _ (jobs : ℕ → Job) (n : ℕ) (labels : List ℕ) (N : ℕ) where
       ∙ ap (λ (x : List ℕ). front i ++ x) (append-assoc (row i) (r .0) trailer) in
       ap₂ (λ (x : List ℕ) (o : ℕ). recordAt x (o + recordSize * i)) split offset-is
       ∙ record-behind (front i) (row i ++ (r .0 ++ trailer)) (length labels + recordSize * i) (length-front i)
-      ∙ record-read (jobs i) (r .0 ++ trailer)
+      ∙ record-read n (jobs i) (r .0 ++ trailer) (w .few) (w .sound i l)

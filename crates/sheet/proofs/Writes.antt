@@ -20,17 +20,18 @@ use Rattle.sheet_format.specs.Format.{recordBytes, trailerBytes, sheetBytes, la
 use Rattle.sheet_format.specs.Checks.{faulty, someFaulty, wrongModules, wrongBytes, tooShort, contentChecks}
 use Rattle.sheet.specs.Write.{over, writeChecks, writeRefusal, writeAnswer, writeLeaves}
 use Rattle.sheet_format.proofs.Bounds.{inside, legal}
-use Rattle.sheet_format.proofs.Parts.{part-more, length-records}
+use Rattle.words.proofs.Parts.{next-part}
+use Rattle.sheet_format.proofs.Parts.{length-records, length-trailer}
 
 -- ---- lengths
 
 pub length-sheet : (jobs : ℕ → Job) (n : ℕ) (labels : List ℕ) (N : ℕ)
     → length (sheetBytes jobs n labels N) ≡ length labels + recordSize * n + trailerSize
-unfolding sheetBytes trailerBytes
+unfolding sheetBytes
 length-sheet jobs n labels N =
     let records = joined n (λ i. recordBytes (jobs i)) in
     length-append labels (records ++ trailerBytes (length labels) n N)
-    ∙ omega (arith, length-append records (trailerBytes (length labels) n N), length-records n jobs)
+    ∙ omega (arith, length-append records (trailerBytes (length labels) n N), length-records n jobs, length-trailer (length labels) n N)
 
 -- ---- the cases of the answer
 
@@ -137,7 +138,7 @@ module _ (jobs : ℕ → Job) (n : ℕ) (labels : List ℕ) (N : ℕ) (out : Lis
       → putMid (length labels + recordSize * n) (length labels + recordSize * n + trailerSize - (length labels + recordSize * n))
       (putMid (length labels) (length labels + recordSize * n - length labels) (ls ++ drop (length labels) out) rs) ts
       ≡ over (sheetBytes jobs n labels N) out
-  unfolding sheetBytes trailerBytes
+  unfolding sheetBytes
   parts-are ls rs ts el er et =
       let records : List ℕ = joined n (λ i. recordBytes (jobs i)) in
       let trailer : List ℕ = trailerBytes (length labels) n N in
@@ -147,6 +148,6 @@ module _ (jobs : ℕ → Job) (n : ℕ) (labels : List ℕ) (N : ℕ) (out : Lis
       length-append labels records ∙ omega (arith, length-records n jobs) in
       rw (el, er, et, k, m)
       (ap (λ (x : List ℕ). putMid (length labels + recordSize * n) trailerSize x trailer)
-      (part-more out labels records (length labels) (recordSize * n) refl (length-records n jobs))
-      ∙ part-more out (labels ++ records) trailer (length labels + recordSize * n) trailerSize size refl
+      (next-part out labels records (length labels) (recordSize * n) refl)
+      ∙ next-part out (labels ++ records) trailer (length labels + recordSize * n) trailerSize size
       ∙ ap₂ (λ (x : List ℕ) (i : ℕ). x ++ drop i out) (append-assoc labels records trailer) (sym (length-sheet jobs n labels N)))

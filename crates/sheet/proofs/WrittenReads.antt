@@ -35,14 +35,14 @@ module _ (jobs : ℕ → Job) (n : ℕ) (labels : List ℕ) (N room : ℕ) (w : 
   lengths-is : (i : ℕ) → i ≤ n → labelLengths i (jobOf sheet) ≡ labelLengths i jobs
   lengths-is i l =
       sum-same i (λ k. labelLength (jobOf sheet k)) (λ k. labelLength (jobs k))
-      (λ k m. ap (λ (j : Job). labelLength j) (job-is jobs n labels N k (omega arith)))
+      (λ k m. ap (λ (j : Job). labelLength j) (job-is jobs n labels N room w k (omega arith)))
 
   reads-back : readRefusal sheet ≡ 0
   reads-back =
       let size = length-sheet jobs n labels N in
-      let o = offset-is jobs n labels N in
-      let c = count-is jobs n labels N in
-      let ls = labels-is jobs n labels N in
+      let o = offset-is jobs n labels N room w in
+      let c = count-is jobs n labels N room w in
+      let ls = labels-is jobs n labels N room w in
       let some = w .short in
       let few = w .few in
       let total : labelLengths (countOf sheet) (jobOf sheet) ≡ length (labelsOf sheet) =
@@ -52,12 +52,12 @@ module _ (jobs : ℕ → Job) (n : ℕ) (labels : List ℕ) (N room : ℕ) (w : 
         (
           le-ltb mostJobs (countOf sheet) (omega arith),
           (
-            ap (outside 1 mostModules) (modules-is jobs n labels N) ∙ not-outside 1 mostModules N (w .some) (w .most),
+            ap (outside 1 mostModules) (modules-is jobs n labels N room w) ∙ not-outside 1 mostModules N (w .some) (w .most),
             (
               ap not (eq-eqb (offsetOf sheet + recordSize * countOf sheet + trailerSize) (length sheet) (omega arith)),
               (
                 none-any (countOf sheet) (λ i. faulty (countOf sheet) (jobOf sheet i))
-                    (λ i l. ap₂ faulty c (job-is jobs n labels N i (omega arith)) ∙ w .sound i (omega arith)),
+                    (λ i l. ap₂ faulty c (job-is jobs n labels N room w i (omega arith)) ∙ w .sound i (omega arith)),
                 (
                   ap not (eq-eqb (labelLengths (countOf sheet) (jobOf sheet)) (length (labelsOf sheet)) total),
                   (ap wrongBytes ls ∙ w .printable, tt),
@@ -71,14 +71,14 @@ module _ (jobs : ℕ → Job) (n : ℕ) (labels : List ℕ) (N room : ℕ) (w : 
   answer-back : reading sheet ≡ answered n jobs N
   answer-back =
       read-answer sheet reads-back
-      ∙ ap₂ (λ (m M : ℕ). answered m (jobOf sheet) M) (count-is jobs n labels N) (modules-is jobs n labels N)
+      ∙ ap₂ (λ (m M : ℕ). answered m (jobOf sheet) M) (count-is jobs n labels N room w) (modules-is jobs n labels N room w)
       ∙ ap (λ (js : List Job). record { refusal = 0; jobs = js; count = n; modules = N })
-      (places-same n (jobOf sheet) jobs (job-is jobs n labels N))
+      (places-same n (jobOf sheet) jobs (job-is jobs n labels N room w))
 
   label-back : (i : ℕ) → i < n → (labelRefusal sheet i ≡ 0) × (labelOf sheet i ≡ labelIn jobs labels i)
   unfolding labelOf sheetBytes sum
   label-back i l =
-      let there : labelRefusal sheet i ≡ 0 = sym (label-there sheet i reads-back (omega (arith, count-is jobs n labels N))) in
+      let there : labelRefusal sheet i ≡ 0 = sym (label-there sheet i reads-back (omega (arith, count-is jobs n labels N room w))) in
       let within = sum-up (suc i) n (λ k. labelLength (jobs k)) l in
       let start : labelLengths i jobs ≤ length labels = omega (arith, w .lengths) in
       let rest : List ℕ = joined n (λ k. recordBytes (jobs k)) ++ trailerBytes (length labels) n N in
@@ -86,7 +86,7 @@ module _ (jobs : ℕ → Job) (n : ℕ) (labels : List ℕ) (N room : ℕ) (w : 
       rw (length-drop (labelLengths i jobs) labels) (omega (arith, w .lengths)) in (
         there,
         rw there
-            (ap₂ (λ (k m : ℕ). take k (drop m sheet)) (ap (λ (j : Job). labelLength j) (job-is jobs n labels N i l))
+            (ap₂ (λ (k m : ℕ). take k (drop m sheet)) (ap (λ (j : Job). labelLength j) (job-is jobs n labels N room w i l))
             (lengths-is i (omega arith))
             ∙ ap (take (labelLength (jobs i))) (drop-append-le (labelLengths i jobs) labels rest start)
             ∙ take-append-le (labelLength (jobs i)) (drop (labelLengths i jobs) labels) rest size),

@@ -1,83 +1,78 @@
--- Numbers, records and trailers as bytes and back.
-use mathlib.Core.Path.{_≡_, sym, ap, ap₂, _∙_}
+-- Records and trailers as bytes and back.
+use mathlib.Core.Path.{_≡_, refl, sym, ap, ap₂, _∙_}
+use mathlib.Core.Bool.{false}
 use mathlib.Core.List.{List, [], _∷_, _++_}
-use Prim.Native.Nat.{ℕ, _+_, _*_, _/_, _%_, _≤_, _<_}
-use native.Mathlib.Nat.{add-zero, add-assoc, mod-add-div'}
+use Prim.Native.Nat.{ℕ, _+_, _^_, _≤_, _<_}
+use native.Mathlib.Nat.{add-zero, add-assoc, lt-of-lt-of-le}
 use native.Mathlib.Omega.{arith}
 use lib.ListN.{length, take, drop}
+use lib.Pow.{pow-mono}
 use lib.Seq.{getD-append-add}
 use Rattle.counting.specs.Counting.{joined}
+use Rattle.words.specs.Words.{byteAt, u16At, u32At, bytesOf}
+use Rattle.words.proofs.Bytes.{segment}
+use Rattle.words.proofs.Numbers.{number-first, number-next, number-last, number-behind, bytes-each}
 use Rattle.sheet_format.specs.declared.Job.{Job}
-use Rattle.sheet_format.specs.Figures.{recordSize, trailerSize}
-use Rattle.words.specs.Words.{byteAt, u16At, u32At}
-use Rattle.sheet_format.specs.Format.{u16Bytes, u32Bytes}
+use Rattle.sheet_format.specs.Figures.{mostJobs, recordSize, trailerSize}
 use Rattle.sheet_format.specs.Format.{recordAt, recordBytes, trailerBytes}
-use Rattle.sheet_format.proofs.Lists.{segment}
+use Rattle.sheet_format.specs.Checks.{faulty}
+use Rattle.sheet_format.proofs.Bounds.{legal}
 
 -- ---- what is written is read
 
-pub record-read : (j : Job) (rest : List ℕ) → recordAt (recordBytes j ++ rest) 0 ≡ j
-unfolding recordAt recordBytes u16At u32At
-record-read j rest = simp mod-add-div'
+-- a record that is not faulty
+pub record-read : (n : ℕ) (j : Job) (rest : List ℕ) → n ≤ mostJobs → faulty n j ≡ false → recordAt (recordBytes j ++ rest) 0 ≡ j
+unfolding recordAt recordBytes joined
+record-read n j rest few sound =
+    let l = legal n j sound in
+    let front : List ℕ = j .«label_len» ∷ j .modules ∷ [] in
+    let m = bytesOf 2 (j .minutes) in
+    let e = bytesOf 4 (j .earlier) in
+    let d = bytesOf 2 (j .departure) in
+    let s : List ℕ = front ++ (m ++ (e ++ (d ++ rest))) in
+    let small : j .earlier < 2 ^ 32 = lt-of-lt-of-le (l .earlier) (pow-mono {i = n} {j = 32} (omega arith)) in
+    let minutes : u16At s 2 ≡ j .minutes = number-next 2 2 (j .minutes) front (e ++ (d ++ rest)) refl (omega arith) in
+    let earlier : u32At s 4 ≡ j .earlier = number-next 4 4 (j .earlier) (front ++ m) (d ++ rest) refl small in
+    let departure : u16At s 8 ≡ j .departure = number-next 8 2 (j .departure) (front ++ (m ++ e)) rest refl (omega arith) in
+    let with : ℕ → ℕ → ℕ → Job =
+    λ x y z. record { «label_len» = j .«label_len»; modules = j .modules; minutes = x; earlier = y; departure = z } in
+    ap₂ (λ (x y : ℕ). with x y (u16At s 8)) minutes earlier ∙ ap (with (j .minutes) (j .earlier)) departure
 
-pub trailer-read : (offset n N : ℕ) → (u32At (trailerBytes offset n N) 0 ≡ offset)
-    × (u16At (trailerBytes offset n N) 4 ≡ n) × (u16At (trailerBytes offset n N) 6 ≡ N)
-unfolding trailerBytes u16At u32At
-trailer-read offset n N = (simp mod-add-div', simp mod-add-div', simp mod-add-div')
+-- a trailer of figures that fit their bytes
+pub trailer-read : (offset n N : ℕ) → offset < 2 ^ 32 → n < 2 ^ 16 → N < 2 ^ 16
+    → (u32At (trailerBytes offset n N) 0 ≡ offset) × (u16At (trailerBytes offset n N) 4 ≡ n) × (u16At (trailerBytes offset n N) 6 ≡ N)
+unfolding trailerBytes joined
+trailer-read offset n N a b c = (
+  number-first 4 offset (bytesOf 2 n ++ bytesOf 2 N) a,
+  number-next 4 2 n (bytesOf 4 offset) (bytesOf 2 N) refl b,
+  number-last 6 2 N (bytesOf 4 offset ++ bytesOf 2 n) refl c,
+)
 
 -- ---- behind other bytes
 
 module _ (p q : List ℕ) (n : ℕ) (e : length p ≡ n) where
-  pub byte-behind : (i : ℕ) → byteAt (p ++ q) (n + i) ≡ byteAt q i
+  byte-behind : (i : ℕ) → byteAt (p ++ q) (n + i) ≡ byteAt q i
   byte-behind i = rw (← e) (getD-append-add p q i 0)
-
-  pub u16-behind : (i : ℕ) → u16At (p ++ q) (n + i) ≡ u16At q i
-  unfolding u16At
-  u16-behind i = rw (add-assoc n i 1, byte-behind i, byte-behind (i + 1))
-
-  pub u32-behind : (i : ℕ) → u32At (p ++ q) (n + i) ≡ u32At q i
-  unfolding u32At
-  u32-behind i = rw (add-assoc n i 2, u16-behind i, u16-behind (i + 2))
 
   pub record-behind : recordAt (p ++ q) n ≡ recordAt q 0
   unfolding recordAt
   record-behind =
       let z : byteAt (p ++ q) n ≡ byteAt q 0 = ap (byteAt (p ++ q)) (sym (add-zero n)) ∙ byte-behind 0 in
-      rw (z, byte-behind 1, u16-behind 2, u32-behind 4, u16-behind 8)
+      rw (z, byte-behind 1, number-behind p q n 2 2 e, number-behind p q n 4 4 e, number-behind p q n 8 2 e)
 
 -- ---- what is read is written
 
 module _ (s : List ℕ) (bytes : (i : ℕ) → byteAt s i < 256) where
-  pub u16-back : (i : ℕ) → u16Bytes (u16At s i) ≡ byteAt s i ∷ byteAt s (i + 1) ∷ []
-  unfolding u16At
-  u16-back i =
-      let a = bytes i in
-      let low : (byteAt s i + byteAt s (i + 1) * 256) % 256 ≡ byteAt s i = omega arith in
-      let high : (byteAt s i + byteAt s (i + 1) * 256) / 256 ≡ byteAt s (i + 1) = omega arith in
-      ap₂ (λ (x y : ℕ). x ∷ y ∷ []) low high
-
-  u16-below : (i : ℕ) → u16At s i < 65536
-  unfolding u16At
-  u16-below i = omega (arith, bytes i, bytes (i + 1))
-
-  pub u32-back : (i : ℕ) → u32Bytes (u32At s i) ≡ byteAt s i ∷ byteAt s (i + 1) ∷ byteAt s (i + 2) ∷ byteAt s (i + 2 + 1) ∷ []
-  unfolding u32At
-  u32-back i =
-      let a = u16-below i in
-      let low : (u16At s i + u16At s (i + 2) * 65536) % 65536 ≡ u16At s i = omega arith in
-      let high : (u16At s i + u16At s (i + 2) * 65536) / 65536 ≡ u16At s (i + 2) = omega arith in
-      ap₂ (λ (x y : ℕ). u16Bytes x ++ u16Bytes y) low high ∙ ap₂ _++_ (u16-back i) (u16-back (i + 2))
-
   pub record-back : (at : ℕ) → at + recordSize ≤ length s → recordBytes (recordAt s at) ≡ take recordSize (drop at s)
   unfolding recordBytes recordAt joined
   record-back at h =
-      ap₂ (λ (x y : List ℕ). byteAt s at ∷ byteAt s (at + 1) ∷ (x ++ y)) (u16-back (at + 2))
-      (ap₂ _++_ (u32-back (at + 4)) (u16-back (at + 8)))
+      ap₂ (λ (x y : List ℕ). byteAt s at ∷ byteAt s (at + 1) ∷ (x ++ y)) (bytes-each s bytes (at + 2) 2)
+      (ap₂ _++_ (bytes-each s bytes (at + 4) 4) (bytes-each s bytes (at + 8) 2))
       ∙ rw (segment s at recordSize h) (simp (add-assoc, add-zero))
 
   pub trailer-back : (at : ℕ) → at + trailerSize ≤ length s
       → trailerBytes (u32At s at) (u16At s (at + 4)) (u16At s (at + 6)) ≡ take trailerSize (drop at s)
   unfolding trailerBytes joined
   trailer-back at h =
-      ap₂ _++_ (u32-back at) (ap₂ _++_ (u16-back (at + 4)) (u16-back (at + 6)))
+      ap₂ _++_ (bytes-each s bytes at 4) (ap₂ _++_ (bytes-each s bytes (at + 4) 2) (bytes-each s bytes (at + 6) 2))
       ∙ rw (segment s at trailerSize h) (simp (add-assoc, add-zero))

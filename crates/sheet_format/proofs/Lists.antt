@@ -1,16 +1,15 @@
--- Laws of the places of a list of fixed length, and of a part of a list byte by byte.
-use mathlib.Core.Path.{_≡_, refl, sym, ap, ap₂, _∙_}
+-- Laws of the places of a list of fixed length.
+use mathlib.Core.Path.{_≡_, refl, sym, ap, _∙_}
 use mathlib.Core.List.{List, [], _∷_, _++_, append-assoc}
-use Prim.Native.Nat.{ℕ, zero, suc, _+_, _-_, _≤_, _<_}
+use Prim.Native.Nat.{ℕ, suc, _+_, _-_, _≤_, _<_}
 use native.Mathlib.Numerals.{add-one}
 use native.Mathlib.Omega.{arith}
-use lib.ListN.{length, getD, take, drop, set, replicate, length-append, length-drop, length-replicate}
-use lib.Seq.{set-at, take-suc, getD-at, getD-drop}
+use lib.ListN.{length, getD, set, replicate, length-append, length-replicate}
+use lib.Seq.{set-at, getD-at}
 use Rattle.counting.specs.Counting.{joined}
 use Rattle.counting.proofs.Joins.{joined-length, joined-same, joined-split}
 use Rattle.sheet_format.specs.declared.Job.{Job}
 use Rattle.sheet_format.specs.Figures.{mostJobs}
-use Rattle.words.specs.Words.{byteAt}
 use Rattle.sheet_format.specs.Format.{noJob, jobsIn, places}
 
 -- one job more in its place
@@ -45,12 +44,3 @@ unfolding places
 places-same n f g h =
     ap (λ (l : List Job). l ++ replicate (mostJobs - n) noJob)
     (joined-same n (λ i. f i ∷ []) (λ i. g i ∷ []) (λ i l. ap (λ (j : Job). j ∷ []) (h i l)))
-
--- the k bytes from `at` on, one by one
-pub segment : (s : List ℕ) (at k : ℕ) → at + k ≤ length s → take k (drop at s) ≡ joined k (λ i. byteAt s (at + i) ∷ [])
-unfolding joined
-segment s at zero h = refl
-segment s at (suc k) h =
-    let l : k < length (drop at s) = rw (length-drop at s) (omega arith) in
-    take-suc (drop at s) k 0 l
-    ∙ ap₂ (λ (x : List ℕ) (b : ℕ). x ++ (b ∷ [])) (segment s at k (omega arith)) (getD-drop at s k 0)

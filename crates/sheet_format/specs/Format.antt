@@ -1,19 +1,11 @@
 -- The bytes of a job sheet: the labels, the records, the trailer (requirements, S).
 use mathlib.Core.List.{List, [], _∷_, _++_}
-use Prim.Native.Nat.{ℕ, _+_, _-_, _*_, _/_, _%_}
+use Prim.Native.Nat.{ℕ, _+_, _-_, _*_}
 use lib.ListN.{length, getD, take, replicate}
 use Rattle.counting.specs.Counting.{sum, joined}
-use Rattle.words.specs.Words.{byteAt, u16At, u32At}
+use Rattle.words.specs.Words.{byteAt, u16At, u32At, bytesOf}
 use Rattle.sheet_format.specs.declared.Job.{Job}
 use Rattle.sheet_format.specs.Figures.{mostJobs, recordSize, trailerSize}
-
--- ---- numbers of several bytes, little-endian
-
-abbrev pub u16Bytes : ℕ → List ℕ
-u16Bytes x = x % 256 ∷ x / 256 ∷ []
-
-abbrev pub u32Bytes : ℕ → List ℕ
-u32Bytes x = u16Bytes (x % 65536) ++ u16Bytes (x / 65536)
 
 -- ---- a record: label length (1 byte), modules needed (1), minutes (2), earlier jobs (4), departure (2)
 
@@ -31,7 +23,7 @@ recordAt s at = record {
 
 unfoldable pub recordBytes : Job → List ℕ
 recordBytes j =
-    labelLength j ∷ j .modules ∷ (u16Bytes (j .minutes) ++ (u32Bytes (j .earlier) ++ u16Bytes (j .departure)))
+    labelLength j ∷ j .modules ∷ (bytesOf 2 (j .minutes) ++ (bytesOf 4 (j .earlier) ++ bytesOf 2 (j .departure)))
 
 -- the empty record that stands in the places past the last job
 abbrev pub noJob : Job
@@ -52,7 +44,7 @@ abbrev pub modulesOf : List ℕ → ℕ
 modulesOf s = u16At s (trailerAt s + 6)
 
 unfoldable pub trailerBytes : ℕ → ℕ → ℕ → List ℕ
-trailerBytes offset n N = u32Bytes offset ++ (u16Bytes n ++ u16Bytes N)
+trailerBytes offset n N = bytesOf 4 offset ++ (bytesOf 2 n ++ bytesOf 2 N)
 
 -- ---- a sheet: the labels one after another from offset 0, then n records, then the trailer
 

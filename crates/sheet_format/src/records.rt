@@ -14,6 +14,8 @@ use super::layout::RECORD_SIZE;
 use figures::MOST_JOBS;
 use words::read16;
 use words::read32;
+use words::write16;
+use words::write32;
 
 // What one pass over the records finds: the jobs, the sum of the label lengths, and whether check 5 fails.
 pub struct Records {
@@ -132,20 +134,11 @@ fn write_one(part: &mut [u8], job: Job)
     requires { ⌜ length (now part) ≡ recordSize ⌝ }
     ensures { λ _. ⌜ now (part .exit) ≡ recordBytes job ⌝ }
 {
-    let minutes = job.minutes;
-    let low = job.earlier % 65536;
-    let high = job.earlier / 65536;
-    let departure = job.departure;
     part[0] = job.label_len;
     part[1] = job.modules;
-    part[2] = (minutes % 256) as u8;
-    part[3] = (minutes / 256) as u8;
-    part[4] = (low % 256) as u8;
-    part[5] = (low / 256) as u8;
-    part[6] = (high % 256) as u8;
-    part[7] = (high / 256) as u8;
-    part[8] = (departure % 256) as u8;
-    part[9] = (departure / 256) as u8;
+    write16(part, 2, job.minutes);
+    write32(part, 4, job.earlier);
+    write16(part, 8, job.departure);
 }
 
 // The records of the first `count` jobs, one behind another.

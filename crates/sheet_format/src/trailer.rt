@@ -14,6 +14,8 @@ use figures::MOST_JOBS;
 use figures::MOST_MODULES;
 use words::read16;
 use words::read32;
+use words::write16;
+use words::write32;
 
 // The offset of the first record.
 pub fn offset(sheet: &[u8]) -> u32
@@ -64,14 +66,7 @@ pub fn write(part: &mut [u8], offset: u32, count: u16, modules: u16)
     requires { ⌜ length (now part) ≡ trailerSize ⌝ }
     ensures { λ _. ⌜ now (part .exit) ≡ trailerBytes offset count modules ⌝ }
 {
-    let low = offset % 65536;
-    let high = offset / 65536;
-    part[0] = (low % 256) as u8;
-    part[1] = (low / 256) as u8;
-    part[2] = (high % 256) as u8;
-    part[3] = (high / 256) as u8;
-    part[4] = (count % 256) as u8;
-    part[5] = (count / 256) as u8;
-    part[6] = (modules % 256) as u8;
-    part[7] = (modules / 256) as u8;
+    write32(part, 0, offset);
+    write16(part, 4, count);
+    write16(part, 6, modules);
 }

@@ -5,7 +5,7 @@ use Prim.Native.Nat.{ℕ, _+_, _*_}
 use native.Mathlib.Omega.{arith}
 use lib.ListN.{drop}
 use Rattle.card.specs.Card.{rowSize, trailerSize, cardSize, cardBytes}
-use Rattle.card.proofs.Parts.{three-parts}
+use Rattle.words.proofs.Parts.{three-parts}
 use borrow.Author.Needs.{needs}
 use Rattle.card.proofs.write_card.Statement.{statement}
 use Rattle.card.proofs.write_card.Tie as tie
@@ -71,7 +71,7 @@ returns c =
     let z = c .before .before .write-trailer in
     let size : rows + n + trailerSize ≡ cardSize n = omega arith in
     three-parts s (x .last .0) (y .last .0) (z .last .0) rows (rows + n) (rows + n + trailerSize)
-    (omega (arith, x .kept .0)) (omega (arith, y .kept .0)) (omega (arith, z .kept .0)) (omega arith) (omega arith)
+    (omega (arith, x .kept .0)) (omega (arith, y .kept .0)) (omega arith) (omega arith)
     ∙ ap₂ (λ (l : List ℕ) (e : ℕ). l ++ drop e s) (ap₂ _++_ (x .ensures) (ap₂ _++_ (y .ensures) (z .ensures))) size
 
 pub write-card-spec : {M : Type 1} → statement M

@@ -1,12 +1,10 @@
 -- `card::write_order` meets its contract.
-use mathlib.Core.Path.{_≡_, refl, sym, ap, _∙_}
-use mathlib.Core.List.{List, [], _∷_, _++_}
-use Prim.Native.Nat.{ℕ, _+_, _-_, _≤_, _<_}
+use mathlib.Core.Path.{_≡_, refl, ap, _∙_}
+use mathlib.Core.List.{List, _++_}
+use Prim.Native.Nat.{ℕ, _-_, _≤_, _<_}
 use native.Mathlib.Omega.{arith}
-use native.Mathlib.Numerals.{add-one}
 use lib.ListN.{length, getD, take, drop, set, length-set}
-use lib.Seq.{length-take-le, take-suc}
-use Rattle.card.proofs.Parts.{byte-more, whole}
+use Rattle.words.proofs.Parts.{copy-more, whole}
 use borrow.Author.Needs.{needs}
 use Rattle.card.proofs.write_order.Statement.{statement}
 use Rattle.card.proofs.write_order.Tie as tie
@@ -39,13 +37,9 @@ loop-again c =
     let s = args .part .now in
     let o = args .order .now in
     let k = loop .k in
-    let in-order : k < length o = omega arith in
-    let in-part : k < length s = omega arith in
-    let more : take k o ++ (getD o k 0 ∷ []) ≡ take (k + 1) o = sym (ap (λ (i : ℕ). take i o) (add-one k) ∙ take-suc o k 0 in-order) in (
+    let in-part : k < length s = omega arith in (
       omega arith,
-      ap (λ (l : List ℕ). set l k (getD o k 0)) (loop .inv .1)
-          ∙ byte-more s (take k o) (getD o k 0) k (length-take-le k o (omega arith)) in-part
-          ∙ ap (λ (l : List ℕ). l ++ drop (k + 1) s) more,
+      ap (λ (l : List ℕ). set l k (getD o k 0)) (loop .inv .1) ∙ copy-more o s k (omega arith) in-part,
       length-set (loop .part) k (getD o k 0) ∙ loop .inv .2,
     )
 

@@ -1,46 +1,20 @@
 -- `card::write_row` meets its contract.
-use native.Mathlib.Omega.{arith}
-use Rattle.card.specs.Card.{rowSize, rowEnd, rowModules, rowBytes}
-use Rattle.card.proofs.Joins.{three-numbers}
+use mathlib.Core.Path.{refl}
+use mathlib.Core.List.{[]}
+use Rattle.words.proofs.Writes.{three-numbers}
+use Rattle.card.specs.Card.{rowBytes}
 use borrow.Author.Needs.{needs}
 use Rattle.card.proofs.write_row.Statement.{statement}
 use Rattle.card.proofs.write_row.Tie as tie
 
-sub-write-number : tie.Need-sub-write-number
-sub-write-number c = search needs
+write16-requires : tie.Need-write16-requires
+write16-requires c κs = search needs
 
-part-write-number-start : tie.Need-part-write-number-start
-part-write-number-start c = search needs
+write16-requires-2 : tie.Need-write16-requires-2
+write16-requires-2 c κs = search needs
 
-part-write-number-end : tie.Need-part-write-number-end
-part-write-number-end c = search needs
-
-write-number-requires : tie.Need-write-number-requires
-write-number-requires c κs = search needs
-
-sub-write-number-2 : tie.Need-sub-write-number-2
-sub-write-number-2 c = search needs
-
-part-write-number-start-2 : tie.Need-part-write-number-start-2
-part-write-number-start-2 c = search needs
-
-part-write-number-end-2 : tie.Need-part-write-number-end-2
-part-write-number-end-2 c = search needs
-
-write-number-requires-2 : tie.Need-write-number-requires-2
-write-number-requires-2 c κs = search needs
-
-sub-write-number-3 : tie.Need-sub-write-number-3
-sub-write-number-3 c = search needs
-
-part-write-number-start-3 : tie.Need-part-write-number-start-3
-part-write-number-start-3 c = search needs
-
-part-write-number-end-3 : tie.Need-part-write-number-end-3
-part-write-number-end-3 c = search needs
-
-write-number-requires-3 : tie.Need-write-number-requires-3
-write-number-requires-3 c κs = search needs
+write64-requires : tie.Need-write64-requires
+write64-requires c κs = search needs
 
 same-length : tie.Need-same-length
 same-length c = search needs
@@ -48,32 +22,13 @@ same-length c = search needs
 returns : tie.Need-returns
 unfolding rowBytes
 returns c =
-    let at = c .before .before .before .before .before .before .before .before in
-    let start = at .before .before .before .before .before in
-    let pre = start .pre in
-    let a = start .args in
-    let x = at .before .before .write-number in
-    let y = c .before .before .before .before .before .before .write-number2 in
-    let z = c .before .before .write-number3 in
-    three-numbers (a .part .now) (x .last .0) (y .last .0) (z .last .0) _ _ _ (a .start) (a .end) (a .modules) rowEnd rowModules rowSize
-    (x .ensures) (y .ensures) (z .ensures) (omega (arith, x .kept .0)) (omega (arith, y .kept .0)) (omega (arith, z .kept .0))
-    (omega arith) (omega arith) pre
+    let third = c .before .before in
+    let second = third .before .before .before .before in
+    let first = second .before .before .before .before in
+    let start = first .before .before .before in
+    three-numbers (start .args .part .now) [] _ _ _ _ 0 2 2 8 (start .args .start) (start .args .end) (start .args .modules) refl (start .pre) refl
+    (first .write16 .ensures) (second .write162 .ensures) (third .write64 .ensures)
 
 pub write-row-spec : {M : Type 1} → statement M
 write-row-spec =
-    tie.close
-    (tie.spec
-    sub-write-number
-    part-write-number-start
-    part-write-number-end
-    write-number-requires
-    sub-write-number-2
-    part-write-number-start-2
-    part-write-number-end-2
-    write-number-requires-2
-    sub-write-number-3
-    part-write-number-start-3
-    part-write-number-end-3
-    write-number-requires-3
-    same-length
-    returns)
+    tie.close (tie.spec write16-requires write16-requires-2 write64-requires same-length returns)

@@ -9,7 +9,7 @@ use Rattle.counting.specs.Counting.{joined}
 use Rattle.counting.proofs.Joins.{joined-length, joined-more}
 use Rattle.card.specs.Card.{rowSize}
 use Rattle.card.specs.Rows.{slotRow}
-use Rattle.card.proofs.Parts.{part-more, whole}
+use Rattle.words.proofs.Parts.{part-more, whole}
 use Rattle.card.proofs.Joins.{row-length}
 use borrow.Author.Needs.{needs}
 use Rattle.card.proofs.write_rows.Statement.{statement}
@@ -80,7 +80,7 @@ loop-again c =
     let next : rowSize * j + rowSize ≡ rowSize * (j + 1) = omega arith in (
       omega arith,
       ap (λ (l : List ℕ). putMid (rowSize * j) (rowSize * j + rowSize - rowSize * j) l (w .last .0)) (loop .inv .1)
-          ∙ part-more s (joined j f) (w .last .0) (rowSize * j) (rowSize * j + rowSize) size (omega (arith, w .kept .0)) (omega arith)
+          ∙ part-more s (joined j f) (w .last .0) (rowSize * j) (rowSize * j + rowSize) size (omega arith)
           ∙ ap₂ (λ (x : List ℕ) (k : ℕ). (joined j f ++ x) ++ drop k s) (w .ensures) next
           ∙ ap (λ (l : List ℕ). l ++ drop (rowSize * (j + 1)) s) (joined-more j f),
       same-len-mid (rowSize * j) (rowSize * j + rowSize - rowSize * j) (loop .part) (w .last .0) (w .kept .0) ∙ loop .inv .2,

@@ -1,49 +1,29 @@
 -- `card::write_trailer` meets its contract.
-use native.Mathlib.Omega.{arith}
-use Rattle.card.specs.Card.{trailerSize, trailerEnd, trailerCount, orderAt, trailerBytes}
-use Rattle.card.proofs.Joins.{three-numbers}
+use mathlib.Core.Path.{refl}
+use mathlib.Core.List.{[]}
+use Rattle.words.proofs.Writes.{three-numbers}
+use Rattle.card.specs.Card.{orderAt, trailerBytes}
 use borrow.Author.Needs.{needs}
 use Rattle.card.proofs.write_trailer.Statement.{statement}
 use Rattle.card.proofs.write_trailer.Tie as tie
 
-sub-write-number : tie.Need-sub-write-number
-sub-write-number c = search needs
+mul-write32 : tie.Need-mul-write32
+mul-write32 c = search needs
 
-part-write-number-start : tie.Need-part-write-number-start
-part-write-number-start c = search needs
+cast-write32 : tie.Need-cast-write32
+cast-write32 c = search needs
 
-part-write-number-end : tie.Need-part-write-number-end
-part-write-number-end c = search needs
+write32-requires : tie.Need-write32-requires
+write32-requires c κs = search needs
 
-mul-write-number : tie.Need-mul-write-number
-mul-write-number c = search needs
+write16-requires : tie.Need-write16-requires
+write16-requires c κs = search needs
 
-write-number-requires : tie.Need-write-number-requires
-write-number-requires c κs = search needs
+cast-write16 : tie.Need-cast-write16
+cast-write16 c = search needs
 
-sub-write-number-2 : tie.Need-sub-write-number-2
-sub-write-number-2 c = search needs
-
-part-write-number-start-2 : tie.Need-part-write-number-start-2
-part-write-number-start-2 c = search needs
-
-part-write-number-end-2 : tie.Need-part-write-number-end-2
-part-write-number-end-2 c = search needs
-
-write-number-requires-2 : tie.Need-write-number-requires-2
-write-number-requires-2 c κs = search needs
-
-sub-write-number-3 : tie.Need-sub-write-number-3
-sub-write-number-3 c = search needs
-
-part-write-number-start-3 : tie.Need-part-write-number-start-3
-part-write-number-start-3 c = search needs
-
-part-write-number-end-3 : tie.Need-part-write-number-end-3
-part-write-number-end-3 c = search needs
-
-write-number-requires-3 : tie.Need-write-number-requires-3
-write-number-requires-3 c κs = search needs
+write16-requires-2 : tie.Need-write16-requires-2
+write16-requires-2 c κs = search needs
 
 same-length : tie.Need-same-length
 same-length c = search needs
@@ -51,33 +31,22 @@ same-length c = search needs
 returns : tie.Need-returns
 unfolding trailerBytes
 returns c =
-    let at = c .before .before .before .before .before .before .before .before in
-    let start = at .before .before .before .before .before in
-    let pre = start .pre in
-    let a = start .args in
-    let x = at .before .before .write-number in
-    let y = c .before .before .before .before .before .before .write-number2 in
-    let z = c .before .before .write-number3 in
-    three-numbers (a .part .now) (x .last .0) (y .last .0) (z .last .0) _ _ _ (orderAt (a .count)) (a .end) (a .count) trailerEnd trailerCount trailerSize
-    (x .ensures) (y .ensures) (z .ensures) (omega (arith, x .kept .0)) (omega (arith, y .kept .0)) (omega (arith, z .kept .0))
-    (omega arith) (omega arith) (pre .1)
+    let third = c .before .before in
+    let second = third .before .before .before .before in
+    let first = second .before .before .before .before in
+    let start = first .before .before .before in
+    three-numbers (start .args .part .now) [] _ _ _ _ 0 4 2 2 (orderAt (start .args .count)) (start .args .end) (start .args .count) refl (start .pre .1) refl
+    (first .write32 .ensures) (second .write16 .ensures) (third .write162 .ensures)
 
 pub write-trailer-spec : {M : Type 1} → statement M
 write-trailer-spec =
     tie.close
     (tie.spec
-    sub-write-number
-    part-write-number-start
-    part-write-number-end
-    mul-write-number
-    write-number-requires
-    sub-write-number-2
-    part-write-number-start-2
-    part-write-number-end-2
-    write-number-requires-2
-    sub-write-number-3
-    part-write-number-start-3
-    part-write-number-end-3
-    write-number-requires-3
+    mul-write32
+    cast-write32
+    write32-requires
+    write16-requires
+    cast-write16
+    write16-requires-2
     same-length
     returns)

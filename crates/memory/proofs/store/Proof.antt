@@ -1,6 +1,10 @@
 -- `memory::store` meets its contract.
-use mathlib.Core.Path.{_∙_}
+use mathlib.Core.Path.{ap, _∙_}
+use mathlib.Core.List.{List}
+use Prim.Native.Nat.{ℕ}
 use borrow.Author.Needs.{needs}
+use Rattle.words.specs.Words.{u32At}
+use Rattle.words.proofs.Writes.{written-here}
 use Rattle.tables.specs.Part.{partIn}
 use Rattle.memory.proofs.Slots.{stored}
 use Rattle.memory.proofs.store.Statement.{statement}
@@ -15,17 +19,17 @@ mul-from c = search needs
 add-to : tie.Need-add-to
 add-to c = search needs
 
-sub-write-set : tie.Need-sub-write-set
-sub-write-set c = search needs
+sub-write32 : tie.Need-sub-write32
+sub-write32 c = search needs
 
-part-write-set-start : tie.Need-part-write-set-start
-part-write-set-start c = search needs
+part-write32-start : tie.Need-part-write32-start
+part-write32-start c = search needs
 
-part-write-set-end : tie.Need-part-write-set-end
-part-write-set-end c = search needs
+part-write32-end : tie.Need-part-write32-end
+part-write32-end c = search needs
 
-write-set-requires : tie.Need-write-set-requires
-write-set-requires c κs = search needs
+write32-requires : tie.Need-write32-requires
+write32-requires c κs = search needs
 
 mul-at : tie.Need-mul-at
 mul-at c = search needs
@@ -55,13 +59,15 @@ returns : tie.Need-returns
 returns c =
     let write-figures = c .before .before .write-figures in
     let mid = c .before .before .before .before .before in
-    let write-set = mid .before .write-set in
+    let write32 = mid .before .write32 in
     let read = mid .before .before .before in
     let start = read .before .before in
     let a = start .args in
     let p = partIn (a .part .now) in
-    stored (a .group .now) (write-set .last .0) (write-figures .last .0) (a .way) (a .jobs) (p .ends) (p .unplaced) (p .last)
-    (start .pre .0) (start .pre .1) (mid .group .given .0) (c .before .group2 .given .0) (write-set .ensures ∙ read .unplaced .ensures)
+    stored (a .group .now) (write32 .last .0) (write-figures .last .0) (a .way) (a .jobs) (p .ends) (p .unplaced) (p .last)
+    (start .pre .0) (start .pre .1) (mid .group .given .0) (c .before .group2 .given .0)
+    (ap (λ (x : List ℕ). u32At x 0) (write32 .ensures)
+    ∙ written-here _ 0 4 _ (search needs) (search needs) ∙ read .unplaced .ensures)
     (write-figures .ensures)
 
 pub store-spec : {M : Type 1} → statement M
@@ -71,10 +77,10 @@ store-spec =
     unplaced-requires
     mul-from
     add-to
-    sub-write-set
-    part-write-set-start
-    part-write-set-end
-    write-set-requires
+    sub-write32
+    part-write32-start
+    part-write32-end
+    write32-requires
     mul-at
     add-at
     add-end

@@ -2,7 +2,7 @@
 use Prim.Native.Nat.{_-_}
 use borrow.Author.Needs.{needs}
 use Rattle.tables.specs.Part.{partIn}
-use Rattle.memory.proofs.Storing.{Storing, storing-step, storing-all}
+use Rattle.memory.proofs.Storing.{Storing, storing-first, storing-step, storing-all}
 use Rattle.memory.proofs.write_figures.Statement.{statement}
 use Rattle.memory.proofs.write_figures.Tie as tie
 
@@ -19,7 +19,10 @@ write16-requires : tie.Need-write16-requires Inv-loop μ-loop
 write16-requires c κs = search needs
 
 loop-holds : tie.Need-loop-holds Inv-loop μ-loop
-loop-holds c = search needs
+loop-holds c =
+    let wrote = c .before .before in
+    let start = wrote .before .before .before .before in
+    storing-first (start .args .figures .now) (start .pre .1) (start .pre .0) (wrote .before .last .ensures) (wrote .write16 .ensures) (search needs)
 
 mul-write16 : tie.Need-mul-write16 Inv-loop μ-loop
 mul-write16 c = search needs
@@ -43,7 +46,7 @@ loop-again : tie.Need-loop-again Inv-loop μ-loop
 loop-again c =
     let wrote = c .before .before in
     let tested = wrote .before .before .before in
-    storing-step (tested .before .loop .inv) (tested .loop-test .taken) (rw (wrote .before .end .ensures) at (wrote .write162 .ensures))
+    storing-step (tested .before .loop .inv) (tested .loop-test .taken) (wrote .before .end .ensures) (wrote .write162 .ensures) (search needs)
 
 same-length : tie.Need-same-length Inv-loop μ-loop
 same-length c = search needs

@@ -11,23 +11,23 @@ use Rattle.plan_text.proofs.plan_lines.Tie as tie
 read-requires : tie.Need-read-requires
 read-requires c κs = search needs
 
-add-number16 : tie.Need-add-number16
-add-number16 c = search needs
+add-read16 : tie.Need-add-read16
+add-read16 c = search needs
 
-mul-number16 : tie.Need-mul-number16
-mul-number16 c =
+mul-read16 : tie.Need-mul-read16
+mul-read16 c =
     record {
       fits = omega (arith, ap (λ (r : Reading). r .count) (c .read .ensures), few (c .before .before .before .args .sheet .now));
     }
 
-add-number16-2 : tie.Need-add-number16-2
-add-number16-2 c =
+add-read16-2 : tie.Need-add-read16-2
+add-read16-2 c =
     record {
       fits = omega (arith, ap (λ (r : Reading). r .count) (c .read .ensures), few (c .before .before .before .args .sheet .now));
     }
 
-number16-requires : tie.Need-number16-requires
-number16-requires c κs =
+read16-requires : tie.Need-read16-requires
+read16-requires c κs =
     let start = c .before .before .before in
     omega (arith, start .pre, ap (λ (r : Reading). r .count) (c .read .ensures), few (start .args .sheet .now))
 
@@ -48,17 +48,17 @@ returns : tie.Need-returns
 returns c =
     let line = c .before in
     let read = line .before .before in
-    rw (c .with-rows .ensures, line .plan-line .ensures, adding-more, line .before .number16 .ensures, read .read .ensures) refl
+    rw (c .with-rows .ensures, line .plan-line .ensures, adding-more, line .before .read16 .ensures, read .read .ensures) refl
 
 pub plan-lines-spec : {M : Type 1} → statement M
 plan-lines-spec =
     tie.close
     (tie.spec
     read-requires
-    add-number16
-    mul-number16
-    add-number16-2
-    number16-requires
+    add-read16
+    mul-read16
+    add-read16-2
+    read16-requires
     cast-plan-line
     plan-line-requires
     with-rows-requires

@@ -7,20 +7,20 @@ use Rattle.plan_text.proofs.with_row.Tie as tie
 mul-at : tie.Need-mul-at
 mul-at c = search needs
 
-number16-requires : tie.Need-number16-requires
-number16-requires c κs = search needs
+read16-requires : tie.Need-read16-requires
+read16-requires c κs = search needs
 
-add-number16 : tie.Need-add-number16
-add-number16 c = search needs
+add-read16 : tie.Need-add-read16
+add-read16 c = search needs
 
-number16-requires-2 : tie.Need-number16-requires-2
-number16-requires-2 c κs = search needs
+read16-requires-2 : tie.Need-read16-requires-2
+read16-requires-2 c κs = search needs
 
-add-number64 : tie.Need-add-number64
-add-number64 c = search needs
+add-read64 : tie.Need-add-read64
+add-read64 c = search needs
 
-number64-requires : tie.Need-number64-requires
-number64-requires c κs = search needs
+read64-requires : tie.Need-read64-requires
+read64-requires c κs = search needs
 
 label-requires : tie.Need-label-requires
 label-requires c κs = search needs
@@ -34,9 +34,9 @@ returns c =
     rw (
       c .with-line .ensures,
       label .label .ensures .0,
-      label .before .number64 .ensures,
-      label .before .before .number162 .ensures,
-      label .before .before .before .number16 .ensures,
+      label .before .read64 .ensures,
+      label .before .before .read162 .ensures,
+      label .before .before .before .read16 .ensures,
     )
     refl
 
@@ -45,11 +45,11 @@ with-row-spec =
     tie.close
     (tie.spec
     mul-at
-    number16-requires
-    add-number16
-    number16-requires-2
-    add-number64
-    number64-requires
+    read16-requires
+    add-read16
+    read16-requires-2
+    add-read64
+    read64-requires
     label-requires
     with-line-requires
     returns)

@@ -1,5 +1,6 @@
 -- `words::read16` meets its contract.
-use Rattle.words.specs.Words.{u16At}
+use native.Mathlib.Omega.{arith}
+use Rattle.words.proofs.Numbers.{two-bytes}
 use borrow.Author.Needs.{needs}
 use Rattle.words.proofs.read16.Statement.{statement}
 use Rattle.words.proofs.read16.Tie as tie
@@ -29,8 +30,9 @@ cast-result : tie.Need-cast-result
 cast-result c = search needs
 
 returns : tie.Need-returns
-unfolding u16At
-returns c = search needs
+returns c =
+    let a = c .before .before .before .before .before .args in
+    omega (arith, two-bytes (a .s .now) (a .at))
 
 pub read16-spec : {M : Type 1} → statement M
 read16-spec =

@@ -1,5 +1,6 @@
 -- `words::read32` meets its contract.
-use Rattle.words.specs.Words.{u32At}
+use native.Mathlib.Omega.{arith}
+use Rattle.words.proofs.Numbers.{four-bytes}
 use borrow.Author.Needs.{needs}
 use Rattle.words.proofs.read32.Statement.{statement}
 use Rattle.words.proofs.read32.Tie as tie
@@ -26,8 +27,9 @@ add-result : tie.Need-add-result
 add-result c = search needs
 
 returns : tie.Need-returns
-unfolding u32At
-returns c = search needs
+returns c =
+    let a = c .before .before .before .args in
+    omega (arith, four-bytes (a .s .now) (a .at))
 
 pub read32-spec : {M : Type 1} → statement M
 read32-spec =

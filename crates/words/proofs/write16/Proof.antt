@@ -1,7 +1,7 @@
 -- `words::write16` meets its contract.
 use native.Mathlib.Omega.{arith}
 use lib.ListN.{length-set}
-use Rattle.words.proofs.Writes.{wrote}
+use Rattle.words.proofs.Writes.{stored-two}
 use borrow.Author.Needs.{needs}
 use Rattle.words.proofs.write16.Statement.{statement}
 use Rattle.words.proofs.write16.Tie as tie
@@ -25,7 +25,7 @@ same-length : tie.Need-same-length
 same-length c = search needs
 
 returns : tie.Need-returns
-returns c = wrote (c .args .s .now) (c .args .at) (c .args .x) (c .pre)
+returns c = stored-two (c .args .s .now) (c .args .at) (c .args .x) (c .pre) (search needs)
 
 pub write16-spec : {M : Type 1} → statement M
 write16-spec =

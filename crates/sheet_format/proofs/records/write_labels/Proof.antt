@@ -6,7 +6,7 @@ use native.Mathlib.Omega.{arith}
 use lib.ListN.{drop-of-length-le, length, getD, take, drop, set, length-set}
 use lib.Seq.{take-all}
 use borrow.Author.Needs.{needs}
-use Rattle.sheet_format.proofs.Parts.{copy-more}
+use Rattle.words.proofs.Parts.{copy-more}
 use Rattle.sheet_format.proofs.records.write_labels.Statement.{statement}
 use Rattle.sheet_format.proofs.records.write_labels.Tie as tie
 

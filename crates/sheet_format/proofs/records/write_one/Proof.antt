@@ -1,9 +1,12 @@
--- `sheet_format::records::write_one` meets its contract: ten stores, of the ten bytes of a record.
+-- `sheet_format::records::write_one` meets its contract.
+use mathlib.Core.Path.{refl}
+use mathlib.Core.List.{[], _∷_}
 use native.Mathlib.Omega.{arith}
 use lib.ListN.{length-set}
-use borrow.Author.Needs.{needs}
+use lib.Seq.{sets-eq}
+use Rattle.words.proofs.Writes.{three-numbers}
 use Rattle.sheet_format.specs.Format.{recordBytes}
-use Rattle.sheet_format.proofs.Parts.{stored-whole}
+use borrow.Author.Needs.{needs}
 use Rattle.sheet_format.proofs.records.write_one.Statement.{statement}
 use Rattle.sheet_format.proofs.records.write_one.Tie as tie
 
@@ -13,60 +16,38 @@ slice-write-part c = search needs
 slice-write-part-2 : tie.Need-slice-write-part-2
 slice-write-part-2 c = search needs
 
-cast-part : tie.Need-cast-part
-cast-part c = search needs
+write16-requires : tie.Need-write16-requires
+write16-requires c κs = simp length-set (omega arith)
 
-slice-write-part-3 : tie.Need-slice-write-part-3
-slice-write-part-3 c = search needs
+write32-requires : tie.Need-write32-requires
+write32-requires c κs =
+    let first = c .before .before .before in
+    omega (arith, simp length-set at (first .write16 .kept .0))
 
-cast-part-2 : tie.Need-cast-part-2
-cast-part-2 c = search needs
-
-slice-write-part-4 : tie.Need-slice-write-part-4
-slice-write-part-4 c = search needs
-
-cast-part-3 : tie.Need-cast-part-3
-cast-part-3 c = search needs
-
-slice-write-part-5 : tie.Need-slice-write-part-5
-slice-write-part-5 c = simp length-set (omega arith)
-
-cast-part-4 : tie.Need-cast-part-4
-cast-part-4 c = search needs
-
-slice-write-part-6 : tie.Need-slice-write-part-6
-slice-write-part-6 c = simp length-set (omega arith)
-
-cast-part-5 : tie.Need-cast-part-5
-cast-part-5 c = search needs
-
-slice-write-part-7 : tie.Need-slice-write-part-7
-slice-write-part-7 c = simp length-set (omega arith)
-
-cast-part-6 : tie.Need-cast-part-6
-cast-part-6 c = search needs
-
-slice-write-part-8 : tie.Need-slice-write-part-8
-slice-write-part-8 c = simp length-set (omega arith)
-
-cast-part-7 : tie.Need-cast-part-7
-cast-part-7 c = search needs
-
-slice-write-part-9 : tie.Need-slice-write-part-9
-slice-write-part-9 c = simp length-set (omega arith)
-
-cast-part-8 : tie.Need-cast-part-8
-cast-part-8 c = search needs
-
-slice-write-part-10 : tie.Need-slice-write-part-10
-slice-write-part-10 c = simp length-set (omega arith)
+write16-requires-2 : tie.Need-write16-requires-2
+write16-requires-2 c κs =
+    let second = c .before .before .before in
+    let first = second .before .before .before .before in
+    omega (arith, second .write32 .kept .0, simp length-set at (first .write16 .kept .0))
 
 same-length : tie.Need-same-length
-same-length c = simp length-set
+same-length c =
+    let third = c .before .before in
+    let second = third .before .before .before .before in
+    let first = second .before .before .before .before in
+    omega (arith, third .write162 .kept .0, second .write32 .kept .0, simp length-set at (first .write16 .kept .0))
 
 returns : tie.Need-returns
 unfolding recordBytes
-returns c = stored-whole (recordBytes (c .before .before .args .job)) (c .before .before .args .part .now) (c .before .before .pre)
+returns c =
+    let third = c .before .before in
+    let second = third .before .before .before .before in
+    let first = second .before .before .before .before in
+    let start = first .before .before .before in
+    let j = start .args .job in
+    let front = j .«label_len» ∷ j .modules ∷ [] in
+    three-numbers (start .args .part .now) front _ _ _ _ 2 2 4 2 (j .minutes) (j .earlier) (j .departure) refl (start .pre)
+    (sets-eq front (start .args .part .now) 0 (omega arith)) (first .write16 .ensures) (second .write32 .ensures) (third .write162 .ensures)
 
 pub write-one-spec : {M : Type 1} → statement M
 write-one-spec =
@@ -74,21 +55,8 @@ write-one-spec =
     (tie.spec
     slice-write-part
     slice-write-part-2
-    cast-part
-    slice-write-part-3
-    cast-part-2
-    slice-write-part-4
-    cast-part-3
-    slice-write-part-5
-    cast-part-4
-    slice-write-part-6
-    cast-part-5
-    slice-write-part-7
-    cast-part-6
-    slice-write-part-8
-    cast-part-7
-    slice-write-part-9
-    cast-part-8
-    slice-write-part-10
+    write16-requires
+    write32-requires
+    write16-requires-2
     same-length
     returns)

@@ -1,86 +1,35 @@
--- `sheet_format::trailer::write` meets its contract: eight stores, of the eight bytes of a trailer.
-use native.Mathlib.Omega.{arith}
-use lib.ListN.{length-set}
-use borrow.Author.Needs.{needs}
+-- `sheet_format::trailer::write` meets its contract.
+use mathlib.Core.Path.{refl}
+use mathlib.Core.List.{[]}
+use Rattle.words.proofs.Writes.{three-numbers}
 use Rattle.sheet_format.specs.Format.{trailerBytes}
-use Rattle.sheet_format.proofs.Parts.{stored-whole}
+use borrow.Author.Needs.{needs}
 use Rattle.sheet_format.proofs.trailer.write.Statement.{statement}
 use Rattle.sheet_format.proofs.trailer.write.Tie as tie
 
-cast-part : tie.Need-cast-part
-cast-part c = search needs
+write32-requires : tie.Need-write32-requires
+write32-requires c κs = search needs
 
-slice-write-part : tie.Need-slice-write-part
-slice-write-part c = search needs
+write16-requires : tie.Need-write16-requires
+write16-requires c κs = search needs
 
-cast-part-2 : tie.Need-cast-part-2
-cast-part-2 c = search needs
-
-slice-write-part-2 : tie.Need-slice-write-part-2
-slice-write-part-2 c = search needs
-
-cast-part-3 : tie.Need-cast-part-3
-cast-part-3 c = search needs
-
-slice-write-part-3 : tie.Need-slice-write-part-3
-slice-write-part-3 c = search needs
-
-cast-part-4 : tie.Need-cast-part-4
-cast-part-4 c = search needs
-
-slice-write-part-4 : tie.Need-slice-write-part-4
-slice-write-part-4 c = search needs
-
-cast-part-5 : tie.Need-cast-part-5
-cast-part-5 c = search needs
-
-slice-write-part-5 : tie.Need-slice-write-part-5
-slice-write-part-5 c = simp length-set (omega arith)
-
-cast-part-6 : tie.Need-cast-part-6
-cast-part-6 c = search needs
-
-slice-write-part-6 : tie.Need-slice-write-part-6
-slice-write-part-6 c = simp length-set (omega arith)
-
-cast-part-7 : tie.Need-cast-part-7
-cast-part-7 c = search needs
-
-slice-write-part-7 : tie.Need-slice-write-part-7
-slice-write-part-7 c = simp length-set (omega arith)
-
-cast-part-8 : tie.Need-cast-part-8
-cast-part-8 c = search needs
-
-slice-write-part-8 : tie.Need-slice-write-part-8
-slice-write-part-8 c = simp length-set (omega arith)
+write16-requires-2 : tie.Need-write16-requires-2
+write16-requires-2 c κs = search needs
 
 same-length : tie.Need-same-length
 same-length c = search needs
 
 returns : tie.Need-returns
 unfolding trailerBytes
-returns c = stored-whole (trailerBytes (c .args .offset) (c .args .count) (c .args .modules)) (c .args .part .now) (c .pre)
+returns c =
+    let third = c .before .before in
+    let second = third .before .before .before .before in
+    let first = second .before .before .before .before in
+    let start = first .before .before .before in
+    let a = start .args in
+    three-numbers (a .part .now) [] _ _ _ _ 0 4 2 2 (a .offset) (a .count) (a .modules) refl (start .pre) refl
+    (first .write32 .ensures) (second .write16 .ensures) (third .write162 .ensures)
 
 pub write-spec : {M : Type 1} → statement M
 write-spec =
-    tie.close
-    (tie.spec
-    cast-part
-    slice-write-part
-    cast-part-2
-    slice-write-part-2
-    cast-part-3
-    slice-write-part-3
-    cast-part-4
-    slice-write-part-4
-    cast-part-5
-    slice-write-part-5
-    cast-part-6
-    slice-write-part-6
-    cast-part-7
-    slice-write-part-7
-    cast-part-8
-    slice-write-part-8
-    same-length
-    returns)
+    tie.close (tie.spec write32-requires write16-requires write16-requires-2 same-length returns)

@@ -1,8 +1,9 @@
--- `plan_text::number64` meets its contract.
-use Rattle.plan_text.proofs.Numbers.{eight-bytes}
+-- `words::read64` meets its contract.
+use native.Mathlib.Omega.{arith}
+use Rattle.words.proofs.Numbers.{eight-bytes}
 use borrow.Author.Needs.{needs}
-use Rattle.plan_text.proofs.number64.Statement.{statement}
-use Rattle.plan_text.proofs.number64.Tie as tie
+use Rattle.words.proofs.read64.Statement.{statement}
+use Rattle.words.proofs.read64.Tie as tie
 
 read32-requires : tie.Need-read32-requires
 read32-requires c κs = search needs
@@ -28,10 +29,10 @@ add-result c = search needs
 returns : tie.Need-returns
 returns c =
     let a = c .before .before .before .args in
-    rw (c .before .read32 .ensures, c .read322 .ensures) (eight-bytes (a .card .now) (a .at))
+    omega (arith, eight-bytes (a .s .now) (a .at))
 
-pub number64-spec : {M : Type 1} → statement M
-number64-spec =
+pub read64-spec : {M : Type 1} → statement M
+read64-spec =
     tie.close
     (tie.spec
     read32-requires
