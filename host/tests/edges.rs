@@ -1,6 +1,7 @@
 //! Every exported call with every argument at its edges, at the least, at the most and just past them: the answer and all lent
 //! memory are what a reading of the requirements says.
 use depot_host::guarded::{Against, Guarded};
+use depot_host::plain_search::{mislead, GROUP};
 use depot_host::raw_sheet::Sheet;
 use depot_host::{card_length, ffi, reference, Desk, Job, LONGEST_SHEET, MOST_JOBS};
 use std::ptr::null_mut;
@@ -121,18 +122,21 @@ fn edge_sheets() -> Vec<Vec<u8>> {
 
 #[test]
 fn planning() {
+    let zeros = [0; 4096];
     for sheet in edge_sheets() {
         let n = reference::reading::read(&sheet).map_or(0, |sheet| sheet.jobs.len());
         let whole = card_length(n);
         for room in [0, 7, 8, whole - 1, whole, whole + 1, card_length(MOST_JOBS)] {
             let expected = reference::planning::plan(&sheet, room);
-            for work_length in [0, 1, 45, 4096] {
-                let (lent, card, work) = (Lent::of(&sheet), Lent::painted(room), Lent::painted(work_length));
+            for work_length in [0, 1, GROUP - 1, GROUP, GROUP + 1, 4096] {
+                let mut planted = vec![0x5A; work_length];
+                mislead(&mut planted, n);
+                let (lent, card, work) = (Lent::of(&sheet), Lent::painted(room), Lent::of(&planted));
                 // SAFETY: three buffers of their own.
                 let answer = unsafe { ffi::depot_plan(lent.at(), lent.len(), card.at(), room, work.at(), work_length) };
                 assert_eq!(answer, refusal(&expected), "sheet {sheet:02x?}, room {room}");
                 assert!(card.has(expected.as_deref().unwrap_or(&[])), "sheet {sheet:02x?}, room {room}");
-                assert!(work.has(&vec![0; if answer == 0 { work_length } else { 0 }]), "sheet {sheet:02x?}");
+                assert!(work.has(if answer == 0 { &zeros[..work_length] } else { &planted }), "sheet {sheet:02x?}");
                 assert!(lent.has(&sheet));
             }
         }
