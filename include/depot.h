@@ -34,8 +34,8 @@ extern "C" {
 /* ---- the version ------------------------------------------------------------------------------------------------------------- */
 
 /* Of this header, and as a number: major * 1000000 + minor * 1000 + patch. Bytes of sheets and cards may differ between minors. */
-#define DEPOT_VERSION "0.1.0"
-#define DEPOT_VERSION_NUMBER 1000
+#define DEPOT_VERSION "0.2.0"
+#define DEPOT_VERSION_NUMBER 2000
 
 /*
  * The number of the library that is linked. Compare it with DEPOT_VERSION_NUMBER at the start, so that header and library belong
@@ -50,13 +50,13 @@ uint32_t depot_version(void);
  */
 enum depot_refusal {
     DEPOT_DONE = 0,
-    DEPOT_SHEET_LENGTH = 1,         /* the sheet has fewer than 8 or more than 448 bytes */
+    DEPOT_SHEET_LENGTH = 1,         /* the sheet has fewer than 8 or more than 528 bytes */
     DEPOT_TOO_MANY_JOBS = 2,        /* there are more than 20 jobs */
     DEPOT_CABINET_SIZE = 3,         /* the cabinet has no modules or more than 64 */
     DEPOT_RECORD_OFFSET = 4,        /* the record offset plus 10 for each job plus 8 is not the sheet's length */
     DEPOT_RECORD_FIELD = 5,         /* some record has a field outside its range, or a bit for an earlier job that there is not */
     DEPOT_LABEL_LENGTHS = 6,        /* the label lengths do not add up to the label bytes there are */
-    DEPOT_LABEL_BYTE = 7,           /* some label byte is below 33 or above 126 */
+    DEPOT_LABEL_BYTE = 7,           /* some label has a byte below 32 or above 126, or begins or ends with a space */
     DEPOT_OVER_WIDE = 8,            /* some job needs more modules than the cabinet has */
     DEPOT_CIRCULAR = 9,             /* some job would have to end before itself, directly or through others */
     DEPOT_BUFFER_TOO_SHORT = 10,    /* the lent buffer for the card, or for the written sheet, is too short */
@@ -74,10 +74,10 @@ enum depot_refusal {
 
 #define DEPOT_MOST_JOBS 20
 #define DEPOT_MOST_MODULES 64 /* of a cabinet */
-#define DEPOT_LONGEST_LABEL 12
+#define DEPOT_LONGEST_LABEL 16
 
 #define DEPOT_SHORTEST_SHEET 8
-#define DEPOT_LONGEST_SHEET 448
+#define DEPOT_LONGEST_SHEET 528
 /* the sheet of so many jobs with so many label bytes in all */
 #define DEPOT_SHEET_BYTES(jobs, label_bytes) ((size_t)10 * (jobs) + (label_bytes) + 8)
 
@@ -115,7 +115,7 @@ uint32_t depot_plan(const uint8_t *sheet, size_t sheet_len, uint8_t *card, size_
 
 /* A job, in the widths of its record. */
 struct depot_job {
-    uint8_t label_len;  /* 1 to 12 */
+    uint8_t label_len;  /* 1 to 16 */
     uint8_t modules;    /* that it needs, 1 to 255 */
     uint16_t minutes;   /* 1 to 1440 */
     uint32_t earlier;   /* bit i: job i must have ended first */
@@ -143,7 +143,7 @@ struct depot_reading depot_read(const uint8_t *sheet, size_t sheet_len);
 struct depot_label_place {
     uint32_t refusal; /* 0, or the refusal's number; then all else is 0 */
     size_t offset;    /* of the label's first byte in the sheet */
-    size_t length;    /* of the label, 1 to 12 */
+    size_t length;    /* of the label, 1 to 16 */
 };
 
 /*
@@ -166,7 +166,8 @@ struct depot_written {
  * Writes a job sheet. Reading it gives the same jobs, n and N.
  *
  * jobs     Read. The jobs in order.
- * labels   Read. The jobs' labels run together in the same order: as many bytes as the label lengths add up to.
+ * labels   Read. The jobs' labels run together in the same order: as many bytes as the label lengths add up to, each 32 to 126; a label
+ *          neither begins nor ends with a space.
  * modules  N, the modules in the cabinet.
  * sheet    Written. The sheet goes to its front, DEPOT_SHEET_BYTES(jobs_len, labels_len) bytes; the bytes behind it stay. A buffer of
  *          DEPOT_LONGEST_SHEET bytes is enough for every sheet.

@@ -29,9 +29,9 @@ static const uint8_t e1[] = {
 };
 
 static const char e1_lines[] = "plan 30 3 2\n"
-                               "A 0 10 -20 0000000000000001\n"
-                               "B 10 30 5 0000000000000003\n"
-                               "C 0 10 -20 0000000000000002\n";
+                               "0 10 -20 0000000000000001 A\n"
+                               "10 30 5 0000000000000003 B\n"
+                               "0 10 -20 0000000000000002 C\n";
 
 /* A number of so many bytes, little-endian. */
 static uint64_t number(const uint8_t *bytes, size_t count)
@@ -44,7 +44,7 @@ static uint64_t number(const uint8_t *bytes, size_t count)
     return value;
 }
 
-/* The lines of a planned sheet: end, n and N; then label, start, end, lateness and module set of each job. */
+/* The lines of a planned sheet: end, n and N; then start, end, lateness, module set and label of each job. */
 static void plan_lines(const uint8_t *sheet, size_t sheet_len, const uint8_t *card, char *text, size_t room)
 {
     struct depot_reading reading = depot_read(sheet, sheet_len);
@@ -58,8 +58,8 @@ static void plan_lines(const uint8_t *sheet, size_t sheet_len, const uint8_t *ca
         int start = (int)number(row, 2), end = (int)number(row + 2, 2);
         unsigned long long modules = number(row + 4, 8);
         check(label.refusal == DEPOT_DONE, "a job that was read has a label");
-        used += (size_t)snprintf(text + used, room - used, "%.*s %d %d %d %016llX\n", (int)label.length,
-                                 (const char *)sheet + label.offset, start, end, end - reading.jobs[job].departure, modules);
+        used += (size_t)snprintf(text + used, room - used, "%d %d %d %016llX %.*s\n", start, end, end - reading.jobs[job].departure,
+                                 modules, (int)label.length, (const char *)sheet + label.offset);
     }
 }
 

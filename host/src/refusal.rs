@@ -30,13 +30,13 @@ use Refusal::*;
 
 /// Every refusal in the order of the numbers, in plain words.
 const IN_WORDS: [(Refusal, &str); 18] = [
-    (SheetLength, "the sheet has fewer than 8 or more than 448 bytes"),
+    (SheetLength, "the sheet has fewer than 8 or more than 528 bytes"),
     (TooManyJobs, "there are more than 20 jobs"),
     (CabinetSize, "the cabinet has no modules or more than 64"),
     (RecordOffset, "the records do not lie where the trailer says"),
     (RecordField, "some record has a field outside its range, or waits for a job that there is not"),
     (LabelLengths, "the label lengths do not add up to the label bytes there are"),
-    (LabelByte, "some label byte is below 33 or above 126"),
+    (LabelByte, "some label has a byte below 32 or above 126, or begins or ends with a space"),
     (OverWide, "some job needs more modules than the cabinet has"),
     (Circular, "some job would have to end before itself"),
     (BufferTooShort, "the lent buffer is too short"),

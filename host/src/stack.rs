@@ -1,7 +1,7 @@
 //! How much stack the calls need.
 use crate::guarded::{Against, Guarded};
 use crate::raw_sheet::Sheet;
-use crate::{card_length, label, plan, read, version, write, Desk, Job, Refusal, LONGEST_SHEET, MOST_JOBS};
+use crate::{card_length, label, plan, read, version, write, Desk, Job, Refusal, LONGEST_LABEL, LONGEST_SHEET, MOST_JOBS};
 use std::ffi::{c_int, c_void};
 use std::ptr;
 
@@ -74,8 +74,8 @@ pub fn of_every_call() -> Vec<(&'static str, usize)> {
         let sheet = Sheet::of(2, jobs).bytes();
         done(|| plan(&sheet, &mut card, &mut work))
     });
-    let long = Job { label_len: 12, modules: 64, minutes: 1440, ..Job::default() };
-    let labels = [b'~'; 12 * MOST_JOBS];
+    let long = Job { label_len: LONGEST_LABEL as u8, modules: 64, minutes: 1440, ..Job::default() };
+    let labels = [b'~'; LONGEST_LABEL * MOST_JOBS];
     let mut sheet = [0; LONGEST_SHEET];
     let writing = done(|| write(&[long; MOST_JOBS], &labels, 64, &mut sheet));
     let mut desk = Desk::default();

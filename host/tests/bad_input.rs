@@ -3,7 +3,7 @@ mod command;
 
 use command::{depot, file};
 use depot_host::raw_sheet::Sheet;
-use depot_host::Job;
+use depot_host::{Job, LONGEST_SHEET};
 
 const HEAD: &str = "cabinet,16\nlabel,modules,minutes,after,departure\n";
 
@@ -60,10 +60,18 @@ fn times_of_day() {
 
 #[test]
 fn labels() {
-    row(",1,10,,30", "line 3, column 1 (label): found no label; allowed: 1 to 12 letters, digits or signs, without spaces");
-    row("ABCDEFGHIJKLM,1,10,,30", "line 3, column 1 (label): found 'ABCDEFGHIJKLM', 13 characters; allowed: 1 to 12 characters");
-    let plain = "plain letters, digits and signs (bytes 33 to 126), without spaces";
-    row("B 1,1,10,,30", &format!("line 3, column 1 (label): found 'B 1' with ' ' in it; allowed: {plain}"));
+    row(",1,10,,30", "line 3, column 1 (label): found no label; allowed: 1 to 16 letters, digits, signs or spaces");
+    let long = "ABCDEFGHIJKLMNOPQ";
+    row(
+        &format!("{long},1,10,,30"),
+        &format!("line 3, column 1 (label): found '{long}', 17 characters; allowed: 1 to 16 characters"),
+    );
+    let edges = "a label that neither begins nor ends with a space";
+    for label in [" B1", "B1 ", " "] {
+        row(&format!("\"{label}\",1,10,,30"), &format!("line 3, column 1 (label): found '{label}'; allowed: {edges}"));
+    }
+    let plain = "plain letters, digits, signs and spaces (bytes 32 to 126)";
+    row("B\t1,1,10,,30", &format!("line 3, column 1 (label): found 'B\\t1' with '\\t' in it; allowed: {plain}"));
     row("Bü1,1,10,,30", &format!("line 3, column 1 (label): found 'Bü1' with 'ü' in it; allowed: {plain}"));
     row("B\u{7f},1,10,,30", &format!("line 3, column 1 (label): found 'B\\u{{7f}}' with '\\u{{7f}}' in it; allowed: {plain}"));
 }
@@ -78,6 +86,10 @@ fn names_in_after() {
     let twice = format!("{HEAD}A,1,10,,30\nA,1,10,,30\nB,1,10,A,30\n");
     let fault = "line 5, column 4 (after): found 'A', the label of 2 jobs; allowed: one of them by its number: #0 or #1";
     assert_eq!(faults(twice.as_bytes()), [fault]);
+    let bare = format!("{HEAD}N 417 B,1,10,,30\nA,1,10,N 417 B,30\n");
+    let quotes = "\"N 417 B\": a label with a space in it stands in double quotes";
+    let fault = format!("line 4, column 4 (after): found 'N 417 B' without double quotes; allowed: {quotes}");
+    assert_eq!(faults(bare.as_bytes()), [fault]);
 }
 
 #[test]
@@ -174,9 +186,13 @@ fn over_wide_and_circular() {
 
 #[test]
 fn sheets_that_do_not_read() {
-    for (bytes, number) in
-        [(&b"1234567"[..], 1), (&[0; 449], 1), (&[0, 0, 0, 0, 21, 0, 1, 0], 2), (&[0; 8], 3), (&[1, 0, 0, 0, 0, 0, 1, 0], 4)]
-    {
+    for (bytes, number) in [
+        (&b"1234567"[..], 1),
+        (&[0; LONGEST_SHEET + 1], 1),
+        (&[0, 0, 0, 0, 21, 0, 1, 0], 2),
+        (&[0; 8], 3),
+        (&[1, 0, 0, 0, 0, 0, 1, 0], 4),
+    ] {
         for verb in ["plan", "list"] {
             let ran = depot(&[verb, "-"], bytes);
             assert_eq!((ran.status, ran.text().as_str()), (1, ""));

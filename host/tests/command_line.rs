@@ -118,7 +118,7 @@ fn plans_in_other_forms() {
 /// A sheet without jobs, the longest sheet and labels full of markup are drawn too.
 #[test]
 fn pictures_of_edges() {
-    let longest = format!("{}\n", "~~~~~~~~~~~~,64,1440,,2880\n".repeat(20));
+    let longest = format!("{}\n", "~~~~~~~~~~~~~~~~,64,1440,,2880\n".repeat(20));
     let header = "cabinet,64\nlabel,modules,minutes,after,departure\n";
     let markup = "\"<b>&\"\"'x'\",1,1,,0\n</title>,1,1,,0\n";
     for (name, rows) in [("none", ""), ("longest", longest.as_str()), ("markup", markup)] {
@@ -231,6 +231,31 @@ fn lists_as_people_write_them() {
     }
 }
 
+/// A fleet number with spaces, and how it is named in the column `after`: in double quotes, as a text or a spreadsheet has them.
+#[test]
+fn fleet_numbers() {
+    let sheet = |after: &str| {
+        let rows = format!("N 417 B,1,10,,30\nA301,1,10,,30\n\"# 9\",1,10,,30\nB7,2,20,{after},25\n");
+        let list = file("fleet.csv", format!("cabinet,4\nlabel,modules,minutes,after,departure\n{rows}").as_bytes());
+        let ran = depot(&["sheet", &list, "-o", "-"], b"");
+        assert_eq!((ran.status, ran.errors.as_str()), (0, ""), "{after}");
+        ran.output
+    };
+    assert!(sheet("").starts_with(b"N 417 BA301# 9B7"));
+    for after in ["\"N 417 B\"", "\"\"\"N 417 B\"\"\""] {
+        assert_eq!(sheet(after), sheet("#0"), "{after}");
+    }
+    for after in ["\"N 417 B\" A301", "A301 \"N 417 B\"", "\"\"\"N 417 B\"\" A301\"", "\"N 417 B\" #1", "\"A301 #0\""] {
+        assert_eq!(sheet(after), sheet("#0 #1"), "{after}");
+    }
+    let raw = depot(&["plan", "-", "--raw"], &sheet("\"N 417 B\" A301"));
+    assert_eq!(
+        raw.text(),
+        "plan 30 4 4\n0 10 -20 0000000000000001 N 417 B\n0 10 -20 0000000000000002 A301\n\
+         0 10 -20 0000000000000004 # 9\n10 30 5 0000000000000003 B7\n"
+    );
+}
+
 #[test]
 fn desk() {
     golden("desk.txt", &["desk", SCRIPT], 1);
@@ -262,5 +287,5 @@ fn output_that_nobody_reads_is_no_trouble() {
     let pipe = format!("'{}' explain | head -n 1", env!("CARGO_BIN_EXE_depot"));
     let ran = run(Path::new("/bin/sh"), &["-c", &pipe], b"");
     assert_eq!((ran.status, ran.errors.as_str()), (0, ""));
-    assert_eq!(ran.text(), " 1  the sheet has fewer than 8 or more than 448 bytes\n");
+    assert_eq!(ran.text(), " 1  the sheet has fewer than 8 or more than 528 bytes\n");
 }

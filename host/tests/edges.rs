@@ -3,7 +3,7 @@
 use depot_host::guarded::{Against, Guarded};
 use depot_host::plain_search::{mislead, GROUP};
 use depot_host::raw_sheet::Sheet;
-use depot_host::{card_length, ffi, reference, Desk, Job, LONGEST_SHEET, MOST_JOBS};
+use depot_host::{card_length, ffi, reference, Desk, Job, LONGEST_LABEL, LONGEST_SHEET, MOST_JOBS};
 use std::ptr::null_mut;
 
 /// Lent memory that ends at a page that may not be touched.
@@ -68,7 +68,7 @@ const PLAIN: Job = Job { label_len: 1, modules: 1, minutes: 1, earlier: 0, depar
 /// A job with each figure at each of its edges, in a list of n jobs.
 fn edge_jobs(n: u32) -> Vec<Job> {
     let mut jobs = vec![PLAIN];
-    jobs.extend(around(1, 12, 255).iter().map(|x| Job { label_len: *x as u8, ..PLAIN }));
+    jobs.extend(around(1, LONGEST_LABEL as u32, 255).iter().map(|x| Job { label_len: *x as u8, ..PLAIN }));
     jobs.extend(around(1, 64, 255).iter().map(|x| Job { modules: *x as u8, ..PLAIN }));
     jobs.extend(around(1, 1440, 65535).iter().map(|x| Job { minutes: *x as u16, ..PLAIN }));
     jobs.extend([1, 1 << (n - 1), 1 << n, 1 << 31, (1 << n) - 1, u32::MAX].map(|earlier| Job { earlier, ..PLAIN }));
@@ -90,7 +90,8 @@ fn parts(jobs: Vec<Job>, modules: u16) -> Sheet {
 }
 
 fn longest() -> Sheet {
-    let longest_labels = chain(MOST_JOBS, PLAIN).into_iter().map(|job| Job { label_len: 12, minutes: 1440, ..job });
+    let longest_labels =
+        chain(MOST_JOBS, PLAIN).into_iter().map(|job| Job { label_len: LONGEST_LABEL as u8, minutes: 1440, ..job });
     parts(longest_labels.collect(), 64)
 }
 
@@ -100,8 +101,17 @@ fn edge_sheets() -> Vec<Vec<u8>> {
     for n in [1, MOST_JOBS] {
         sheets.extend(edge_jobs(n as u32).iter().map(|job| parts(chain(n, *job), 64)));
     }
-    for byte in [0, 32, 33, 126, 127, 255] {
+    for byte in [0, 31, 32, 33, 126, 127, 255] {
         sheets.push(Sheet { labels: vec![byte], ..parts(vec![PLAIN], 1) });
+        for place in 0..3 {
+            let mut sheet = parts(vec![Job { label_len: 3, ..PLAIN }], 1);
+            sheet.labels[place] = byte;
+            sheets.push(sheet);
+        }
+    }
+    for lengths in [[1, 2], [2, 1]] {
+        let jobs = lengths.map(|label_len| Job { label_len, ..PLAIN });
+        sheets.push(Sheet { labels: b"A B".to_vec(), ..parts(jobs.to_vec(), 1) });
     }
     for count in [0, 1, 2, 20, 21, 65535] {
         sheets.push(Sheet { count, ..parts(vec![PLAIN], 1) });

@@ -193,6 +193,7 @@ fn numbers_agree() {
     }
     assert_eq!(depot_host::MOST_JOBS, macros["DEPOT_MOST_JOBS"]);
     assert_eq!(depot_host::LONGEST_SHEET, macros["DEPOT_LONGEST_SHEET"]);
+    assert_eq!(depot_host::LONGEST_LABEL, macros["DEPOT_LONGEST_LABEL"]);
 }
 
 /// One version: the header's two forms of it, the proved call's, and the package's.

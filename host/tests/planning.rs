@@ -24,8 +24,8 @@ fn planning_is_what_document_01_says() {
 #[test]
 fn bytes_of_no_sheet_are_refused() {
     let mut planning = Planning::new(SEED);
-    (0..=460).for_each(|length| planning.noisy(length));
-    assert_eq!(planning.compared, 461);
+    (0..=540).for_each(|length| planning.noisy(length));
+    assert_eq!(planning.compared, 541);
 }
 
 /// Planning whose end is that of a search that does not clear its working memory.

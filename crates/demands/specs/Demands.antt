@@ -16,10 +16,11 @@ use Rattle.counting.specs.Counting.{sum}
 use Rattle.checking.specs.Checking.{Check, FirstFails, NoneFails}
 use Rattle.words.specs.Words.{byteAt}
 use Rattle.sheet_format.specs.declared.Job.{Job}
+use Rattle.sheet_format.specs.Format.{labelIn}
 use Rattle.sheet.specs.Read.{readChecks, answered, reading}
 use Rattle.sheet.specs.Label.{labelChecks, labelOf, labelPlace}
 use Rattle.sheet.specs.Write.{writeChecks, writeAnswer, over, writeLeaves}
-use Rattle.sheet.specs.RoundTrip.{writtenSheet, labelIn, rewriteAnswer, rewriteLeaves}
+use Rattle.sheet.specs.RoundTrip.{writtenSheet, rewriteAnswer, rewriteLeaves}
 use Rattle.schedule.specs.Plan.{Plan, Valid, planEnd}
 use Rattle.schedule.specs.TieRule.{Best}
 use Rattle.card.specs.Card.{cardSize, cardOf}

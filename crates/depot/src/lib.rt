@@ -19,7 +19,7 @@ ghost use Rattle.depot.specs.Version.{version};
 // ---- the version
 
 // 0.1.0
-const VERSION: u32 = 1000;
+const VERSION: u32 = 2000;
 
 // The number of this library's version; the header has the same.
 #[no_mangle]

@@ -19,14 +19,14 @@ const TO_DO: [(&str, &str); 18] = [
     (READING, "The file was damaged, or is no job sheet. Make it again from the list."),
     (
         READING_AND_WRITING,
-        "Correct the job: label of 1 to 12 characters, modules 1 to 255, minutes 1 to 1440, departure 0 to 2880, and only jobs of the \
+        "Correct the job: label of 1 to 16 characters, modules 1 to 255, minutes 1 to 1440, departure 0 to 2880, and only jobs of the \
          same list in 'after'. 'depot sheet' names the line and the column.",
     ),
     (READING_AND_WRITING, "The file was damaged, or a program wrote wrong label lengths. Make it again from the list."),
-    (READING_AND_WRITING, "Write labels in plain letters, digits and signs, without spaces or accents."),
+    (READING_AND_WRITING, "Write labels in plain letters, digits and signs, without accents, and with spaces inside alone."),
     ("planning", "Give the job fewer modules, or plan it on a larger cabinet: as it stands it has no plan. 'depot plan' names the job."),
     ("planning", "Take one 'after' out of the circle: as it stands no job of it can start. 'depot plan' names a circle."),
-    ("planning, writing", "A fault of the calling program: lend 13 bytes for each job and 8 for a card, 448 for every sheet."),
+    ("planning, writing", "A fault of the calling program: lend 13 bytes for each job and 8 for a card, 528 for every sheet."),
     ("opening", "Give 2 to 8 controllers, each with a share and a ceiling."),
     ("opening", "Choose a limit of 1 to 4096 modules, ceilings within it, and for each controller a share within its ceiling."),
     ("opening", "Lower the shares until they add up to the limit or less: what is assured must fit on the feeder at once."),

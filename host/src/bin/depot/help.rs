@@ -27,11 +27,11 @@ A list is a text with a line for each job:
   B101,4,120,,05:30                       a job
   B102,2,90,B101 #3,510                   a job that waits for the job B101 and for job 3
 
-  label      1 to 12 letters, digits or signs without spaces; two jobs may bear one label
+  label      1 to 16 letters, digits, signs or spaces, neither first nor last a space; two jobs may bear one label
   modules    that the job needs, 1 to 255
   minutes    that it takes, 1 to 1440
   after      labels of jobs that must have ended first, or their numbers (#0 is the first job), with a space between them;
-             the column may be left out
+             a label with a space in it stands in double quotes: \"N 417 B\" B101; the column may be left out
   departure  a minute counted from the start, 0 to 2880; with a line 'start' also a time: 05:30 is the first from the start on,
              05:30+1 the one on the day after the start's
 
