@@ -230,16 +230,21 @@ uint32_t depot_desk_claim(struct depot_desk *desk, uint32_t controller, uint32_t
  */
 uint32_t depot_desk_hand_back(struct depot_desk *desk, uint32_t controller, uint32_t modules);
 
+/* What a look answers. */
+struct depot_looked {
+    uint32_t refusal; /* 0, or the refusal's number; then the figure is 0 */
+    uint32_t modules; /* the largest claim that would be granted now, 0 if none */
+};
+
 /*
- * Gives the largest claim by a controller that would be granted now, 0 if none.
+ * Gives the largest claim by a controller that would be granted now.
  *
  * desk        Read.
  * controller  The controller's number, from 0.
- * modules     Written. The figure; refused, it is as before. It does not overlap desk.
  *
- * Answers 0, or the refusal 14. Stack: DEPOT_CALL_STACK.
+ * Answers the figure, or the refusal 14. Stack: DEPOT_CALL_STACK.
  */
-uint32_t depot_desk_look(const struct depot_desk *desk, uint32_t controller, uint32_t *modules);
+struct depot_looked depot_desk_look(const struct depot_desk *desk, uint32_t controller);
 
 #ifdef __cplusplus
 }

@@ -118,9 +118,9 @@ static void read_and_write_e1(void)
 
 static uint32_t look(const struct depot_desk *desk, uint32_t controller)
 {
-    uint32_t modules = 0;
-    check(depot_desk_look(desk, controller, &modules) == DEPOT_DONE, "a look is answered");
-    return modules;
+    struct depot_looked looked = depot_desk_look(desk, controller);
+    check(looked.refusal == DEPOT_DONE, "a look is answered");
+    return looked.modules;
 }
 
 static void claim_and_hand_back(void)
@@ -142,6 +142,7 @@ static void claim_and_hand_back(void)
     check(depot_desk_hand_back(&desk, 0, 7) == DEPOT_DONE, "controller 0 hands 7 back");
     check(desk.held[0] == 0 && desk.held[1] == 3, "then it holds nothing");
     check(depot_desk_claim(&desk, 2, 1) == DEPOT_NO_SUCH_NUMBER, "there is no controller 2");
+    check(depot_desk_look(&desk, 2).modules == 0, "a refused look shows 0");
 
     before = desk;
     check(depot_desk_open(&desk, 10, too_much, 2, ceilings, 2) == DEPOT_SHARES_EXCEED_LIMIT, "E11's first desk does not open");

@@ -49,9 +49,8 @@ impl Desk {
 
     /// The largest claim by a controller that would be granted now, 0 if none.
     pub fn look(&self, controller: u32) -> Result<u32, Refusal> {
-        let mut modules = 0;
-        // SAFETY: a live desk, which is read, and a live number, which is written.
-        let answer = unsafe { ffi::depot_desk_look(self, controller, &mut modules) };
-        Refusal::or_done(answer).map(|()| modules)
+        // SAFETY: a live desk, which is read.
+        let looked = unsafe { ffi::depot_desk_look(self, controller) };
+        Refusal::or_done(looked.refusal).map(|()| looked.modules)
     }
 }

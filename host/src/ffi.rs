@@ -28,6 +28,14 @@ pub struct Written {
     pub length: usize,
 }
 
+/// What a look answers: refusal 0 with the largest claim that would be granted now, or the number of the refusal with 0.
+#[repr(C)]
+#[derive(Clone, Copy, Debug, PartialEq, Eq)]
+pub struct Looked {
+    pub refusal: u32,
+    pub modules: u32,
+}
+
 extern "C" {
     pub fn depot_version() -> u32;
 
@@ -60,5 +68,5 @@ extern "C" {
 
     pub fn depot_desk_hand_back(desk: *mut Desk, controller: u32, modules: u32) -> u32;
 
-    pub fn depot_desk_look(desk: *const Desk, controller: u32, modules: *mut u32) -> u32;
+    pub fn depot_desk_look(desk: *const Desk, controller: u32) -> Looked;
 }

@@ -300,14 +300,12 @@ fn claims_hand_backs_and_looks() {
                 }
             }
             let expected = reference::desk::look(&desk, controller);
-            for before in [0, u32::MAX] {
-                let shown = Lent::of(&before.to_le_bytes());
-                call_on(&desk, expected.map(|_| desk), |desk| {
-                    // SAFETY: a live desk, which is read, and a live number.
-                    unsafe { ffi::depot_desk_look(desk, controller, shown.at()) }
-                });
-                assert!(shown.has(&expected.unwrap_or(before).to_le_bytes()), "{desk:?}");
-            }
+            call_on(&desk, expected.map(|_| desk), |lent| {
+                // SAFETY: a live desk, which is read.
+                let looked = unsafe { ffi::depot_desk_look(lent, controller) };
+                assert_eq!(looked.modules, expected.unwrap_or(0), "{desk:?}");
+                looked.refusal
+            });
         }
     }
 }

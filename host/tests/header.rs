@@ -89,6 +89,7 @@ fn in_c(name: &str) -> String {
         "LabelPlace" => "struct depot_label_place",
         "Written" => "struct depot_written",
         "Desk" => "struct depot_desk",
+        "Looked" => "struct depot_looked",
         other => panic!("{other} has no type in C"),
     };
     name.to_string()
@@ -162,6 +163,7 @@ fn structs_agree() {
         ("LabelPlace", "crates/sheet/src/lib.rt", "host/src/ffi.rs"),
         ("Written", "crates/sheet/src/lib.rt", "host/src/ffi.rs"),
         ("Desk", "crates/desk/src/lib.rt", "host/src/desk.rs"),
+        ("Looked", "crates/lent/src/lib.rt", "host/src/ffi.rs"),
     ];
     let declared = c_structs();
     assert_eq!(declared.len(), files.len());

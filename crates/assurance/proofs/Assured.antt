@@ -12,10 +12,10 @@ use Rattle.desk.specs.declared.Desk.{Desk}
 use Rattle.desk.specs.Desk.{holding, assuredShare}
 use Rattle.desk.specs.Reachable.{Reachable}
 use Rattle.desk.specs.Calls.{Call, claim, handBack, refusalOf, deskAfter, deskAfterAll}
-use Rattle.assurance.specs.Following.{Event, begin, end, callOf, bears, ownCalls, FollowsPlan, AllGranted}
+use Rattle.assurance.specs.Following.{Event, begin, end, callOf, bears, ownCalls, FollowsPlan, Ready, AllGranted}
 use Rattle.assurance.proofs.Turns.{Left, first-of-left, begins-job, begins-new, after-begin, ends-job, ends-new, after-end}
 use Rattle.assurance.proofs.Course.{needed, Course, begin-fits, begin-needed, begin-course, end-begun, end-needed, end-course}
-use Rattle.assurance.proofs.Shares.{Ready, other-call, own-claim, own-hand-back}
+use Rattle.assurance.proofs.Shares.{other-call, own-claim, own-hand-back}
 
 module _ (S : Sheet) (P : Plan) (v : Valid S P) (w : Lasting S) (some : Needing S) (c : ℕ) where
   -- from the middle of the list on: jobs b have begun, jobs e have ended, and l are the events that are left

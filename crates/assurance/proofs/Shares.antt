@@ -8,20 +8,13 @@ use borrow.Author.Tests.{eq-eqb}
 use Rattle.counting.specs.Counting.{only}
 use Rattle.desk.specs.declared.Desk.{Desk}
 use Rattle.desk.specs.Desk.{holding, assuredShare}
-use Rattle.desk.specs.Reachable.{Reachable}
 use Rattle.desk.specs.Calls.{Call, claim, handBack, look, looked, refusalOf, deskAfter, granted}
 use Rattle.desk.proofs.Sound.{reserved-counted, here}
 use Rattle.desk.proofs.Claims.{claim-granted-when, hand-back-granted-when}
 use Rattle.desk.proofs.Reaches.{reached-sound}
 use Rattle.desk.proofs.Lists.{reachable-after}
 use Rattle.desk.proofs.Holdings.{claim-adds, hand-back-takes, only-zero, one-only}
-use Rattle.assurance.specs.Following.{bears}
-
--- a desk that can be, on which controller c is assured n or more and holds h
-pub record Ready (n c h : ℕ) (d : Desk) : Type 0 where
-  pub reachable : Reachable d
-  pub share : n ≤ assuredShare d c
-  pub holds : holding d c ≡ h
+use Rattle.assurance.specs.Following.{bears, Ready}
 
 -- a call leaves the shares
 after : {n c h : ℕ} {d : Desk} → Ready n c h d → (x : Call) (m : ℕ) → holding (deskAfter d x) c ≡ m → Ready n c m (deskAfter d x)

@@ -7,6 +7,8 @@ use lib.Dec.{ltb, eqb}
 use Rattle.counting.specs.Counting.{only}
 use Rattle.schedule.specs.Plan.{Sheet, Plan, finish}
 use Rattle.desk.specs.declared.Desk.{Desk}
+use Rattle.desk.specs.Desk.{holding, assuredShare}
+use Rattle.desk.specs.Reachable.{Reachable}
 use Rattle.desk.specs.Calls.{Call, claim, handBack, look, refusalOf, deskAfter}
 
 -- ---- the calls of a plan
@@ -72,6 +74,12 @@ pub record FollowsPlan (S : Sheet) (P : Plan) (c : ℕ) (calls : List Call) : Ty
   pub once : (e : Event) → times e events ≡ only (ltb (jobOf e) (S .jobs)) 1
   pub order : InOrder S P events
   pub own : ownCalls c calls ≡ map (callOf S c) events
+
+-- a desk that can be, on which controller c is assured n or more and holds h
+pub record Ready (n c h : ℕ) (d : Desk) : Type 0 where
+  pub reachable : Reachable d
+  pub share : n ≤ assuredShare d c
+  pub holds : holding d c ≡ h
 
 -- "each of the 2n is granted, which is to say not refused", each call taking the desk that the one before it handed back
 abbrev pub AllGranted : ℕ → Desk → List Call → Type 0

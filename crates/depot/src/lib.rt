@@ -1,6 +1,7 @@
 // What firmware links: the version, planning, job sheets, and the desk where firmware keeps it. Each is a call of a proved function; include/depot.h
 // declares them for C. The desk's calls copy the lent desk, make the call by value, and put the desk that it hands back in its place.
 use desk::Desk;
+use lent::Looked;
 use sheet::LabelPlace;
 use sheet::Reading;
 use sheet::Written;
@@ -12,8 +13,8 @@ ghost use Rattle.sheet_format.specs.Format.{jobsIn};
 ghost use Rattle.sheet.specs.Read.{reading};
 ghost use Rattle.sheet.specs.Label.{labelPlace};
 ghost use Rattle.sheet.specs.Write.{writeAnswer, writeLeaves};
-ghost use Rattle.desk.specs.Calls.{claimed, handedBack, looked};
-ghost use Rattle.lent.specs.Lent.{openedOver, shownOver};
+ghost use Rattle.desk.specs.Calls.{claimed, handedBack};
+ghost use Rattle.lent.specs.Lent.{openedOver, lookedAt};
 ghost use Rattle.depot.specs.Version.{version};
 
 // ---- the version
@@ -117,12 +118,10 @@ pub extern "C" fn depot_desk_hand_back(desk: &mut Desk, controller: u32, modules
     answer.refusal
 }
 
-// A look at the lent desk: the figure goes where `modules` lies. Refused, what lies there is as before.
+// A look at the lent desk, which stays as it is: the number and the figure.
 #[no_mangle]
-pub extern "C" fn depot_desk_look(desk: &Desk, controller: u32, modules: &mut u32) -> u32
-    ensures { λ r. ⌜ (r ≡ looked (now (desk .entry)) controller .refusal)
-        × (now (modules .exit) ≡ shownOver (now (modules .entry)) r (looked (now (desk .entry)) controller .modules)) ⌝ }
+pub extern "C" fn depot_desk_look(desk: &Desk, controller: u32) -> Looked
+    ensures { λ r. ⌜ r ≡ lookedAt (now (desk .entry)) controller ⌝ }
 {
-    let answer = (*desk).look(controller);
-    lent::show(answer.refusal, answer.modules, modules)
+    lent::look_at(*desk, controller)
 }

@@ -15,7 +15,7 @@ use Rattle.desk.specs.Desk.{holding, reserved, newDesk, withHolding}
 use Rattle.desk.specs.Reachable.{Reachable}
 use Rattle.desk.specs.Calls.{opened, claimRefusal, claimed, handBackRefusal, handedBack, looked}
 use Rattle.desk.specs.Calls.{Call, claim, handBack, look, deskAfter, deskAfterAll, granted, claims, handsBack}
-use Rattle.desk.specs.Calls.{grantedClaims, grantedHandBacks}
+use Rattle.desk.specs.Calls.{grantedClaims, grantedHandBacks, OnlyHoldings}
 use Rattle.desk.proofs.Sound.{none-reserved}
 use Rattle.desk.proofs.Grants.{claim-says, hand-back-says}
 use Rattle.desk.proofs.Keeps.{held-same, held-other}
@@ -83,13 +83,6 @@ calls-add-up d r c [] = refl
 calls-add-up d r c (x ∷ l) =
     let e = deskAfter d x in
     omega (arith, calls-add-up e (reachable-after r x) c l, one-adds-up d r c x)
-
--- nothing but holdings differs
-pub record OnlyHoldings (d e : Desk) : Type 0 where
-  pub count : d .count ≡ e .count
-  pub limit : d .limit ≡ e .limit
-  pub assured : d .assured ≡ e .assured
-  pub ceiling : d .ceiling ≡ e .ceiling
 
 booked-only : (t : Bool) (d : Desk) (b h : ℕ) → OnlyHoldings (cond t (withHolding d b h) d) d
 booked-only true d b h = record { count = refl; limit = refl; assured = refl; ceiling = refl }

@@ -116,3 +116,10 @@ grantedClaims c d (x ∷ l) = only (granted d x) (claims c x) + grantedClaims c 
 abbrev pub grantedHandBacks : ℕ → Desk → List Call → ℕ
 grantedHandBacks c d [] = 0
 grantedHandBacks c d (x ∷ l) = only (granted d x) (handsBack c x) + grantedHandBacks c (deskAfter d x) l
+
+-- the two desks differ in nothing but holdings
+pub record OnlyHoldings (d e : Desk) : Type 0 where
+  pub count : d .count ≡ e .count
+  pub limit : d .limit ≡ e .limit
+  pub assured : d .assured ≡ e .assured
+  pub ceiling : d .ceiling ≡ e .ceiling

@@ -116,15 +116,13 @@ impl Answers {
         self.same(2, answer, (&before, desk), expected, &|| format!("hand back {controller} {modules}"));
     }
 
-    fn look(&mut self, random: &mut Random, desk: &mut Desk, controller: u32) {
+    fn look(&mut self, desk: &mut Desk, controller: u32) {
         let before = *desk;
-        let shown_before = random.word() as u32;
-        let mut shown = shown_before;
-        // SAFETY: a live desk and a live number.
-        let answer = unsafe { ffi::depot_desk_look(desk, controller, &mut shown) };
+        // SAFETY: a live desk.
+        let looked = unsafe { ffi::depot_desk_look(desk, controller) };
         let expected = reference::look(&before, controller);
-        assert_eq!(shown, expected.unwrap_or(shown_before), "look {controller} on {before:?}");
-        self.same(3, answer, (&before, desk), expected.map(|_| before), &|| format!("look {controller}"));
+        assert_eq!(looked.modules, expected.unwrap_or(0), "look {controller} on {before:?}");
+        self.same(3, looked.refusal, (&before, desk), expected.map(|_| before), &|| format!("look {controller}"));
     }
 
     /// Opens a desk, changes its figures now and then, and makes calls on it.
@@ -142,7 +140,7 @@ impl Answers {
             match random.place(5) {
                 0 | 1 => self.claim(random, &mut desk, controller),
                 2 | 3 => self.hand_back(random, &mut desk, controller),
-                _ => self.look(random, &mut desk, controller),
+                _ => self.look(&mut desk, controller),
             }
         }
     }
