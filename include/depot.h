@@ -34,8 +34,8 @@ extern "C" {
 /* ---- the version ------------------------------------------------------------------------------------------------------------- */
 
 /* Of this header, and as a number: major * 1000000 + minor * 1000 + patch. Bytes of sheets and cards may differ between minors. */
-#define DEPOT_VERSION "0.2.0"
-#define DEPOT_VERSION_NUMBER 2000
+#define DEPOT_VERSION "0.3.0"
+#define DEPOT_VERSION_NUMBER 3000
 
 /*
  * The number of the library that is linked. Compare it with DEPOT_VERSION_NUMBER at the start, so that header and library belong
@@ -61,10 +61,10 @@ enum depot_refusal {
     DEPOT_CIRCULAR = 9,             /* some job would have to end before itself, directly or through others */
     DEPOT_BUFFER_TOO_SHORT = 10,    /* the lent buffer for the card, or for the written sheet, is too short */
     DEPOT_LIST_LENGTHS = 11,        /* shares and ceilings are not two lists of one length, 2 to 8 */
-    DEPOT_DESK_FIGURES = 12,        /* the limit is not 1 to 4096, a share exceeds its ceiling, or a ceiling exceeds the limit */
+    DEPOT_DESK_FIGURES = 12,        /* the limit is not 1 to 400,000, a share exceeds its ceiling, or a ceiling exceeds the limit */
     DEPOT_SHARES_EXCEED_LIMIT = 13, /* the assured shares add up to more than the limit */
     DEPOT_NO_SUCH_NUMBER = 14,      /* no job or controller has this number, or no opening and later calls can leave this desk */
-    DEPOT_FOR_NOTHING = 15,         /* the call is for 0 modules */
+    DEPOT_FOR_NOTHING = 15,         /* the call is for no power */
     DEPOT_PASSES_CEILING = 16,      /* the claim would pass the controller's ceiling */
     DEPOT_DOES_NOT_FIT = 17,        /* the claim does not fit beside what the others hold or have reserved */
     DEPOT_EXCEEDS_HOLDING = 18      /* the hand-back exceeds the holding */
@@ -87,7 +87,7 @@ enum depot_refusal {
 
 #define DEPOT_FEWEST_CONTROLLERS 2
 #define DEPOT_MOST_CONTROLLERS 8
-#define DEPOT_MOST_LIMIT 4096 /* of a feeder, in modules */
+#define DEPOT_MOST_POWER 400000 /* the largest limit of a feeder, in hundreds of watts: 40 MW */
 
 #define DEPOT_PLAN_STACK 40960
 #define DEPOT_CALL_STACK 2048
@@ -181,10 +181,11 @@ struct depot_written depot_write(const struct depot_job *jobs, size_t jobs_len, 
 /* ---- the share desk ---------------------------------------------------------------------------------------------------------- */
 
 /*
- * What 2 to 8 controllers hold on one feeder, in modules. The caller keeps it and hands each call the desk as the call before it
- * left it: what is promised of several calls is promised of such a sequence. Calls on one desk come one after another. The fields
- * are open to be read. Whoever writes them makes a desk that later calls may refuse with 14, as every call but opening refuses a
- * desk that no answered opening and later calls can leave.
+ * What 2 to 8 controllers hold on one feeder. Every figure of power is in hundreds of watts, so that modules of 30 and of 50 kW,
+ * 300 and 500, share a feeder. The caller keeps the desk and hands each call the desk as the call before it left it: what is promised
+ * of several calls is promised of such a sequence. Calls on one desk come one after another. The fields are open to be read. Whoever
+ * writes them makes a desk that later calls may refuse with 14, as every call but opening refuses a desk that no answered opening and
+ * later calls can leave.
  */
 struct depot_desk {
     uint32_t count;                           /* of controllers */
@@ -198,7 +199,7 @@ struct depot_desk {
  * Opens a desk, on which nobody holds anything.
  *
  * desk      Written. Its earlier contents do not matter; they stay where the call is refused.
- * limit     The feeder's limit, 1 to 4096.
+ * limit     The feeder's limit, 1 to 400,000 hundreds of watts.
  * assured   Read. What each controller is assured of, for 2 to 8 controllers.
  * ceilings  Read. What each controller may hold at most, for as many.
  *
@@ -208,32 +209,32 @@ uint32_t depot_desk_open(struct depot_desk *desk, uint32_t limit, const uint32_t
                          const uint32_t *ceilings, size_t ceilings_len);
 
 /*
- * Claims modules for a controller. It is granted where the controller's holding plus the claim is within its ceiling and, together
+ * Claims power for a controller. It is granted where the controller's holding plus the claim is within its ceiling and, together
  * with the larger of holding and assured share of every other controller, within the limit.
  *
  * desk        Updated. Refused, it is as before.
  * controller  The controller's number, from 0.
- * modules     How many, 1 or more.
+ * power       How much, 1 or more hundreds of watts. For a job of a plan: its modules times the size of a module.
  *
  * Answers 0, or a refusal: 14 to 17. Stack: DEPOT_CALL_STACK.
  */
-uint32_t depot_desk_claim(struct depot_desk *desk, uint32_t controller, uint32_t modules);
+uint32_t depot_desk_claim(struct depot_desk *desk, uint32_t controller, uint32_t power);
 
 /*
- * Hands modules of a controller back.
+ * Hands power of a controller back.
  *
  * desk        Updated. Refused, it is as before.
  * controller  The controller's number, from 0.
- * modules     How many, 1 or more.
+ * power       How much, 1 or more hundreds of watts.
  *
  * Answers 0, or a refusal: 14, 15, 18. Stack: DEPOT_CALL_STACK.
  */
-uint32_t depot_desk_hand_back(struct depot_desk *desk, uint32_t controller, uint32_t modules);
+uint32_t depot_desk_hand_back(struct depot_desk *desk, uint32_t controller, uint32_t power);
 
 /* What a look answers. */
 struct depot_looked {
     uint32_t refusal; /* 0, or the refusal's number; then the figure is 0 */
-    uint32_t modules; /* the largest claim that would be granted now, 0 if none */
+    uint32_t power;   /* the largest claim that would be granted now, 0 if none */
 };
 
 /*

@@ -1,7 +1,7 @@
 /*
  * A cabinet's controller in small: it reads and plans the job sheet of the example E1, prints the plan as the printing program
- * does, writes the sheet anew, and claims and hands back modules as in E9 and E10. It checks all that it gets and exits with 1
- * where something differs.
+ * does, writes the sheet anew, and claims and hands back power as in E9 and E10, with modules of 30 kW. It checks all that it gets
+ * and exits with 1 where something differs.
  */
 #include "depot.h"
 
@@ -120,32 +120,35 @@ static uint32_t look(const struct depot_desk *desk, uint32_t controller)
 {
     struct depot_looked looked = depot_desk_look(desk, controller);
     check(looked.refusal == DEPOT_DONE, "a look is answered");
-    return looked.modules;
+    return looked.power;
 }
 
 static void claim_and_hand_back(void)
 {
-    static const uint32_t assured[] = {4, 3}, ceilings[] = {10, 10}, too_much[] = {6, 5};
+    /* modules of 30 kW, in hundreds of watts: E9's desk of 10 modules */
+    enum { MODULE = 300 };
+    static const uint32_t assured[] = {4 * MODULE, 3 * MODULE}, ceilings[] = {10 * MODULE, 10 * MODULE};
+    static const uint32_t too_much[] = {6 * MODULE, 5 * MODULE};
     struct depot_desk desk, before;
     memset(&desk, 0, sizeof desk);
 
-    check(depot_desk_open(&desk, 10, assured, 2, ceilings, 2) == DEPOT_DONE, "E9's desk opens");
-    check(look(&desk, 0) == 7 && look(&desk, 1) == 6, "E9's looks give 7 and 6");
-    check(depot_desk_claim(&desk, 0, 7) == DEPOT_DONE, "controller 0 claims 7");
+    check(depot_desk_open(&desk, 10 * MODULE, assured, 2, ceilings, 2) == DEPOT_DONE, "E9's desk opens");
+    check(look(&desk, 0) == 7 * MODULE && look(&desk, 1) == 6 * MODULE, "E9's looks give 7 and 6 modules");
+    check(depot_desk_claim(&desk, 0, 7 * MODULE) == DEPOT_DONE, "controller 0 claims 7");
     before = desk;
-    check(depot_desk_claim(&desk, 0, 1) == DEPOT_DOES_NOT_FIT, "1 more does not fit");
+    check(depot_desk_claim(&desk, 0, 1 * MODULE) == DEPOT_DOES_NOT_FIT, "1 more does not fit");
     check(memcmp(&desk, &before, sizeof desk) == 0, "a refused claim leaves the desk as it was");
-    check(depot_desk_claim(&desk, 1, 3) == DEPOT_DONE, "controller 1 claims its share of 3");
-    check(depot_desk_claim(&desk, 1, 1) == DEPOT_DOES_NOT_FIT, "1 more does not fit");
+    check(depot_desk_claim(&desk, 1, 3 * MODULE) == DEPOT_DONE, "controller 1 claims its share of 3");
+    check(depot_desk_claim(&desk, 1, 1 * MODULE) == DEPOT_DOES_NOT_FIT, "1 more does not fit");
     check(desk.held[0] + desk.held[1] == desk.limit, "the feeder is full");
-    check(depot_desk_hand_back(&desk, 0, 8) == DEPOT_EXCEEDS_HOLDING, "controller 0 holds no 8");
-    check(depot_desk_hand_back(&desk, 0, 7) == DEPOT_DONE, "controller 0 hands 7 back");
-    check(desk.held[0] == 0 && desk.held[1] == 3, "then it holds nothing");
-    check(depot_desk_claim(&desk, 2, 1) == DEPOT_NO_SUCH_NUMBER, "there is no controller 2");
-    check(depot_desk_look(&desk, 2).modules == 0, "a refused look shows 0");
+    check(depot_desk_hand_back(&desk, 0, 8 * MODULE) == DEPOT_EXCEEDS_HOLDING, "controller 0 holds no 8");
+    check(depot_desk_hand_back(&desk, 0, 7 * MODULE) == DEPOT_DONE, "controller 0 hands 7 back");
+    check(desk.held[0] == 0 && desk.held[1] == 3 * MODULE, "then it holds nothing");
+    check(depot_desk_claim(&desk, 2, 1 * MODULE) == DEPOT_NO_SUCH_NUMBER, "there is no controller 2");
+    check(depot_desk_look(&desk, 2).power == 0, "a refused look shows 0");
 
     before = desk;
-    check(depot_desk_open(&desk, 10, too_much, 2, ceilings, 2) == DEPOT_SHARES_EXCEED_LIMIT, "E11's first desk does not open");
+    check(depot_desk_open(&desk, 10 * MODULE, too_much, 2, ceilings, 2) == DEPOT_SHARES_EXCEED_LIMIT, "E11's first desk does not open");
     check(memcmp(&desk, &before, sizeof desk) == 0, "a refused opening leaves the desk as it was");
 }
 

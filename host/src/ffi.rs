@@ -33,7 +33,7 @@ pub struct Written {
 #[derive(Clone, Copy, Debug, PartialEq, Eq)]
 pub struct Looked {
     pub refusal: u32,
-    pub modules: u32,
+    pub power: u32,
 }
 
 extern "C" {
@@ -64,9 +64,9 @@ extern "C" {
         ceilings_len: usize,
     ) -> u32;
 
-    pub fn depot_desk_claim(desk: *mut Desk, controller: u32, modules: u32) -> u32;
+    pub fn depot_desk_claim(desk: *mut Desk, controller: u32, power: u32) -> u32;
 
-    pub fn depot_desk_hand_back(desk: *mut Desk, controller: u32, modules: u32) -> u32;
+    pub fn depot_desk_hand_back(desk: *mut Desk, controller: u32, power: u32) -> u32;
 
     pub fn depot_desk_look(desk: *const Desk, controller: u32) -> Looked;
 }

@@ -22,7 +22,7 @@ pub mod stack;
 pub mod units;
 
 pub use card::{Card, Row};
-pub use desk::{Desk, MOST_CONTROLLERS};
+pub use desk::{Desk, MOST_CONTROLLERS, MOST_POWER};
 pub use refusal::Refusal;
 pub use sheet::{label, read, write, Job, Reading};
 

@@ -273,22 +273,25 @@ fn files() {
 #[test]
 fn desk_lines() {
     let lines = [
-        ("claim 0 1", "there is no desk yet; open one first, as 'open 10 yard=4/10 workshop=3/10'"),
-        ("open", "found 'open' alone; allowed: open LIMIT SHARE/CEILING .., as 'open 10 yard=4/10 workshop=3/10'"),
-        ("open x 1/2 1/2", "found 'x'; allowed: a whole number of modules as the limit"),
-        ("open 10 4-10 3/10", "found '4-10'; allowed: SHARE/CEILING or NAME=SHARE/CEILING, as 4/10 or yard=4/10"),
-        ("open 10 7=4/10 3/10", "found '7=4/10'; allowed: SHARE/CEILING or NAME=SHARE/CEILING, as 4/10 or yard=4/10"),
+        ("claim 0 1", "there is no desk yet; open one first, as 'open 500 yard=240/420 workshop=100/200'"),
+        ("open", "found 'open' alone; allowed: open LIMIT SHARE/CEILING .., as 'open 500 yard=240/420 workshop=100/200'"),
+        ("open x 1/2 1/2", "found 'x'; allowed: kW, as 30 or 12.5, or modules of a size, as 3x30"),
+        ("open 10 4-10 3/10", "found '4-10'; allowed: SHARE/CEILING or NAME=SHARE/CEILING, as 240/420 or yard=240/420"),
+        ("open 10 7=4/10 3/10", "found '7=4/10'; allowed: SHARE/CEILING or NAME=SHARE/CEILING, as 240/420 or yard=240/420"),
+        ("open 10 4/10.25 3/10", "found '10.25'; allowed: whole hundreds of watts, so 10.2 or 10.3 kW"),
         ("open 10 a=4/10 a=3/10", "found the name 'a' twice; allowed: a name for each controller"),
-        ("claim 0", "found 'claim 0'; allowed: claim CONTROLLER MODULES, as 'claim 0 4'"),
+        ("claim 0", "found 'claim 0'; allowed: claim CONTROLLER KW, as 'claim 0 12.5'"),
         ("claim yard 1", "found 'yard'; allowed: a controller's number"),
-        ("claim 0 -1", "found '-1'; allowed: a whole number of modules"),
+        ("claim 0 -1", "found '-1'; allowed: kW, as 30 or 12.5, or modules of a size, as 3x30"),
+        ("claim 0 0.05", "found '0.05'; allowed: whole hundreds of watts, so 0 or 0.1 kW"),
+        ("back 0 429496729.6", "found '429496729.6'; allowed: kW, up to 40000"),
         ("look 0 1", "found 'look 0 1'; allowed: look, or look CONTROLLER"),
         ("explain 19", "found '19'; allowed: refusals 1 to 18"),
         ("grab 1 1", "found 'grab 1 1'; allowed: open, claim, back, look, show, explain, help, quit"),
     ];
     let script = file("wrong.desk", lines.map(|(line, _)| line).join("\n").as_bytes());
     let ran = depot(&["desk", &script], b"");
-    assert_eq!((ran.status, ran.errors.as_str()), (2, "depot: 12 lines are no command\n"));
+    assert_eq!((ran.status, ran.errors.as_str()), (2, "depot: 15 lines are no command\n"));
     let said: Vec<String> = ran.text().lines().filter(|line| !line.starts_with('>')).map(String::from).collect();
     let expected = lines.iter().enumerate().map(|(place, (_, why))| format!("{script}, line {}: {why}", place + 1));
     assert_eq!(said, expected.collect::<Vec<_>>());

@@ -265,15 +265,15 @@ fn desk() {
     let shown = depot(&["desk", SCRIPT], b"").text();
     let answers: Vec<&str> = shown.lines().filter(|line| !line.starts_with('>')).collect();
     assert_eq!(typed.text().lines().collect::<Vec<_>>(), answers);
-    let calm = depot(&["desk"], b"open 10 4/10 3/10\nclaim 0 7\nback 0 7\nquit\nclaim 0 99\n");
-    assert_eq!((calm.status, calm.text().lines().last()), (0, Some("done: hands back 7; controller 0 now holds 0")));
+    let calm = depot(&["desk"], b"open 10 4/10 3/10\nclaim 0 6.5\nback 0 6.5\nquit\nclaim 0 99\n");
+    assert_eq!((calm.status, calm.text().lines().last()), (0, Some("done: hands back 6.5 kW; controller 0 now holds 0")));
 }
 
 /// Each refusal of the desk, with its sums.
 #[test]
 fn desk_refusals() {
-    let script = b"open 10 4/10\nopen 10 5/4 3/12\nopen 0 0/0 0/0\nopen 10 6/10 5/10\nopen 10 4/8 3/10\nclaim 2 1\nlook 7\nclaim 0 0\n\
-                   claim 0 9\nclaim 0 4294967295\nclaim 0 8\nclaim 1 3\nclaim 0 5\nclaim 1 6\nback 0 6\nback 0 0\nback 9 1\nclaim 1 7\n";
+    let script = b"open 10 4/10\nopen 10 5/4 3/12\nopen 0 0/0 0/0\nopen 40000.1 0/0 0/0\nopen 10 6/10 5/10\nopen 10 4/8 3/10\nclaim 2 1\nlook 7\nclaim 0 0\n\
+                   claim 0 8.1\nclaim 0 429496729.5\nclaim 0 8\nclaim 1 3\nclaim 0 5\nclaim 1 6\nback 0 6\nback 0 0\nback 9 1\nclaim 1 7\n";
     let ran = depot(&["desk"], script);
     assert_eq!((ran.status, ran.errors.as_str()), (1, ""));
     same("host/tests/golden/desk-refusals.txt", &ran.output);

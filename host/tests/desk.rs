@@ -5,7 +5,7 @@ use depot_host::reference::desk as reference;
 use depot_host::Desk;
 use std::collections::HashSet;
 
-const SEED: u64 = 4096;
+const SEED: u64 = 400_000;
 const DESKS: usize = 60_000;
 
 #[test]
@@ -20,6 +20,7 @@ fn calls_answer_what_document_01_says() {
         assert_eq!(times.iter().sum::<usize>(), answers.by[kind].iter().sum());
     }
     assert!(answers.calls() >= 1_000_000, "{} calls", answers.calls());
+    assert!(answers.scaled >= 50_000, "{} desks of larger modules", answers.scaled);
 }
 
 /// Every desk that claims and hand-backs leave, from opening on, found by trying them all.
@@ -28,11 +29,11 @@ fn left_by_calls(opened: Desk) -> HashSet<[u32; 8]> {
     let mut next = vec![opened];
     while let Some(desk) = next.pop() {
         for controller in 0..desk.count {
-            for modules in 1..=desk.limit {
+            for power in 1..=desk.limit {
                 let calls = [Desk::claim, Desk::hand_back];
                 for call in calls {
                     let mut after = desk;
-                    if call(&mut after, controller, modules).is_ok() && left.insert(after.held) {
+                    if call(&mut after, controller, power).is_ok() && left.insert(after.held) {
                         next.push(after);
                     }
                 }

@@ -3,7 +3,7 @@
 use depot_host::guarded::{Against, Guarded};
 use depot_host::plain_search::{mislead, GROUP};
 use depot_host::raw_sheet::Sheet;
-use depot_host::{card_length, ffi, reference, Desk, Job, LONGEST_LABEL, LONGEST_SHEET, MOST_JOBS};
+use depot_host::{card_length, ffi, reference, Desk, Job, LONGEST_LABEL, LONGEST_SHEET, MOST_JOBS, MOST_POWER};
 use std::ptr::null_mut;
 
 /// Lent memory that ends at a page that may not be touched.
@@ -241,7 +241,7 @@ fn call_on(desk: &Desk, expected: Result<Desk, u32>, call: impl Fn(*mut Desk) ->
 #[test]
 fn openings() {
     let kept = Desk { count: 3, limit: u32::MAX, held: [7; 8], ..Desk::default() };
-    for limit in around(1, 4096, u32::MAX) {
+    for limit in around(1, MOST_POWER, u32::MAX) {
         for (shares, tops) in (0..=9).flat_map(|shares| (0..=9).map(move |tops| (shares, tops))) {
             for share in [0, 1, limit / shares.max(1) as u32, limit, u32::MAX] {
                 for top in [0, 1, limit.saturating_sub(1), limit, limit.saturating_add(1), u32::MAX] {
@@ -260,7 +260,7 @@ fn openings() {
 fn edge_desks() -> Vec<Desk> {
     let mut desks = vec![Desk::default()];
     for count in [2, 8] {
-        for limit in [1, 8, 4096] {
+        for limit in [1, 8, MOST_POWER] {
             for share in [0, 1, limit / count] {
                 let shares = vec![share; count as usize];
                 if let Ok(desk) = reference::desk::open(limit, &shares, &vec![limit; count as usize]) {
@@ -287,15 +287,15 @@ fn claims_hand_backs_and_looks() {
         for controller in [0, 1, desk.count.saturating_sub(1), desk.count, 7, 8, u32::MAX] {
             let room = reference::desk::look(&desk, controller).unwrap_or(1);
             let held = *desk.held.get(controller as usize).unwrap_or(&1);
-            for bound in [0, 1, room, held, 4096, u32::MAX] {
-                for modules in [bound.saturating_sub(1), bound, bound.saturating_add(1)] {
-                    call_on(&desk, reference::desk::claim(&desk, controller, modules), |desk| {
+            for bound in [0, 1, room, held, MOST_POWER, u32::MAX - held, u32::MAX - room, u32::MAX] {
+                for power in [bound.saturating_sub(1), bound, bound.saturating_add(1)] {
+                    call_on(&desk, reference::desk::claim(&desk, controller, power), |desk| {
                         // SAFETY: a live desk.
-                        unsafe { ffi::depot_desk_claim(desk, controller, modules) }
+                        unsafe { ffi::depot_desk_claim(desk, controller, power) }
                     });
-                    call_on(&desk, reference::desk::hand_back(&desk, controller, modules), |desk| {
+                    call_on(&desk, reference::desk::hand_back(&desk, controller, power), |desk| {
                         // SAFETY: a live desk.
-                        unsafe { ffi::depot_desk_hand_back(desk, controller, modules) }
+                        unsafe { ffi::depot_desk_hand_back(desk, controller, power) }
                     });
                 }
             }
@@ -303,7 +303,7 @@ fn claims_hand_backs_and_looks() {
             call_on(&desk, expected.map(|_| desk), |lent| {
                 // SAFETY: a live desk, which is read.
                 let looked = unsafe { ffi::depot_desk_look(lent, controller) };
-                assert_eq!(looked.modules, expected.unwrap_or(0), "{desk:?}");
+                assert_eq!(looked.power, expected.unwrap_or(0), "{desk:?}");
                 looked.refusal
             });
         }

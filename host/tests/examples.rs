@@ -58,6 +58,19 @@ fn e9_to_e11() {
     assert!(Desk::open(10, &[5, 5], &[10, 10]).is_ok());
 }
 
+/// E9 and E10 with modules of 30 kW: every figure times 300.
+#[test]
+fn e9_and_e10_in_hundreds_of_watts() {
+    let mut desk = Desk::open(3_000, &[1_200, 900], &[3_000, 3_000]).unwrap();
+    assert_eq!((desk.look(0), desk.look(1)), (Ok(2_100), Ok(1_800)));
+    assert_eq!(desk.claim(0, 2_100), Ok(()));
+    assert_eq!(desk.claim(0, 300), Err(Refusal::DoesNotFit));
+    assert_eq!(desk.claim(1, 900), Ok(()));
+    assert_eq!(desk.claim(1, 300), Err(Refusal::DoesNotFit));
+    assert_eq!(desk.hand_back(0, 2_400), Err(Refusal::ExceedsHolding));
+    assert_eq!(desk.hand_back(0, 2_100), Ok(()));
+}
+
 #[test]
 fn edges() {
     assert_eq!(planned(1, vec![job(1, 1440, 0)]), Ok((1440, vec![0])));

@@ -189,13 +189,14 @@ fn numbers_agree() {
         ("DEPOT_LONGEST_CARD", depot_host::card_length(depot_host::MOST_JOBS)),
         ("DEPOT_FEWEST_CONTROLLERS", constant(&desk, "FEWEST_CONTROLLERS")),
         ("DEPOT_MOST_CONTROLLERS", constant(&desk, "MOST_CONTROLLERS")),
-        ("DEPOT_MOST_LIMIT", constant(&desk, "MOST_MODULES")),
+        ("DEPOT_MOST_POWER", constant(&desk, "MOST_POWER")),
     ] {
         assert_eq!(macros[name], number, "{name}");
     }
     assert_eq!(depot_host::MOST_JOBS, macros["DEPOT_MOST_JOBS"]);
     assert_eq!(depot_host::LONGEST_SHEET, macros["DEPOT_LONGEST_SHEET"]);
     assert_eq!(depot_host::LONGEST_LABEL, macros["DEPOT_LONGEST_LABEL"]);
+    assert_eq!(depot_host::MOST_POWER as usize, macros["DEPOT_MOST_POWER"]);
 }
 
 /// One version: the header's two forms of it, the proved call's, and the package's.

@@ -1,4 +1,5 @@
--- An instance: on E9's desk controller 1 follows E1's plan, while controller 0 takes all it can get and others' calls are refused.
+-- An instance: modules of 30 kW, E9's desk in hundreds of watts. Controller 1 follows E1's plan, while controller 0 takes all it can get and
+-- others' calls are refused.
 use mathlib.Core.Path.{_≡_, refl}
 use mathlib.Core.Bool.{false}
 use mathlib.Core.List.{List, [], _∷_}
@@ -55,16 +56,16 @@ yard-valid = list-plan-valid yardSheet yard-narrow (0 ∷ 2 ∷ 1 ∷ []) yard-o
 -- ---- E9's desk, and the calls
 
 abbrev yardDesk : Desk
-yardDesk = newDesk 10 (4 ∷ 3 ∷ []) (10 ∷ 10 ∷ [])
+yardDesk = newDesk 3000 (1200 ∷ 900 ∷ []) (3000 ∷ 3000 ∷ [])
 
 yard-opened : Reachable yardDesk
 unfolding sum any firstFailing wrongLengths wrongFigures sharesExceed
-yard-opened = opening 10 (4 ∷ 3 ∷ []) (10 ∷ 10 ∷ []) refl
+yard-opened = opening 3000 (1200 ∷ 900 ∷ []) (3000 ∷ 3000 ∷ []) refl
 
 abbrev yardCalls : List Call
 yardCalls =
-    claim 0 7 ∷ claim 0 1 ∷ claim 1 1 ∷ look 1 ∷ claim 1 1 ∷ handBack 0 8 ∷ claim 9 5
-    ∷ handBack 1 1 ∷ claim 0 1 ∷ handBack 1 1 ∷ claim 1 2 ∷ claim 0 0 ∷ handBack 1 2 ∷ []
+    claim 0 2100 ∷ claim 0 1 ∷ claim 1 300 ∷ look 1 ∷ claim 1 300 ∷ handBack 0 2101 ∷ claim 9 1500
+    ∷ handBack 1 300 ∷ claim 0 300 ∷ handBack 1 300 ∷ claim 1 600 ∷ claim 0 0 ∷ handBack 1 600 ∷ []
 
 abbrev yardEvents : List Event
 yardEvents = begin 0 ∷ begin 2 ∷ end 0 ∷ end 2 ∷ begin 1 ∷ end 1 ∷ []
@@ -86,7 +87,7 @@ yard-in-order = (
   ),
 )
 
-yard-follows : FollowsPlan yardSheet yardPlan 1 yardCalls
+yard-follows : FollowsPlan yardSheet yardPlan 300 1 yardCalls
 unfolding eachOnce every
 yard-follows = record { events = yardEvents; once = once-says 3 yardEvents refl; order = yard-in-order; own = refl }
 
@@ -94,8 +95,8 @@ yard-follows = record { events = yardEvents; once = once-says 3 yardEvents refl;
 
 pub yard-granted : AllGranted 1 yardDesk yardCalls
 yard-granted =
-    plan-granted yardSheet yardPlan yard-valid yard-lasting yard-needing yardDesk yard-opened 1 refl (omega arith)
-    yardCalls yard-follows
+    plan-granted yardSheet yardPlan yard-valid yard-lasting yard-needing 300 (omega arith) yardDesk yard-opened 1 refl
+    (omega arith) yardCalls yard-follows
 
 -- what each call gives
 abbrev numbers : Desk → List Call → List ℕ

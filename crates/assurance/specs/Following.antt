@@ -2,7 +2,7 @@
 use mathlib.Core.Path.{_≡_}
 use mathlib.Core.Bool.{Bool, true, false, cond}
 use mathlib.Core.List.{List, [], _∷_, map}
-use Prim.Native.Nat.{ℕ, _+_, _≤_}
+use Prim.Native.Nat.{ℕ, _+_, _*_, _≤_}
 use lib.Dec.{ltb, eqb}
 use Rattle.counting.specs.Counting.{only}
 use Rattle.schedule.specs.Plan.{Sheet, Plan, finish}
@@ -29,10 +29,15 @@ abbrev pub minute : Sheet → Plan → Event → ℕ
 minute S P (begin j) = P .start j
 minute S P (end j) = finish S P j + S .rest
 
--- "hands back each job's modules at that job's end minute and claims each job's modules at its start minute"
-abbrev pub callOf : Sheet → ℕ → Event → Call
-callOf S c (begin j) = claim c (S .need j)
-callOf S c (end j) = handBack c (S .need j)
+-- "hands back each job's modules at that job's end minute and claims each job's modules at its start minute"; with modules of size s,
+-- in hundreds of watts, it "claims and hands back modules times s per job" (F-6)
+abbrev pub callOf : Sheet → ℕ → ℕ → Event → Call
+callOf S s c (begin j) = claim c (S .need j * s)
+callOf S s c (end j) = handBack c (S .need j * s)
+
+-- "the assured share it needs is N times s" (F-6)
+abbrev pub planNeed : Sheet → ℕ → ℕ
+planNeed S s = S .modules * s
 
 -- how many times the event stands in the list
 abbrev pub sameEvent : Event → Event → Bool
@@ -69,11 +74,11 @@ ownCalls c (x ∷ l) = cond (bears c x) (x ∷ ownCalls c l) (ownCalls c l)
 
 -- "Those claims and hand-backs that bear this controller's number are the 2n calls of our plan, in an order as above, and no others."
 -- The events are those of the calls in their order: each job of the sheet begins once and ends once, and no other job does.
-pub record FollowsPlan (S : Sheet) (P : Plan) (c : ℕ) (calls : List Call) : Type 0 where
+pub record FollowsPlan (S : Sheet) (P : Plan) (s c : ℕ) (calls : List Call) : Type 0 where
   pub events : List Event
   pub once : (e : Event) → times e events ≡ only (ltb (jobOf e) (S .jobs)) 1
   pub order : InOrder S P events
-  pub own : ownCalls c calls ≡ map (callOf S c) events
+  pub own : ownCalls c calls ≡ map (callOf S s c) events
 
 -- a desk that can be, on which controller c is assured n or more and holds h
 pub record Ready (n c h : ℕ) (d : Desk) : Type 0 where

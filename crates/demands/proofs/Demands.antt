@@ -62,5 +62,5 @@ pub none-earlier-and-granted : NoneEarlierAndGranted
 none-earlier-and-granted = record {
   earliest = λ s card e. plan-answered s card e .1 .earliest;
   refused-exactly = λ s room e. no-plan-exactly s room (sym (read-number s) ∙ e);
-  granted = λ s card e d r. card-granted s card e d (reachable-by-calls d .1 r);
+  granted = λ s card e size one d r. card-granted s card e size one d (reachable-by-calls d .1 r);
 }

@@ -33,7 +33,7 @@ use Rattle.desk.specs.Checks.{openChecks, claimChecks, handBackChecks, lookChec
 use Rattle.desk.specs.Calls.{opened, claimed, Call, claim, handBack, look, refusalOf, deskAfter, deskAfterAll, LeftByCalls}
 use Rattle.desk.specs.Calls.{grantedClaims, grantedHandBacks}
 use Rattle.lent.specs.Lent.{openedOver}
-use Rattle.assurance.specs.Following.{FollowsPlan, AllGranted}
+use Rattle.assurance.specs.Following.{planNeed, FollowsPlan, AllGranted}
 
 -- ---- R-1
 
@@ -101,8 +101,9 @@ pub record NoneEarlierAndGranted : Type 0 where
   -- R-3.2: a sheet that reads is refused as over-wide (8) or circular (9) exactly when it has no valid plan
   pub refused-exactly : (s : List ℕ) (room : ℕ) → reading s .refusal ≡ 0
       → ((planRefusal s room ≡ 8) ⊎ (planRefusal s room ≡ 9)) ↔ (¬ ((P : Plan) × Valid (sheetIn s) P))
-  -- R-3.3: in every list of calls on every desk that an opening and later calls leave, a controller that holds nothing at the start, is
-  -- assured the sheet's modules and makes in the list exactly our plan's claims and hand-backs is granted every one of them
-  pub granted : (s card : List ℕ) → planRefusal s (length card) ≡ 0
-      → (d : Desk) → LeftByCalls d → (c : ℕ) → holding d c ≡ 0 → sheetIn s .modules ≤ assuredShare d c
-      → (calls : List Call) → FollowsPlan (sheetIn s) (ourPlan s card) c calls → AllGranted c d calls
+  -- R-3.3, with modules of any size (F-6.2): in every list of calls on every desk that an opening and later calls leave, a controller that
+  -- holds nothing at the start, is assured the sheet's modules times the size and makes in the list exactly our plan's claims and hand-backs
+  -- is granted every one of them
+  pub granted : (s card : List ℕ) → planRefusal s (length card) ≡ 0 → (size : ℕ) → 1 ≤ size
+      → (d : Desk) → LeftByCalls d → (c : ℕ) → holding d c ≡ 0 → planNeed (sheetIn s) size ≤ assuredShare d c
+      → (calls : List Call) → FollowsPlan (sheetIn s) (ourPlan s card) size c calls → AllGranted c d calls

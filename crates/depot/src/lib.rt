@@ -20,7 +20,7 @@ ghost use Rattle.depot.specs.Version.{version};
 // ---- the version
 
 // 0.1.0
-const VERSION: u32 = 2000;
+const VERSION: u32 = 3000;
 
 // The number of this library's version; the header has the same.
 #[no_mangle]
@@ -98,22 +98,22 @@ pub extern "C" fn depot_desk_open(
 
 // A claim on the lent desk. Refused, it is as before.
 #[no_mangle]
-pub extern "C" fn depot_desk_claim(desk: &mut Desk, controller: u32, modules: u32) -> u32
-    ensures { λ r. ⌜ (r ≡ claimed (now (desk .entry)) controller modules .refusal)
-        × (now (desk .exit) ≡ claimed (now (desk .entry)) controller modules .desk) ⌝ }
+pub extern "C" fn depot_desk_claim(desk: &mut Desk, controller: u32, power: u32) -> u32
+    ensures { λ r. ⌜ (r ≡ claimed (now (desk .entry)) controller power .refusal)
+        × (now (desk .exit) ≡ claimed (now (desk .entry)) controller power .desk) ⌝ }
 {
-    let answer = (*desk).claim(controller, modules);
+    let answer = (*desk).claim(controller, power);
     *desk = answer.desk;
     answer.refusal
 }
 
 // A hand-back on the lent desk. Refused, it is as before.
 #[no_mangle]
-pub extern "C" fn depot_desk_hand_back(desk: &mut Desk, controller: u32, modules: u32) -> u32
-    ensures { λ r. ⌜ (r ≡ handedBack (now (desk .entry)) controller modules .refusal)
-        × (now (desk .exit) ≡ handedBack (now (desk .entry)) controller modules .desk) ⌝ }
+pub extern "C" fn depot_desk_hand_back(desk: &mut Desk, controller: u32, power: u32) -> u32
+    ensures { λ r. ⌜ (r ≡ handedBack (now (desk .entry)) controller power .refusal)
+        × (now (desk .exit) ≡ handedBack (now (desk .entry)) controller power .desk) ⌝ }
 {
-    let answer = (*desk).hand_back(controller, modules);
+    let answer = (*desk).hand_back(controller, power);
     *desk = answer.desk;
     answer.refusal
 }

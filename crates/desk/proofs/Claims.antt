@@ -87,12 +87,12 @@ module _ (d : Desk) (r : Reachable d) (c : ℕ) (l : c < d .count) (k : ℕ) whe
     λ p. hand-back-granted d c k (reached-sound r) l (record { one = one; within = p }),
   )
 
-  look-shows : looked d c .modules ≡ room d c
+  look-shows : looked d c .power ≡ room d c
   unfolding looked lookRefusal firstFailing
   look-shows = rw (of-desk d c (reached-sound r) l) refl
 
-  -- A claim is granted exactly when it is for 1 to as many modules as a look shows: the look shows the largest, 0 if there is none.
-  pub look-exact : (claimed d c k .refusal ≡ 0) ↔ ((1 ≤ k) × (k ≤ looked d c .modules))
+  -- A claim is granted exactly when it is for 1 up to what a look shows: the look shows the largest, 0 if there is none.
+  pub look-exact : (claimed d c k .refusal ≡ 0) ↔ ((1 ≤ k) × (k ≤ looked d c .power))
   unfolding claimed
   look-exact = (
     (λ e.

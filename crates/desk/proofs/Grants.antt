@@ -12,7 +12,7 @@ use Rattle.counting.proofs.Ranges.{any-none, none-any}
 use Rattle.checking.specs.Checking.{firstFailing}
 use Rattle.checking.proofs.Order.{all-passed, none-failing}
 use Rattle.desk.specs.declared.Desk.{Desk}
-use Rattle.desk.specs.Desk.{mostModules, fewestControllers, mostControllers, holding, ceilingOf, reservedForOthers}
+use Rattle.desk.specs.Desk.{mostPower, fewestControllers, mostControllers, holding, ceilingOf, reservedForOthers}
 use Rattle.desk.specs.Checks.{inRange, wrongLengths, wrongPair, somePairWrong, wrongFigures, sharesInAll, sharesExceed}
 use Rattle.desk.specs.Checks.{notOfDesk, openChecks, bookingChecks, returnChecks}
 use Rattle.desk.specs.Calls.{openRefusal, opened, claimRefusal, handBackRefusal}
@@ -34,7 +34,7 @@ pair-says limit assured ceiling e = record {
 pub record Opens (limit : ℕ) (assured ceilings : List ℕ) : Type 0 where
   pub same : length assured ≡ length ceilings
   pub controllers : InRange fewestControllers mostControllers (length assured)
-  pub modules : InRange 1 mostModules limit
+  pub power : InRange 1 mostPower limit
   pub pairs : (i : ℕ) → i < length assured → Pair limit (getD assured i 0) (getD ceilings i 0)
   pub total : sharesInAll assured ≤ limit
 
@@ -51,11 +51,11 @@ module _ (limit : ℕ) (assured ceilings : List ℕ) where
       let a = p .0 in
       let b = p .1 .0 in
       let few = inRange fewestControllers mostControllers (length assured) in
-      let small = inRange 1 mostModules limit in
+      let small = inRange 1 mostPower limit in
       record {
         same = eqb-true _ _ (not-false (eqb (length assured) (length ceilings)) (or-left _ (not few) a));
         controllers = range-says _ _ _ (not-false few (or-right (not (eqb (length assured) (length ceilings))) _ a));
-        modules = range-says _ _ _ (not-false small (or-left _ (somePairWrong limit assured ceilings) b));
+        power = range-says _ _ _ (not-false small (or-left _ (somePairWrong limit assured ceilings) b));
         pairs = pairs-say (or-right (not small) _ b);
         total = ltb-false _ _ (p .1 .1 .0);
       }
@@ -69,7 +69,7 @@ module _ (limit : ℕ) (assured ceilings : List ℕ) where
       rw (
         eq-eqb _ _ (o .same),
         in-range fewestControllers mostControllers _ (o .controllers .least) (o .controllers .most),
-        in-range 1 mostModules _ (o .modules .least) (o .modules .most),
+        in-range 1 mostPower _ (o .power .least) (o .power .most),
         right,
         le-ltb _ _ (o .total),
       ) refl

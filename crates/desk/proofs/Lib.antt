@@ -8,4 +8,6 @@ pub mod Reaches
 pub mod Claims
 pub mod Lists
 pub mod Holdings
+pub mod Times
+pub mod Scaling
 pub mod Samples

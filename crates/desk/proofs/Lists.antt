@@ -30,7 +30,7 @@ pub refused-opening : (limit : ℕ) (assured ceilings : List ℕ) → opened lim
 unfolding opened
 refused-opening limit assured ceilings n = rw (ne-eqb (openRefusal limit assured ceilings) 0 n) refl
 
-pub refused-look : (d : Desk) (c : ℕ) → looked d c .refusal ≢ 0 → looked d c .modules ≡ 0
+pub refused-look : (d : Desk) (c : ℕ) → looked d c .refusal ≢ 0 → looked d c .power ≡ 0
 unfolding looked
 refused-look d c n = rw (ne-eqb (lookRefusal d c) 0 n) refl
 

@@ -75,7 +75,7 @@ module _ (limit : ℕ) (assured ceilings : List ℕ) (o : Opens limit assured ce
       ceiling = let m = o .controllers .most in padded-length ceilings (omega (arith, o .same));
     };
     controllers = o .controllers;
-    limit = o .modules;
+    limit = o .power;
     places = λ i l. new-place i (less-or-not i (length assured));
     total = let t = o .total in omega (arith, new-total);
   }
@@ -156,7 +156,7 @@ module _ (d : Desk) (s : Sound d) where
   front-opens = record {
     same = shares-length ∙ sym tops-length;
     controllers = record { least = rw shares-length (s .controllers .least); most = rw shares-length few };
-    modules = s .limit;
+    power = s .limit;
     pairs = λ i h.
         let inside : i < d .count = omega (arith, shares-length) in
         let a = getD-take (d .count) (d .assured) i 0 inside in

@@ -57,12 +57,12 @@ unfoldable pub looked : Desk → ℕ → Looked
 looked d c = record {
   refusal = lookRefusal d c;
   desk = d;
-  modules = only (eqb (lookRefusal d c) 0) (room d c);
+  power = only (eqb (lookRefusal d c) 0) (room d c);
 }
 
 -- ---- lists of calls
 
--- a claim and a hand-back by the controller of that number, for so many modules; a look
+-- a claim and a hand-back by the controller of that number, for so many hundreds of watts; a look
 pub data Call : Type 0 where
   claim handBack : ℕ → ℕ → Call
   look : ℕ → Call

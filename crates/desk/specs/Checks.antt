@@ -7,7 +7,7 @@ use lib.ListN.{length, getD}
 use Rattle.counting.specs.Counting.{only, sum, every, any}
 use Rattle.checking.specs.Checking.{Check}
 use Rattle.desk.specs.declared.Desk.{Desk}
-use Rattle.desk.specs.Desk.{mostModules, fewestControllers, mostControllers, holding, assuredShare, ceilingOf, reserved}
+use Rattle.desk.specs.Desk.{mostPower, fewestControllers, mostControllers, holding, assuredShare, ceilingOf, reserved}
 use Rattle.desk.specs.Desk.{reservedForOthers}
 
 -- x is low to high
@@ -28,9 +28,9 @@ wrongPair limit assured ceiling = ltb ceiling assured || ltb limit ceiling
 abbrev pub somePairWrong : ℕ → List ℕ → List ℕ → Bool
 somePairWrong limit assured ceilings = any (length assured) (λ i. wrongPair limit (getD assured i 0) (getD ceilings i 0))
 
--- 12. "L is 0 or above 4096, an assured share exceeds its ceiling, or a ceiling exceeds L."
+-- 12. "L is 0 or above" 400,000 (F-6), "an assured share exceeds its ceiling, or a ceiling exceeds L."
 unfoldable pub wrongFigures : ℕ → List ℕ → List ℕ → Bool
-wrongFigures limit assured ceilings = not (inRange 1 mostModules limit) || somePairWrong limit assured ceilings
+wrongFigures limit assured ceilings = not (inRange 1 mostPower limit) || somePairWrong limit assured ceilings
 
 abbrev pub sharesInAll : List ℕ → ℕ
 sharesInAll assured = sum (length assured) (λ i. getD assured i 0)
@@ -39,7 +39,7 @@ sharesInAll assured = sum (length assured) (λ i. getD assured i 0)
 unfoldable pub sharesExceed : ℕ → List ℕ → Bool
 sharesExceed limit assured = ltb limit (sharesInAll assured)
 
--- ---- claims, hand-backs and looks: the desk, the controller's number and the modules
+-- ---- claims, hand-backs and looks: the desk, the controller's number and the power
 
 -- The three lists have a place for each controller that there may be, as those of every desk in memory have.
 abbrev pub fullLists : Desk → Bool
@@ -64,7 +64,7 @@ unfoldable pub deskOk : Desk → Bool
 deskOk d =
     fullLists d
     && inRange fewestControllers mostControllers (d .count)
-    && inRange 1 mostModules (d .limit)
+    && inRange 1 mostPower (d .limit)
     && every mostControllers (placeOkAt d)
     && leb (sum (d .count) (reserved d)) (d .limit)
 
@@ -73,7 +73,7 @@ deskOk d =
 unfoldable pub notOfDesk : Desk → ℕ → Bool
 notOfDesk d c = not (ltb c (d .count)) || not (deskOk d)
 
--- 15. "The call is for 0 modules."
+-- 15. "The call is for 0", hundreds of watts now.
 abbrev pub forNothing : ℕ → Bool
 forNothing k = eqb k 0
 

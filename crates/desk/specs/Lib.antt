@@ -4,3 +4,4 @@ pub mod Checks
 pub mod Reachable
 pub mod Calls
 pub mod Rows
+pub mod Scaling

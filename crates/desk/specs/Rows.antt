@@ -6,11 +6,11 @@ use lib.Dec.{eqb}
 use Rattle.desk.specs.declared.Desk.{Desk}
 use Rattle.desk.specs.Calls.{Call, claim, handBack, look, opened, looked, refusalOf, deskAfter}
 
--- the figure that a call shows: a look's modules, and 0 for a claim or a hand-back
+-- the figure that a call shows: a look's power, and 0 for a claim or a hand-back
 abbrev pub figureOf : Desk → Call → ℕ
 figureOf d (claim c k) = 0
 figureOf d (handBack c k) = 0
-figureOf d (look c) = looked d c .modules
+figureOf d (look c) = looked d c .power
 
 -- a desk written out
 abbrev pub desk : ℕ → ℕ → List ℕ → List ℕ → List ℕ → Desk

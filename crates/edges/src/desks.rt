@@ -26,7 +26,7 @@ fn open(name: &[u8], limit: u32, shares: usize, share: u32, ceilings: usize, cei
     open_fronts(name, limit, &[share; 9], shares, &[ceiling; 9], ceilings);
 }
 
-// Opens a desk of 10 modules for two controllers.
+// Opens a desk of 1 kW for two controllers.
 fn open_two(name: &[u8], share: u32, other_share: u32, ceiling: u32, other_ceiling: u32) {
     let shares = [share, other_share];
     let ceilings = [ceiling, other_ceiling];
@@ -44,8 +44,8 @@ fn lists() {
 fn limits() {
     open(b"limit 0", 0, 2, 0, 2, 0);
     open(b"limit 1", 1, 2, 0, 2, 1);
-    open(b"limit 4096", 4096, 2, 0, 2, 1);
-    open(b"limit 4097", 4097, 2, 0, 2, 1);
+    open(b"limit 400000", 400000, 2, 0, 2, 1);
+    open(b"limit 400001", 400001, 2, 0, 2, 1);
 }
 
 fn pairs() {
@@ -57,7 +57,7 @@ fn pairs() {
     open_two(b"shares of one more", 6, 5, 10, 10);
 }
 
-// Two controllers with shares of 4 and 3 on a feeder of 12 modules.
+// Two controllers with shares of 4 and 3 on a feeder of 1.2 kW.
 fn small(ceiling: u32) -> Desk {
     opening::open(12, &[4u32, 3u32], &[ceiling; 2]).desk
 }
@@ -66,22 +66,22 @@ fn small(ceiling: u32) -> Desk {
 fn look(desk: Desk, controller: u32) {
     let looked = desk.look(controller);
     print_case(b"  a look", looked.refusal);
-    print_case(b"  modules left", looked.modules);
+    print_case(b"  power left", looked.power);
 }
 
 // Claims on a new desk.
-fn claim(name: &[u8], ceiling: u32, controller: u32, modules: u32) {
+fn claim(name: &[u8], ceiling: u32, controller: u32, power: u32) {
     let desk = small(ceiling);
-    let booked = desk.claim(controller, modules);
+    let booked = desk.claim(controller, power);
     print_case(name, booked.refusal);
     look(booked.desk, controller);
 }
 
 // Hands back where controller 1 holds 5.
-fn hand_back(name: &[u8], controller: u32, modules: u32) {
+fn hand_back(name: &[u8], controller: u32, power: u32) {
     let desk = small(12);
     let held = desk.claim(1, 5).desk;
-    let booked = held.hand_back(controller, modules);
+    let booked = held.hand_back(controller, power);
     print_case(name, booked.refusal);
     look(booked.desk, controller);
 }

@@ -18,4 +18,4 @@ openedOver d limit assured ceilings = record {
 
 -- a look at the kept desk d: its number and its figure; refused, the figure is 0 (`refused-look`)
 abbrev pub lookedAt : Desk → ℕ → Looked
-lookedAt d c = record { refusal = looked d c .refusal; modules = looked d c .modules }
+lookedAt d c = record { refusal = looked d c .refusal; power = looked d c .power }

@@ -9,7 +9,7 @@ ghost use Rattle.lent.specs.Lent.{openedOver, lookedAt};
 #[repr(C)]
 pub struct Looked {
     pub refusal: u32,
-    pub modules: u32,
+    pub power: u32,
 }
 
 // Opening by value where a desk is kept: refused, the kept desk is handed back.
@@ -38,6 +38,6 @@ pub fn look_at(kept: Desk, controller: u32) -> Looked
     let answer = kept.look(controller);
     Looked {
         refusal: answer.refusal,
-        modules: answer.modules,
+        power: answer.power,
     }
 }

@@ -1,5 +1,5 @@
 //! The share desk: openings, claims, hand-backs and looks, and which desks calls can leave.
-use crate::Desk;
+use crate::{Desk, MOST_POWER};
 
 /// A controller's figures, wide enough for every sum.
 struct Place {
@@ -29,7 +29,7 @@ pub fn open(limit: u32, assured: &[u32], ceilings: &[u32]) -> Result<Desk, u32> 
         return Err(11);
     }
     let pairs = || assured.iter().zip(ceilings);
-    if limit == 0 || limit > 4096 || pairs().any(|(a, c)| a > c || *c > limit) {
+    if limit == 0 || limit > MOST_POWER || pairs().any(|(a, c)| a > c || *c > limit) {
         return Err(12);
     }
     if assured.iter().map(|a| u64::from(*a)).sum::<u64>() > u64::from(limit) {
@@ -66,12 +66,12 @@ fn not_of_desk(desk: &Desk, controller: u32) -> bool {
 }
 
 /// The number of the first check that a claim fails, 15 to 17, on a desk that calls can leave.
-fn claim_refusal(desk: &Desk, controller: u32, modules: u32) -> Option<u32> {
+fn claim_refusal(desk: &Desk, controller: u32, power: u32) -> Option<u32> {
     let places = places(desk);
     let own = controller as usize;
-    let sum = places[own].held + u64::from(modules);
+    let sum = places[own].held + u64::from(power);
     let others: u64 = (0..places.len()).filter(|i| *i != own).map(|i| places[i].reserved()).sum();
-    if modules == 0 {
+    if power == 0 {
         Some(15)
     } else if sum > places[own].ceiling {
         Some(16)
@@ -83,37 +83,49 @@ fn claim_refusal(desk: &Desk, controller: u32, modules: u32) -> Option<u32> {
 }
 
 /// A claim: the desk as it then is, or the number of the first check that fails.
-pub fn claim(desk: &Desk, controller: u32, modules: u32) -> Result<Desk, u32> {
+pub fn claim(desk: &Desk, controller: u32, power: u32) -> Result<Desk, u32> {
     if not_of_desk(desk, controller) {
         return Err(14);
     }
-    if let Some(refusal) = claim_refusal(desk, controller, modules) {
+    if let Some(refusal) = claim_refusal(desk, controller, power) {
         return Err(refusal);
     }
     let mut next = *desk;
-    next.held[controller as usize] += modules;
+    next.held[controller as usize] += power;
     Ok(next)
 }
 
 /// A hand-back: the desk as it then is, or the number of the first check that fails.
-pub fn hand_back(desk: &Desk, controller: u32, modules: u32) -> Result<Desk, u32> {
+pub fn hand_back(desk: &Desk, controller: u32, power: u32) -> Result<Desk, u32> {
     if not_of_desk(desk, controller) {
         return Err(14);
     }
-    if modules == 0 {
+    if power == 0 {
         return Err(15);
     }
     let mut next = *desk;
     let held = &mut next.held[controller as usize];
-    *held = held.checked_sub(modules).ok_or(18u32)?;
+    *held = held.checked_sub(power).ok_or(18u32)?;
     Ok(next)
 }
 
-/// A look: the largest claim that would be granted now, found by trying them all, or the number of the check that fails.
+/// Limits up to which a look tries every claim.
+const SMALL: u32 = 5_000;
+
+/// A look: the largest claim that would be granted now, or the number of the check that fails. On a small desk all claims are tried;
+/// on others it is found by halving, since what is refused is refused for more, too.
 pub fn look(desk: &Desk, controller: u32) -> Result<u32, u32> {
     if not_of_desk(desk, controller) {
         return Err(14);
     }
-    let granted = |modules: &u32| claim_refusal(desk, controller, *modules).is_none();
-    Ok((1..=desk.limit).rev().find(granted).unwrap_or(0))
+    let granted = |power: u32| claim_refusal(desk, controller, power).is_none();
+    if desk.limit <= SMALL {
+        return Ok((1..=desk.limit).rev().find(|power| granted(*power)).unwrap_or(0));
+    }
+    let (mut most, mut refused) = (0, desk.limit + 1);
+    while refused - most > 1 {
+        let middle = most + (refused - most) / 2;
+        *if granted(middle) { &mut most } else { &mut refused } = middle;
+    }
+    Ok(most)
 }

@@ -28,14 +28,14 @@ const TO_DO: [(&str, &str); 18] = [
     ("planning", "Take one 'after' out of the circle: as it stands no job of it can start. 'depot plan' names a circle."),
     ("planning, writing", "A fault of the calling program: lend 13 bytes for each job and 8 for a card, 528 for every sheet."),
     ("opening", "Give 2 to 8 controllers, each with a share and a ceiling."),
-    ("opening", "Choose a limit of 1 to 4096 modules, ceilings within it, and for each controller a share within its ceiling."),
+    ("opening", "Choose a limit of 0.1 to 40,000 kW, ceilings within it, and for each controller a share within its ceiling."),
     ("opening", "Lower the shares until they add up to the limit or less: what is assured must fit on the feeder at once."),
     (
         "labels, claims, hand-backs, looks",
         "Use a number below the count: the first job or controller is 0. If the number is right, the desk's figures were altered by \
-         something other than its calls: open it anew once nobody holds a module.",
+         something other than its calls: open it anew once nobody holds anything.",
     ),
-    ("claims, hand-backs", "Name 1 module or more."),
+    ("claims, hand-backs", "Name 0.1 kW or more: the desk counts in hundreds of watts."),
     ("claims", "Claim less, or hand back first: the ceiling is this controller's own bound, whatever the others hold. Look for the figure."),
     (
         "claims",

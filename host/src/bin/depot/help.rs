@@ -78,16 +78,17 @@ usage: depot desk [SCRIPT] [--json]
 A share desk that takes a command from each line of standard input, or of a script file:
 
   open LIMIT SHARE/CEILING ..   opens a desk for 2 to 8 controllers; NAME=SHARE/CEILING gives one a name
-  claim CONTROLLER MODULES      claims modules
-  back CONTROLLER MODULES       hands modules back
+  claim CONTROLLER KW           claims power
+  back CONTROLLER KW            hands power back
   look [CONTROLLER]             the largest claim that would be granted now
   show                          a bar for each controller
   explain N                     what refusal N means
   help, quit
 
+LIMIT, SHARE, CEILING and KW are kilowatts in whole hundreds of watts: 30, 12.5; or so many modules of a size: 3x30 is three of 30 kW.
 A controller is named by its number, from 0, or by its name. Lines that begin with # are remarks.
 
-  --json           an object for each command, for programs
+  --json           an object for each command, for programs; figures in kW too
 
 Exit status: 0 every call was answered; 1 some call was refused; 2 some line is no command.
 ";

@@ -1,17 +1,21 @@
 //! A line's command.
 use crate::clock::whole;
+use depot_host::units::power;
 
-/// A controller's figures in an opening.
+/// A controller's figures in an opening, in hundreds of watts.
 pub struct Place {
     pub name: String,
     pub assured: u32,
     pub ceiling: u32,
 }
 
+/// What an opening may look like.
+pub const OPENING: &str = "open 500 yard=240/420 workshop=100/200";
+
 pub enum Command {
     Open { limit: u32, places: Vec<Place> },
-    Claim { controller: u32, modules: u32 },
-    Back { controller: u32, modules: u32 },
+    Claim { controller: u32, power: u32 },
+    Back { controller: u32, power: u32 },
     Look(Option<u32>),
     Show,
     Explain(u32),
@@ -24,25 +28,22 @@ pub fn read(line: &str, names: &[String]) -> Result<Command, String> {
     let words: Vec<&str> = line.split_whitespace().collect();
     match &words[..] {
         ["open", limit, places @ ..] => open(limit, places),
-        ["open"] => Err("found 'open' alone; allowed: open LIMIT SHARE/CEILING .., as 'open 10 yard=4/10 workshop=3/10'".into()),
-        ["claim", who, modules] => {
-            Ok(Command::Claim { controller: controller(who, names)?, modules: number(modules, "modules")? })
-        }
-        ["back", who, modules] => Ok(Command::Back { controller: controller(who, names)?, modules: number(modules, "modules")? }),
-        ["claim" | "back", ..] => Err(format!("found '{line}'; allowed: {} CONTROLLER MODULES, as '{0} 0 4'", words[0])),
+        ["open"] => Err(format!("found 'open' alone; allowed: open LIMIT SHARE/CEILING .., as '{OPENING}'")),
+        ["claim", who, kw] => Ok(Command::Claim { controller: controller(who, names)?, power: power(kw)? }),
+        ["back", who, kw] => Ok(Command::Back { controller: controller(who, names)?, power: power(kw)? }),
+        ["claim" | "back", ..] => Err(format!("found '{line}'; allowed: {} CONTROLLER KW, as '{0} 0 12.5'", words[0])),
         ["look"] => Ok(Command::Look(None)),
         ["look", who] => Ok(Command::Look(Some(controller(who, names)?))),
         ["look", ..] => Err(format!("found '{line}'; allowed: look, or look CONTROLLER")),
         ["show"] => Ok(Command::Show),
-        ["explain", word] => Ok(Command::Explain(number(word, "refusals, 1 to 18")?)),
+        ["explain", word] => {
+            let number = whole(word).ok_or(format!("found '{word}'; allowed: a refusal's number, 1 to 18"))?;
+            Ok(Command::Explain(number))
+        }
         ["help"] => Ok(Command::Help),
         ["quit" | "exit"] => Ok(Command::Quit),
         _ => Err(format!("found '{line}'; allowed: open, claim, back, look, show, explain, help, quit")),
     }
-}
-
-fn number(word: &str, what: &str) -> Result<u32, String> {
-    whole(word).ok_or(format!("found '{word}'; allowed: a whole number of {what}"))
 }
 
 fn controller(word: &str, names: &[String]) -> Result<u32, String> {
@@ -60,7 +61,7 @@ pub fn given_names(names: &[String]) -> impl Iterator<Item = &str> {
 }
 
 fn open(limit: &str, words: &[&str]) -> Result<Command, String> {
-    let limit = number(limit, "modules as the limit")?;
+    let limit = power(limit)?;
     let mut places: Vec<Place> = Vec::new();
     for (number, word) in words.iter().enumerate() {
         let place = place(number, word)?;
@@ -74,12 +75,12 @@ fn open(limit: &str, words: &[&str]) -> Result<Command, String> {
 
 /// `SHARE/CEILING` or `NAME=SHARE/CEILING`
 fn place(number: usize, word: &str) -> Result<Place, String> {
-    let wrong = || format!("found '{word}'; allowed: SHARE/CEILING or NAME=SHARE/CEILING, as 4/10 or yard=4/10");
+    let wrong = || format!("found '{word}'; allowed: SHARE/CEILING or NAME=SHARE/CEILING, as 240/420 or yard=240/420");
     let (name, figures) = match word.split_once('=') {
         Some((name, _)) if name.is_empty() || whole(name).is_some() => return Err(wrong()),
         Some((name, figures)) => (name.to_string(), figures),
         None => (format!("controller {number}"), word),
     };
     let (assured, ceiling) = figures.split_once('/').ok_or_else(wrong)?;
-    Ok(Place { name, assured: whole(assured).ok_or_else(wrong)?, ceiling: whole(ceiling).ok_or_else(wrong)? })
+    Ok(Place { name, assured: power(assured)?, ceiling: power(ceiling)? })
 }
