@@ -34,8 +34,8 @@ extern "C" {
 /* ---- the version ------------------------------------------------------------------------------------------------------------- */
 
 /* Of this header, and as a number: major * 1000000 + minor * 1000 + patch. Bytes of sheets and cards may differ between minors. */
-#define DEPOT_VERSION "0.3.0"
-#define DEPOT_VERSION_NUMBER 3000
+#define DEPOT_VERSION "0.4.0"
+#define DEPOT_VERSION_NUMBER 4000
 
 /*
  * The number of the library that is linked. Compare it with DEPOT_VERSION_NUMBER at the start, so that header and library belong
@@ -46,28 +46,31 @@ uint32_t depot_version(void);
 /* ---- refusals ---------------------------------------------------------------------------------------------------------------- */
 
 /*
- * What a call answers: 0, or the number of the first check that fails. Each call makes its checks in the order of these numbers.
+ * What a call answers: 0, or the number of the first check that fails. Each call makes its checks in the order of these numbers; but
+ * depot_desk_change makes 14 first.
  */
 enum depot_refusal {
     DEPOT_DONE = 0,
-    DEPOT_SHEET_LENGTH = 1,         /* the sheet has fewer than 8 or more than 528 bytes */
-    DEPOT_TOO_MANY_JOBS = 2,        /* there are more than 20 jobs */
-    DEPOT_CABINET_SIZE = 3,         /* the cabinet has no modules or more than 64 */
-    DEPOT_RECORD_OFFSET = 4,        /* the record offset plus 10 for each job plus 8 is not the sheet's length */
-    DEPOT_RECORD_FIELD = 5,         /* some record has a field outside its range, or a bit for an earlier job that there is not */
-    DEPOT_LABEL_LENGTHS = 6,        /* the label lengths do not add up to the label bytes there are */
-    DEPOT_LABEL_BYTE = 7,           /* some label has a byte below 32 or above 126, or begins or ends with a space */
-    DEPOT_OVER_WIDE = 8,            /* some job needs more modules than the cabinet has */
-    DEPOT_CIRCULAR = 9,             /* some job would have to end before itself, directly or through others */
-    DEPOT_BUFFER_TOO_SHORT = 10,    /* the lent buffer for the card, or for the written sheet, is too short */
-    DEPOT_LIST_LENGTHS = 11,        /* shares and ceilings are not two lists of one length, 2 to 8 */
-    DEPOT_DESK_FIGURES = 12,        /* the limit is not 1 to 400,000, a share exceeds its ceiling, or a ceiling exceeds the limit */
-    DEPOT_SHARES_EXCEED_LIMIT = 13, /* the assured shares add up to more than the limit */
-    DEPOT_NO_SUCH_NUMBER = 14,      /* no job or controller has this number, or no opening and later calls can leave this desk */
-    DEPOT_FOR_NOTHING = 15,         /* the call is for no power */
-    DEPOT_PASSES_CEILING = 16,      /* the claim would pass the controller's ceiling */
-    DEPOT_DOES_NOT_FIT = 17,        /* the claim does not fit beside what the others hold or have reserved */
-    DEPOT_EXCEEDS_HOLDING = 18      /* the hand-back exceeds the holding */
+    DEPOT_SHEET_LENGTH = 1,           /* the sheet has fewer than 8 or more than 528 bytes */
+    DEPOT_TOO_MANY_JOBS = 2,          /* there are more than 20 jobs */
+    DEPOT_CABINET_SIZE = 3,           /* the cabinet has no modules or more than 64 */
+    DEPOT_RECORD_OFFSET = 4,          /* the record offset plus 10 for each job plus 8 is not the sheet's length */
+    DEPOT_RECORD_FIELD = 5,           /* some record has a field outside its range, or a bit for an earlier job that there is not */
+    DEPOT_LABEL_LENGTHS = 6,          /* the label lengths do not add up to the label bytes there are */
+    DEPOT_LABEL_BYTE = 7,             /* some label has a byte below 32 or above 126, or begins or ends with a space */
+    DEPOT_OVER_WIDE = 8,              /* some job needs more modules than the cabinet has */
+    DEPOT_CIRCULAR = 9,               /* some job would have to end before itself, directly or through others */
+    DEPOT_BUFFER_TOO_SHORT = 10,      /* the lent buffer for the card, or for the written sheet, is too short */
+    DEPOT_LIST_LENGTHS = 11,          /* shares and ceilings are not two lists of one length, 2 to 8, or not of the desk's */
+    DEPOT_DESK_FIGURES = 12,          /* the limit is not 1 to 400,000, a share exceeds its ceiling, or a ceiling exceeds the limit */
+    DEPOT_SHARES_EXCEED_LIMIT = 13,   /* the assured shares add up to more than the limit */
+    DEPOT_NO_SUCH_NUMBER = 14,        /* no job or controller has this number, or no opening and later calls can leave this desk */
+    DEPOT_FOR_NOTHING = 15,           /* the call is for no power */
+    DEPOT_PASSES_CEILING = 16,        /* the claim would pass the controller's ceiling */
+    DEPOT_DOES_NOT_FIT = 17,          /* the claim does not fit beside what the others hold or have reserved */
+    DEPOT_EXCEEDS_HOLDING = 18,       /* the hand-back exceeds the holding */
+    DEPOT_HOLDING_ABOVE_CEILING = 21, /* some holding exceeds its new ceiling */
+    DEPOT_HOLDINGS_EXCEED_LIMIT = 22  /* the holdings, each raised to its new share where that is larger, exceed the new limit */
 };
 
 /* ---- sizes ------------------------------------------------------------------------------------------------------------------- */
@@ -207,6 +210,20 @@ struct depot_desk {
  */
 uint32_t depot_desk_open(struct depot_desk *desk, uint32_t limit, const uint32_t *assured, size_t assured_len,
                          const uint32_t *ceilings, size_t ceilings_len);
+
+/*
+ * Gives a running desk a new limit, new shares and new ceilings, for the same controllers. All holdings carry over. From then on claims
+ * are judged by the new figures. A plan that a controller follows keeps its assurance as long as its share stays at what the plan needs.
+ *
+ * desk      Updated. Refused, it is as before.
+ * limit     The new limit, 1 to 400,000 hundreds of watts.
+ * assured   Read. The new share of each controller of the desk.
+ * ceilings  Read. The new ceiling of each.
+ *
+ * desk overlaps neither list. Answers 0, or a refusal: 14, 11 to 13, 21, 22, in this order. Stack: DEPOT_CALL_STACK.
+ */
+uint32_t depot_desk_change(struct depot_desk *desk, uint32_t limit, const uint32_t *assured, size_t assured_len,
+                           const uint32_t *ceilings, size_t ceilings_len);
 
 /*
  * Claims power for a controller. It is granted where the controller's holding plus the claim is within its ceiling and, together

@@ -78,6 +78,23 @@ def can_be(desk):
     return desk.held in holdings_that_can_be(desk.count, desk.limit, desk.assured, desk.ceiling)
 
 
+def change_desk(desk, limit, assured, ceilings, known):
+    """The number, and the desk with new figures and its own holdings. `known`: the desk can be."""
+    if not (known or can_be(desk)):
+        return 14, desk
+    number, fresh = open_desk(limit, assured, ceilings)
+    if number == 11 or len(assured) != desk.count:
+        return 11, desk
+    if number:
+        return number, desk
+    held = desk.held[: desk.count]
+    if any(own > top for own, top in zip(held, ceilings)):
+        return 21, desk
+    if sum(max(own, share) for own, share in zip(held, assured)) > limit:
+        return 22, desk
+    return 0, fresh._replace(held=desk.held)
+
+
 def call(desk, kind, controller, power, known):
     """The number, the figure that a look shows, and the holdings afterwards. `known`: the desk can be."""
     if controller >= desk.count or not (known or can_be(desk)):
@@ -121,6 +138,23 @@ def random_calls(rng, desk, length):
     return steps
 
 
+def random_change(rng, desk):
+    """New figures, often such as the holdings allow."""
+    held = list(desk.held[: desk.count])
+    reserves = sum(max(pair) for pair in zip(held, desk.assured))
+    limit = rng.choice([desk.limit, reserves, max(0, reserves - 1), sum(held), max(0, sum(held) - 1), rng.randint(0, 2 * desk.limit)])
+    ceilings = [rng.choice([limit, limit, own, rng.randint(0, limit)]) for own in held]
+    assured = [rng.randint(0, rng.choice([top, limit // max(1, desk.count)])) for top in ceilings]
+    assured = [min(share, top) for share, top in zip(assured, ceilings)]
+    if rng.random() < 0.1 and held:
+        ceilings[rng.randrange(len(held))] = max(0, held[0] - 1)
+    if rng.random() < 0.1:
+        assured, ceilings = assured + [0], ceilings + [0]
+    if rng.random() < 0.05:
+        assured = assured[1:]
+    return limit, assured, ceilings
+
+
 def random_desk(rng):
     """A small desk: one that calls leave, or one figure off, or many."""
     limit, count = rng.randint(1, 6), rng.randint(2, 3)
@@ -154,6 +188,10 @@ def step_text(step):
     return f"step ({what}) {number} {figure} ({numbers(held)})"
 
 
+def change_text(desk, limit, assured, ceilings, number, after):
+    return f"changes {desk_text(desk)} {limit} ({numbers(assured)}) ({numbers(ceilings)}) {number} {desk_text(after)}"
+
+
 def run_text(desk, steps):
     return f"runs {desk_text(desk)}\n    (" + "\n    ∷ ".join([step_text(s) for s in steps] + ["[]"]) + ")"
 
@@ -166,15 +204,16 @@ use mathlib.Core.Bool.{true}
 use mathlib.Core.List.{List, [], _∷_}
 use Rattle.counting.specs.Counting.{sum, every, any}
 use Rattle.checking.specs.Checking.{firstFailing}
-use Rattle.desk.specs.Checks.{wrongLengths, wrongFigures, sharesExceed, deskOk, notOfDesk}
+use Rattle.desk.specs.Checks.{wrongLengths, wrongFigures, sharesExceed, deskOk, notOfDesk, wrongCount, someHoldsMore, raisedExceed}
 use Rattle.desk.specs.Calls.{claim, handBack, look}
 use Rattle.desk.specs.Calls.{openRefusal, opened, claimRefusal, claimed, handBackRefusal, handedBack, lookRefusal, looked}
-use Rattle.desk.specs.Rows.{desk, step, Row, opens, runs, allHold}
+use Rattle.desk.specs.Calls.{changeRefusal, changed}
+use Rattle.desk.specs.Rows.{desk, step, Row, opens, runs, changes, allHold}
 """
 
 OPENED = """\
-unfolding sum every any firstFailing wrongLengths wrongFigures sharesExceed deskOk notOfDesk openRefusal opened
-    claimRefusal claimed handBackRefusal handedBack lookRefusal looked
+unfolding sum every any firstFailing wrongLengths wrongFigures sharesExceed deskOk notOfDesk wrongCount someHoldsMore raisedExceed
+    openRefusal opened claimRefusal claimed handBackRefusal handedBack lookRefusal looked changeRefusal changed
 """
 
 
@@ -194,8 +233,29 @@ def samples():
         kind, controller = rng.choice(["claim", "handBack", "look"]), rng.randint(0, 2)
         power = rng.randint(0, 3)
         desks.append(run_text(desk, [(kind, controller, power) + call(desk, kind, controller, power, False)]))
+    # on desks as calls leave them: changes, and calls behind each that is granted; changes of desks that may not be
+    changes, given = [], Counter()
+    while len(changes) < 60:
+        number, desk = open_desk(*random_opening(rng))
+        if number:
+            continue
+        for kind, controller, power, number, figure, held in random_calls(rng, desk, 10):
+            desk = desk._replace(held=held)
+        figures = random_change(rng, desk)
+        number, after = change_desk(desk, *figures, True)
+        changes.append(change_text(desk, *figures, number, after))
+        given[number] += 1
+        if number == 0:
+            changes.append(run_text(after, random_calls(rng, after, 4)))
+    while len(changes) < 100:
+        desk = random_desk(rng)
+        figures = random_change(rng, desk)
+        number, after = change_desk(desk, *figures, False)
+        changes.append(change_text(desk, *figures, number, after))
+        given[number] += 1
+    assert {0, 11, 12, 13, 14, 21, 22} <= set(given), given
     text = HEADER
-    for name, rows in [("openings", openings), ("lists", runs), ("desks", desks)]:
+    for name, rows in [("openings", openings), ("lists", runs), ("desks", desks), ("figures", changes)]:
         text += table(name, "Row", rows)
         text += f"\npub {name}-right : allHold {name} ≡ true\n{OPENED.replace('unfolding sum', f'unfolding {name} sum')}{name}-right = refl\n"
     return text

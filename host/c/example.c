@@ -129,6 +129,8 @@ static void claim_and_hand_back(void)
     enum { MODULE = 300 };
     static const uint32_t assured[] = {4 * MODULE, 3 * MODULE}, ceilings[] = {10 * MODULE, 10 * MODULE};
     static const uint32_t too_much[] = {6 * MODULE, 5 * MODULE};
+    static const uint32_t new_shares[] = {2 * MODULE, 2 * MODULE}, new_ceilings[] = {6 * MODULE, 6 * MODULE};
+    static const uint32_t none[] = {0, 0}, low[] = {2 * MODULE, 2 * MODULE};
     struct depot_desk desk, before;
     memset(&desk, 0, sizeof desk);
 
@@ -146,6 +148,15 @@ static void claim_and_hand_back(void)
     check(desk.held[0] == 0 && desk.held[1] == 3 * MODULE, "then it holds nothing");
     check(depot_desk_claim(&desk, 2, 1 * MODULE) == DEPOT_NO_SUCH_NUMBER, "there is no controller 2");
     check(depot_desk_look(&desk, 2).power == 0, "a refused look shows 0");
+
+    /* the grid operator lowers the limit while controller 1 holds 3 modules */
+    before = desk;
+    check(depot_desk_change(&desk, 6 * MODULE, too_much, 2, ceilings, 2) == DEPOT_DESK_FIGURES, "a ceiling above the new limit");
+    check(memcmp(&desk, &before, sizeof desk) == 0, "a refused change leaves the desk as it was");
+    check(depot_desk_change(&desk, 6 * MODULE, new_shares, 2, new_ceilings, 2) == DEPOT_DONE, "the limit is lowered to 6 modules");
+    check(desk.limit == 6 * MODULE && desk.held[1] == 3 * MODULE, "the holdings carry over");
+    check(look(&desk, 0) == 3 * MODULE, "claims are judged by the new figures");
+    check(depot_desk_change(&desk, 2 * MODULE, none, 2, low, 2) == DEPOT_HOLDING_ABOVE_CEILING, "a ceiling below what is held");
 
     before = desk;
     check(depot_desk_open(&desk, 10 * MODULE, too_much, 2, ceilings, 2) == DEPOT_SHARES_EXCEED_LIMIT, "E11's first desk does not open");

@@ -11,7 +11,7 @@ pub const MOST_POWER: u32 = 400_000;
 ///
 /// The fields are open, as they are to C: a desk that no opening and later calls can leave is refused by every call but opening.
 #[repr(C)]
-#[derive(Clone, Copy, Debug, Default, PartialEq, Eq)]
+#[derive(Clone, Copy, Debug, Default, PartialEq, Eq, Hash)]
 pub struct Desk {
     /// How many controllers there are.
     pub count: u32,
@@ -36,6 +36,14 @@ impl Desk {
         let answer =
             unsafe { ffi::depot_desk_open(&mut desk, limit, assured.as_ptr(), assured.len(), ceilings.as_ptr(), ceilings.len()) };
         Refusal::or_done(answer).map(|()| desk)
+    }
+
+    /// Gives the desk a new limit, new shares and new ceilings, for the same controllers; all holdings carry over.
+    pub fn change(&mut self, limit: u32, assured: &[u32], ceilings: &[u32]) -> Result<(), Refusal> {
+        // SAFETY: a live desk that nothing else refers to, and two live slices; the library keeps no pointer.
+        let answer =
+            unsafe { ffi::depot_desk_change(self, limit, assured.as_ptr(), assured.len(), ceilings.as_ptr(), ceilings.len()) };
+        Refusal::or_done(answer)
     }
 
     /// Claims power for a controller.

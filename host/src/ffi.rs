@@ -64,6 +64,15 @@ extern "C" {
         ceilings_len: usize,
     ) -> u32;
 
+    pub fn depot_desk_change(
+        desk: *mut Desk,
+        limit: u32,
+        assured: *const u32,
+        assured_len: usize,
+        ceilings: *const u32,
+        ceilings_len: usize,
+    ) -> u32;
+
     pub fn depot_desk_claim(desk: *mut Desk, controller: u32, power: u32) -> u32;
 
     pub fn depot_desk_hand_back(desk: *mut Desk, controller: u32, power: u32) -> u32;

@@ -89,6 +89,7 @@ pub fn of_every_call() -> Vec<(&'static str, usize)> {
         ("depot_label", done(|| label(&sheet, MOST_JOBS - 1))),
         ("depot_write", writing),
         ("depot_desk_open", opening),
+        ("depot_desk_change", done(|| desk.change(MOST_POWER, &[50_000; 8], &[MOST_POWER; 8]))),
         ("depot_desk_claim", done(|| desk.claim(7, 50_000))),
         ("depot_desk_hand_back", done(|| desk.hand_back(7, 50_000))),
         ("depot_desk_look", done(|| desk.look(7))),

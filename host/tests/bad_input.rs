@@ -286,12 +286,16 @@ fn desk_lines() {
         ("claim 0 0.05", "found '0.05'; allowed: whole hundreds of watts, so 0 or 0.1 kW"),
         ("back 0 429496729.6", "found '429496729.6'; allowed: kW, up to 40000"),
         ("look 0 1", "found 'look 0 1'; allowed: look, or look CONTROLLER"),
-        ("explain 19", "found '19'; allowed: refusals 1 to 18"),
-        ("grab 1 1", "found 'grab 1 1'; allowed: open, claim, back, look, show, explain, help, quit"),
+        ("explain 19", "found '19'; allowed: refusals 1 to 18, 21 and 22"),
+        ("explain x", "found 'x'; allowed: a refusal's number, 1 to 18, 21 and 22"),
+        ("change", "found 'change' alone; allowed: change LIMIT SHARE/CEILING .., as 'change 400 yard=180/360 workshop=100/200'"),
+        ("change 10 4/10 3/10", "there is no desk yet; open one first, as 'open 500 yard=240/420 workshop=100/200'"),
+        ("change 10 yard=4/10 3/10", "found 'yard'; allowed: a controller's number"),
+        ("grab 1 1", "found 'grab 1 1'; allowed: open, change, claim, back, look, show, explain, help, quit"),
     ];
     let script = file("wrong.desk", lines.map(|(line, _)| line).join("\n").as_bytes());
     let ran = depot(&["desk", &script], b"");
-    assert_eq!((ran.status, ran.errors.as_str()), (2, "depot: 15 lines are no command\n"));
+    assert_eq!((ran.status, ran.errors.as_str()), (2, "depot: 19 lines are no command\n"));
     let said: Vec<String> = ran.text().lines().filter(|line| !line.starts_with('>')).map(String::from).collect();
     let expected = lines.iter().enumerate().map(|(place, (_, why))| format!("{script}, line {}: {why}", place + 1));
     assert_eq!(said, expected.collect::<Vec<_>>());

@@ -51,7 +51,7 @@ fn help() {
 fn explain() {
     golden("explain.txt", &["explain"], 0);
     golden("explain.json", &["explain", "--json"], 0);
-    let each = (1..=18).map(|number: u32| depot(&["explain", &number.to_string()], b"").text());
+    let each = (1..=18).chain([21, 22]).map(|number: u32| depot(&["explain", &number.to_string()], b"").text());
     same("host/tests/golden/explain-each.txt", each.collect::<Vec<_>>().join("\n").as_bytes());
     golden("explain-17.json", &["explain", "17", "--json"], 0);
 }
@@ -273,11 +273,13 @@ fn desk() {
 #[test]
 fn desk_refusals() {
     let script = b"open 10 4/10\nopen 10 5/4 3/12\nopen 0 0/0 0/0\nopen 40000.1 0/0 0/0\nopen 10 6/10 5/10\nopen 10 4/8 3/10\nclaim 2 1\nlook 7\nclaim 0 0\n\
-                   claim 0 8.1\nclaim 0 429496729.5\nclaim 0 8\nclaim 1 3\nclaim 0 5\nclaim 1 6\nback 0 6\nback 0 0\nback 9 1\nclaim 1 7\n";
+                   claim 0 8.1\nclaim 0 429496729.5\nclaim 0 8\nclaim 1 3\nclaim 0 5\nclaim 1 6\nback 0 6\nback 0 0\nback 9 1\nclaim 1 7\n\
+                   change 10 4/10\nchange 10 4/11 3/10\nchange 10 6/10 5/10\nchange 10 4/4.9 3/10\nchange 8 2/8 6/8\n\
+                   change 8 5/8 3/8\nchange 9 1=3/9 0=5/9\nclaim 0 1\nclaim 0 2\n";
     let ran = depot(&["desk"], script);
     assert_eq!((ran.status, ran.errors.as_str()), (1, ""));
     same("host/tests/golden/desk-refusals.txt", &ran.output);
-    for number in [11, 12, 13, 14, 15, 16, 17, 18] {
+    for number in [11, 12, 13, 14, 15, 16, 17, 18, 21, 22] {
         assert!(ran.text().contains(&format!("refused {number}: ")), "no refusal {number}");
     }
 }

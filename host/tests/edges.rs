@@ -256,6 +256,28 @@ fn openings() {
     }
 }
 
+#[test]
+fn changes() {
+    for desk in edge_desks() {
+        let held: u32 = desk.held.iter().fold(0, |sum, held| sum.wrapping_add(*held));
+        let count = desk.count.min(9) as usize;
+        for limit in [0, 1, held.wrapping_sub(1), held, desk.limit, MOST_POWER, MOST_POWER + 1, u32::MAX] {
+            for (shares, tops) in [(0, 0), (1, 1), (2, 2), (8, 8), (9, 9), (count, count), (count, count + 1), (count + 1, count)]
+            {
+                for share in [0, 1, limit / shares.max(1) as u32, u32::MAX] {
+                    for top in [0, desk.held[0].wrapping_sub(1), desk.held[0], limit, limit.saturating_add(1)] {
+                        let (assured, ceilings) = (vec![share; shares], vec![top; tops]);
+                        call_on(&desk, reference::desk::change(&desk, limit, &assured, &ceilings), |desk| {
+                            // SAFETY: a live desk and two slices that are read.
+                            unsafe { ffi::depot_desk_change(desk, limit, assured.as_ptr(), shares, ceilings.as_ptr(), tops) }
+                        });
+                    }
+                }
+            }
+        }
+    }
+}
+
 /// Desks at the edges of what calls can leave, and desks that they cannot.
 fn edge_desks() -> Vec<Desk> {
     let mut desks = vec![Desk::default()];
@@ -325,6 +347,7 @@ fn empty_buffers_may_have_any_pointer() {
         assert_eq!(ffi::depot_write(null_mut(), 0, null_mut(), 0, 1, null_mut(), 0).refusal, 10);
         assert_eq!(ffi::depot_write(null_mut(), 0, null_mut(), 0, 1, sheet.as_mut_ptr(), 8).length, 8);
         assert_eq!(ffi::depot_desk_open(&mut desk, 1, null_mut(), 0, null_mut(), 0), 11);
+        assert_eq!(ffi::depot_desk_change(&mut desk, 1, null_mut(), 0, null_mut(), 0), 14);
     }
     assert_eq!(sheet, [0, 0, 0, 0, 0, 0, 1, 0]);
 }

@@ -150,7 +150,7 @@ fn constant(text: &str, name: &str) -> usize {
 #[test]
 fn calls_agree() {
     let declared = c_calls();
-    assert_eq!(declared.len(), 9);
+    assert_eq!(declared.len(), 10);
     assert_eq!(calls(&source("crates/depot/src/lib.rt")), declared);
     assert_eq!(calls(&source("host/src/ffi.rs")), declared);
 }
@@ -226,12 +226,12 @@ fn refusals_agree() {
         .map(|(name, number)| (name.trim().to_string(), number.trim().to_string()))
         .collect();
     let mut expected = vec![("DEPOT_DONE".to_string(), "0".to_string())];
-    for refusal in (1..).map_while(Refusal::of_number) {
+    for refusal in Refusal::all() {
         let in_capitals = |c: char| if c.is_uppercase() { format!("_{c}") } else { c.to_uppercase().to_string() };
         let name: String = format!("{refusal:?}").chars().map(in_capitals).collect();
         expected.push((format!("DEPOT{name}"), refusal.number().to_string()));
     }
-    assert_eq!(expected.len(), 19);
+    assert_eq!(expected.len(), 21);
     assert_eq!(declared, expected);
 }
 

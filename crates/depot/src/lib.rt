@@ -13,14 +13,14 @@ ghost use Rattle.sheet_format.specs.Format.{jobsIn};
 ghost use Rattle.sheet.specs.Read.{reading};
 ghost use Rattle.sheet.specs.Label.{labelPlace};
 ghost use Rattle.sheet.specs.Write.{writeAnswer, writeLeaves};
-ghost use Rattle.desk.specs.Calls.{claimed, handedBack};
+ghost use Rattle.desk.specs.Calls.{claimed, handedBack, changed};
 ghost use Rattle.lent.specs.Lent.{openedOver, lookedAt};
 ghost use Rattle.depot.specs.Version.{version};
 
 // ---- the version
 
 // 0.1.0
-const VERSION: u32 = 3000;
+const VERSION: u32 = 4000;
 
 // The number of this library's version; the header has the same.
 #[no_mangle]
@@ -92,6 +92,22 @@ pub extern "C" fn depot_desk_open(
         × (now (desk .exit) ≡ openedOver (now (desk .entry)) limit (now (assured .entry)) (now (ceilings .entry)) .desk) ⌝ }
 {
     let answer = lent::opened_over(*desk, limit, assured, ceilings);
+    *desk = answer.desk;
+    answer.refusal
+}
+
+// Gives the lent desk a new limit, new shares and new ceilings; all holdings carry over. Refused, it is as before.
+#[no_mangle]
+pub extern "C" fn depot_desk_change(
+    desk: &mut Desk,
+    limit: u32,
+    assured: &[u32],
+    ceilings: &[u32],
+) -> u32
+    ensures { λ r. ⌜ (r ≡ changed (now (desk .entry)) limit (now (assured .entry)) (now (ceilings .entry)) .refusal)
+        × (now (desk .exit) ≡ changed (now (desk .entry)) limit (now (assured .entry)) (now (ceilings .entry)) .desk) ⌝ }
+{
+    let answer = share_change::change(*desk, limit, assured, ceilings);
     *desk = answer.desk;
     answer.refusal
 }

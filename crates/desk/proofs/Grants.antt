@@ -1,4 +1,4 @@
--- What it takes for no check of a call to fail, and so what an answered opening and a granted claim or hand-back tell.
+-- What it takes for no check of a call to fail, and so what an answered opening and a granted claim, hand-back or change tell.
 use mathlib.Core.Path.{_≡_, refl}
 use mathlib.Core.Bool.{Bool, true, false, not}
 use mathlib.Core.List.{List}
@@ -14,7 +14,8 @@ use Rattle.checking.proofs.Order.{all-passed, none-failing}
 use Rattle.desk.specs.declared.Desk.{Desk}
 use Rattle.desk.specs.Desk.{mostPower, fewestControllers, mostControllers, holding, ceilingOf, reservedForOthers}
 use Rattle.desk.specs.Checks.{inRange, wrongLengths, wrongPair, somePairWrong, wrongFigures, sharesInAll, sharesExceed}
-use Rattle.desk.specs.Checks.{notOfDesk, openChecks, bookingChecks, returnChecks}
+use Rattle.desk.specs.Checks.{notOfDesk, openChecks, bookingChecks, returnChecks, figureChecks}
+use Rattle.desk.specs.Checks.{wrongCount, someHoldsMore, raisedInAll, raisedExceed}
 use Rattle.desk.specs.Calls.{openRefusal, opened, claimRefusal, handBackRefusal}
 use Rattle.desk.proofs.Sound.{InRange, range-says, in-range, Sound, Here, of-desk-says, of-desk}
 
@@ -132,3 +133,27 @@ module _ (d : Desk) (c k : ℕ) where
   pub hand-back-granted : Sound d → c < d .count → Holds d c k → handBackRefusal d c k ≡ 0
   unfolding handBackRefusal firstFailing
   hand-back-granted s l h = rw (of-desk d c s l) (return-holds h)
+
+-- ---- new figures
+
+-- what it takes for a running desk to get new figures
+pub record Changes (d : Desk) (limit : ℕ) (assured ceilings : List ℕ) : Type 0 where
+  pub opens : Opens limit assured ceilings
+  pub count : length assured ≡ d .count
+  pub holds : (i : ℕ) → i < d .count → holding d i ≤ getD ceilings i 0
+  pub total : raisedInAll d assured ≤ limit
+
+module _ (d : Desk) (limit : ℕ) (assured ceilings : List ℕ) where
+  pub figures-say : firstFailing (figureChecks d limit assured ceilings) ≡ 0 → Changes d limit assured ceilings
+  unfolding wrongCount someHoldsMore raisedExceed opened openRefusal
+  figures-say e =
+      let p = all-passed (figureChecks d limit assured ceilings) refl e in
+      let same = not (eqb (length assured) (d .count)) in
+      record {
+        opens = open-says limit assured ceilings
+            (none-failing (openChecks limit assured ceilings)
+            (or-left (wrongLengths assured ceilings) same (p .0), (p .1 .0, (p .1 .1 .0, tt))));
+        count = eqb-true _ _ (not-false (eqb (length assured) (d .count)) (or-right (wrongLengths assured ceilings) same (p .0)));
+        holds = λ i l. ltb-false _ _ (any-none (d .count) (λ k. ltb (getD ceilings k 0) (holding d k)) (p .1 .1 .1 .0) i l);
+        total = ltb-false _ _ (p .1 .1 .1 .1 .0);
+      }

@@ -1,129 +1,24 @@
 -- F-6: a desk with every figure multiplied by the same s, and calls for s times as much, answer as before; a look shows s times as much.
 use mathlib.Core.Path.{_≡_, refl, sym, ap, _∙_}
-use mathlib.Core.Bool.{Bool, true, false, not, cond}
+use mathlib.Core.Bool.{Bool, true, false, cond}
 use mathlib.Core.List.{List, [], _∷_, map}
 use Prim.Native.Nat.{ℕ, _+_, _-_, _*_, _≤_}
-use native.Mathlib.Nat.{zero-mul, add-mul, le-mul-of-pos-right, le-trans}
-use lib.Dec.{ltb, leb, eqb}
-use lib.ListN.{length, getD, length-map}
-use borrow.Author.Tests.{le-leb}
-use Rattle.counting.specs.Counting.{only, sum, every}
-use Rattle.counting.proofs.Tests.{same-test, only-mul}
-use Rattle.counting.proofs.Sums.{sum-same, sum-mul}
-use Rattle.counting.proofs.Ranges.{any-same, every-at, every-intro}
-use Rattle.checking.specs.Checking.{firstFailing}
+use native.Mathlib.Nat.{zero-mul, add-mul}
+use lib.Dec.{eqb}
+use lib.ListN.{length-map}
 use Rattle.desk.specs.declared.Desk.{Desk}
-use Rattle.desk.specs.Desk.{mostPower, mostControllers, holding, assuredShare, ceilingOf, reserved, reservedForOthers}
-use Rattle.desk.specs.Desk.{newDesk, noDesk, withHolding}
-use Rattle.desk.specs.Checks.{inRange, ceilingBound, placeOkAt, deskOk, notOfDesk}
-use Rattle.desk.specs.Checks.{wrongLengths, wrongPair, somePairWrong, wrongFigures, sharesInAll, sharesExceed}
-use Rattle.desk.specs.Calls.{openRefusal, opened, claimRefusal, claimed, handBackRefusal, handedBack, lookRefusal, looked, room}
-use Rattle.desk.specs.Calls.{Call, claim, handBack, look, refusalOf, deskAfter, deskAfterAll}
+use Rattle.desk.specs.Desk.{mostPower, holding}
+use Rattle.desk.specs.Desk.{newDesk, noDesk, withHolding, withFigures}
+use Rattle.desk.specs.Calls.{openRefusal, opened, claimRefusal, claimed, handBackRefusal, handedBack, looked}
+use Rattle.desk.specs.Calls.{changeRefusal, changed, Call, claim, handBack, look, change, refusalOf, deskAfter, deskAfterAll}
 use Rattle.desk.specs.Rows.{figureOf}
-use Rattle.desk.specs.Scaling.{times, scaled, scaledCall, answers, scaledAnswers}
+use Rattle.desk.specs.Scaling.{times, scaled, scaledCall, LimitsFit, answers, scaledAnswers}
 use Rattle.desk.proofs.Holdings.{one-only}
-use Rattle.desk.proofs.Times.{ltb-times, leb-times, leb-one-times, max-times, min-times, sub-times, zero-times}
+use Rattle.desk.proofs.ScaledDesk.{claim-times, hand-back-times, look-times, shown-times, change-times, figures-scaled, open-times}
+use Rattle.desk.proofs.Times.{sub-times}
 use Rattle.desk.proofs.Times.{at-times, set-times, padded-times, zeros-times}
 
 module _ (s : ℕ) (one : 1 ≤ s) where
-  -- ---- the desk
-
-  module _ (d : Desk) where
-    pub reserved-times : (i : ℕ) → reserved (scaled s d) i ≡ reserved d i * s
-    reserved-times i = rw (at-times s (d .held) i, at-times s (d .assured) i) (max-times s (holding d i) (assuredShare d i))
-
-    pub reserves-times : sum (d .count) (reserved (scaled s d)) ≡ sum (d .count) (reserved d) * s
-    reserves-times = sum-same (d .count) _ _ (λ i l. reserved-times i) ∙ sum-mul (d .count) (reserved d) s
-
-    pub others-times : (c : ℕ) → reservedForOthers (scaled s d) c ≡ reservedForOthers d c * s
-    others-times c =
-        sum-same (d .count) _ _
-        (λ i l. ap (only (not (eqb i c))) (reserved-times i) ∙ sym (only-mul (not (eqb i c)) (reserved d i) s))
-        ∙ sum-mul (d .count) (λ i. only (not (eqb i c)) (reserved d i)) s
-
-    place-times : (i : ℕ) → placeOkAt (scaled s d) i ≡ placeOkAt d i
-    place-times i =
-        rw (
-          at-times s (d .held) i,
-          at-times s (d .assured) i,
-          at-times s (d .ceiling) i,
-          ← only-mul (ltb i (d .count)) (d .limit) s,
-          leb-times s one (assuredShare d i) (ceilingOf d i),
-          leb-times s one (holding d i) (ceilingOf d i),
-          leb-times s one (ceilingOf d i) (ceilingBound (d .limit) (d .count) i),
-        ) refl
-
-    places-times : every mostControllers (placeOkAt (scaled s d)) ≡ every mostControllers (placeOkAt d)
-    places-times =
-        same-test _ _
-        (λ e. every-intro mostControllers (placeOkAt d)
-        (λ i l. sym (place-times i) ∙ every-at mostControllers (placeOkAt (scaled s d)) e i l))
-        (λ e. every-intro mostControllers (placeOkAt (scaled s d))
-        (λ i l. place-times i ∙ every-at mostControllers (placeOkAt d) e i l))
-
-    range-times : d .limit * s ≤ mostPower → inRange 1 mostPower (d .limit * s) ≡ inRange 1 mostPower (d .limit)
-    range-times b =
-        let a : d .limit ≤ mostPower = le-trans (le-mul-of-pos-right (d .limit) one) b in
-        rw (leb-one-times s one (d .limit), le-leb (d .limit * s) mostPower b, le-leb (d .limit) mostPower a) refl
-
-    -- of every desk whose limit stays in bounds: it can be exactly when the old one can
-    pub scaled-ok : d .limit * s ≤ mostPower → deskOk (scaled s d) ≡ deskOk d
-    unfolding deskOk
-    scaled-ok b =
-        rw (
-          length-map (d .held) (λ (x : ℕ). x * s),
-          length-map (d .assured) (λ (x : ℕ). x * s),
-          length-map (d .ceiling) (λ (x : ℕ). x * s),
-          range-times b,
-          places-times,
-          reserves-times,
-          leb-times s one (sum (d .count) (reserved d)) (d .limit),
-        ) refl
-
-    -- ---- one call
-
-    module _ (b : d .limit * s ≤ mostPower) where
-      of-desk-times : (c : ℕ) → notOfDesk (scaled s d) c ≡ notOfDesk d c
-      unfolding notOfDesk
-      of-desk-times c = rw (scaled-ok b) refl
-
-      pub claim-times : (c k : ℕ) → claimRefusal (scaled s d) c (k * s) ≡ claimRefusal d c k
-      unfolding claimRefusal firstFailing
-      claim-times c k =
-          rw (
-            of-desk-times c,
-            zero-times s one k,
-            at-times s (d .ceiling) c,
-            at-times s (d .held) c,
-            others-times c,
-            ← add-mul (holding d c) k s,
-            ← add-mul (holding d c + k) (reservedForOthers d c) s,
-            ltb-times s one (ceilingOf d c) (holding d c + k),
-            ltb-times s one (d .limit) (holding d c + k + reservedForOthers d c),
-          ) refl
-
-      pub hand-back-times : (c k : ℕ) → handBackRefusal (scaled s d) c (k * s) ≡ handBackRefusal d c k
-      unfolding handBackRefusal firstFailing
-      hand-back-times c k = rw (of-desk-times c, zero-times s one k, at-times s (d .held) c, ltb-times s one (holding d c) k) refl
-
-      pub look-times : (c : ℕ) → lookRefusal (scaled s d) c ≡ lookRefusal d c
-      unfolding lookRefusal firstFailing
-      look-times c = rw (of-desk-times c) refl
-
-      pub shown-times : (c : ℕ) → looked (scaled s d) c .power ≡ looked d c .power * s
-      unfolding looked
-      shown-times c =
-          rw (
-            look-times c,
-            at-times s (d .ceiling) c,
-            at-times s (d .held) c,
-            others-times c,
-            sub-times s (ceilingOf d c) (holding d c),
-            ← add-mul (holding d c) (reservedForOthers d c) s,
-            sub-times s (d .limit) (holding d c + reservedForOthers d c),
-            min-times s (ceilingOf d c - holding d c) (d .limit - (holding d c + reservedForOthers d c)),
-          ) (sym (only-mul (eqb (lookRefusal d c) 0) (room d c) s))
-
   -- ---- lists of calls
 
   -- A call on the scaled desk gives the old number, leaves the scaled desk, and shows s times the figure.
@@ -145,32 +40,61 @@ module _ (s : ℕ) (one : 1 ≤ s) where
   cond-scaled true e d f q = q
   cond-scaled false e d f q = refl
 
-  call-scales : (d : Desk) → d .limit * s ≤ mostPower → (x : Call) → Scales d x
-  unfolding claimed handedBack looked
-  call-scales d b (claim c k) = record {
-    refusal = claim-times d b c k;
-    desk = rw (claim-times d b c k) (cond-scaled (eqb (claimRefusal d c k) 0) _ d _
+  -- the call brings no limit that is out of bounds
+  abbrev LimitFits : Call → Type 0
+  LimitFits x = LimitsFit s (x ∷ [])
+
+  call-scales : (d : Desk) → d .limit * s ≤ mostPower → (x : Call) → LimitFits x → Scales d x
+  unfolding claimed handedBack looked changed
+  call-scales d b (claim c k) m = record {
+    refusal = claim-times s one d b c k;
+    desk = rw (claim-times s one d b c k) (cond-scaled (eqb (claimRefusal d c k) 0) _ d _
         (rw (at-times s (d .held) c, ← add-mul (holding d c) k s) (held-scaled d c (holding d c + k))));
     figure = sym (zero-mul s);
   }
-  call-scales d b (handBack c k) = record {
-    refusal = hand-back-times d b c k;
-    desk = rw (hand-back-times d b c k) (cond-scaled (eqb (handBackRefusal d c k) 0) _ d _
+  call-scales d b (handBack c k) m = record {
+    refusal = hand-back-times s one d b c k;
+    desk = rw (hand-back-times s one d b c k) (cond-scaled (eqb (handBackRefusal d c k) 0) _ d _
         (rw (at-times s (d .held) c, sub-times s (holding d c) k) (held-scaled d c (holding d c - k))));
     figure = sym (zero-mul s);
   }
-  call-scales d b (look c) = record { refusal = look-times d b c; desk = refl; figure = shown-times d b c }
+  call-scales d b (look c) m = record { refusal = look-times s one d b c; desk = refl; figure = shown-times s one d b c }
+  call-scales d b (change l a t) m = record {
+    refusal = change-times s one d b l a t (m .0);
+    desk = rw (change-times s one d b l a t (m .0))
+        (cond-scaled (eqb (changeRefusal d l a t) 0) _ d _ (figures-scaled s one d b l a t (m .0)));
+    figure = sym (zero-mul s);
+  }
 
-  -- Of every desk, one that cannot be too, and of every list of calls: where L times s is in bounds, the desk and the calls with every
-  -- figure multiplied by s are granted and refused exactly as before, looks give the old figure times s, and what is left is the old
-  -- desk times s.
-  pub calls-scale : (d : Desk) → d .limit * s ≤ mostPower → (l : List Call)
+  limit-cond : (t : Bool) (d : Desk) (l : ℕ) (a u : List ℕ) → d .limit * s ≤ mostPower → l * s ≤ mostPower
+      → cond t (withFigures d l a u) d .limit * s ≤ mostPower
+  limit-cond true d l a u b m = m
+  limit-cond false d l a u b m = b
+
+  limit-after : (d : Desk) → d .limit * s ≤ mostPower → (x : Call) → LimitFits x → deskAfter d x .limit * s ≤ mostPower
+  unfolding changed
+  limit-after d b (claim c k) m = rw (one-only d (claim c k) refl .limit) b
+  limit-after d b (handBack c k) m = rw (one-only d (handBack c k) refl .limit) b
+  limit-after d b (look c) m = rw (one-only d (look c) refl .limit) b
+  limit-after d b (change l a t) m = limit-cond (eqb (changeRefusal d l a t) 0) d l a t b (m .0)
+
+  first-fits : (x : Call) (l : List Call) → LimitsFit s (x ∷ l) → LimitFits x × LimitsFit s l
+  first-fits (claim c k) l m = (tt, m)
+  first-fits (handBack c k) l m = (tt, m)
+  first-fits (look c) l m = (tt, m)
+  first-fits (change n a t) l m = ((m .0, tt), m .1)
+
+  -- Of every desk, one that cannot be too, and of every list of calls: where L times s is in bounds, of the desk and of every change, the
+  -- desk and the calls with every figure multiplied by s are granted and refused exactly as before, looks give the old figure times s, and
+  -- what is left is the old desk times s.
+  pub calls-scale : (d : Desk) → d .limit * s ≤ mostPower → (l : List Call) → LimitsFit s l
       → (answers (scaled s d) (map (scaledCall s) l) ≡ scaledAnswers s (answers d l))
       × (deskAfterAll (scaled s d) (map (scaledCall s) l) ≡ scaled s (deskAfterAll d l))
-  calls-scale d b [] = (refl, refl)
-  calls-scale d b (x ∷ l) =
-      let h = call-scales d b x in
-      let r = calls-scale (deskAfter d x) (rw (one-only d x .limit) b) l in (
+  calls-scale d b [] m = (refl, refl)
+  calls-scale d b (x ∷ l) m =
+      let f = first-fits x l m in
+      let h = call-scales d b x (f .0) in
+      let r = calls-scale (deskAfter d x) (limit-after d b x (f .0)) l (f .1) in (
         rw (h .refusal, h .figure, h .desk, r .0) refl,
         ap (λ (e : Desk). deskAfterAll e (map (scaledCall s) l)) (h .desk) ∙ r .1,
       )
@@ -178,35 +102,6 @@ module _ (s : ℕ) (one : 1 ≤ s) where
   -- ---- opening
 
   module _ (limit : ℕ) (a t : List ℕ) (m : limit * s ≤ mostPower) where
-    lengths-times : wrongLengths (times s a) (times s t) ≡ wrongLengths a t
-    unfolding wrongLengths
-    lengths-times = rw (length-map a (λ (x : ℕ). x * s), length-map t (λ (x : ℕ). x * s)) refl
-
-    pairs-times : somePairWrong (limit * s) (times s a) (times s t) ≡ somePairWrong limit a t
-    pairs-times =
-        rw (length-map a (λ (x : ℕ). x * s))
-        (any-same (length a) (λ i. wrongPair (limit * s) (getD (times s a) i 0) (getD (times s t) i 0))
-        (λ i. wrongPair limit (getD a i 0) (getD t i 0))
-        (λ i l. rw (at-times s a i, at-times s t i, ltb-times s one (getD t i 0) (getD a i 0), ltb-times s one limit (getD t i 0)) refl))
-
-    figures-times : wrongFigures (limit * s) (times s a) (times s t) ≡ wrongFigures limit a t
-    unfolding wrongFigures
-    figures-times =
-        let n : limit ≤ mostPower = le-trans (le-mul-of-pos-right limit one) m in
-        rw (leb-one-times s one limit, le-leb (limit * s) mostPower m, le-leb limit mostPower n, pairs-times) refl
-
-    shares-times : sharesExceed (limit * s) (times s a) ≡ sharesExceed limit a
-    unfolding sharesExceed
-    shares-times =
-        let e : sharesInAll (times s a) ≡ sharesInAll a * s =
-        rw (length-map a (λ (x : ℕ). x * s))
-        (sum-same (length a) _ _ (λ i l. at-times s a i) ∙ sum-mul (length a) (λ i. getD a i 0) s) in
-        rw (e, ltb-times s one limit (sharesInAll a)) refl
-
-    open-times : openRefusal (limit * s) (times s a) (times s t) ≡ openRefusal limit a t
-    unfolding openRefusal firstFailing
-    open-times = rw (lengths-times, figures-times, shares-times) refl
-
     new-scaled : newDesk (limit * s) (times s a) (times s t) ≡ scaled s (newDesk limit a t)
     new-scaled i = record {
       count = length-map a (λ (x : ℕ). x * s) i;
@@ -229,7 +124,7 @@ module _ (s : ℕ) (one : 1 ≤ s) where
     pub opening-scales : (opened (limit * s) (times s a) (times s t) .refusal ≡ opened limit a t .refusal)
         × (opened (limit * s) (times s a) (times s t) .desk ≡ scaled s (opened limit a t .desk))
     unfolding opened
-    opening-scales = (open-times, rw open-times (go (eqb (openRefusal limit a t) 0)))
+    opening-scales = (open-times s one limit a t m, rw (open-times s one limit a t m) (go (eqb (openRefusal limit a t) 0)))
       where
         go : (b : Bool) → cond b (newDesk (limit * s) (times s a) (times s t)) noDesk ≡ scaled s (cond b (newDesk limit a t) noDesk)
         go true = new-scaled

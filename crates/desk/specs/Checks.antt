@@ -1,7 +1,7 @@
--- C-11 to C-18: each test is true where its check fails. A call gives the first that fails.
+-- C-11 to C-18, and 21 and 22 of F-7: each test is true where its check fails. A call gives the first that fails.
 use mathlib.Core.Bool.{Bool, not, _&&_, _||_}
 use mathlib.Core.List.{List, [], _∷_}
-use Prim.Native.Nat.{ℕ, _+_}
+use Prim.Native.Nat.{ℕ, _+_, max}
 use lib.Dec.{ltb, leb, eqb}
 use lib.ListN.{length, getD}
 use Rattle.counting.specs.Counting.{only, sum, every, any}
@@ -89,6 +89,24 @@ doesNotFit d c k = ltb (d .limit) (holding d c + k + reservedForOthers d c)
 abbrev pub exceedsHolding : Desk → ℕ → ℕ → Bool
 exceedsHolding d c k = ltb (holding d c) k
 
+-- ---- a change of the figures: the desk, the new limit, the new shares and the new ceilings
+
+-- 11 "also refuses a changed number of controllers".
+unfoldable pub wrongCount : Desk → List ℕ → List ℕ → Bool
+wrongCount d assured ceilings = wrongLengths assured ceilings || not (eqb (length assured) (d .count))
+
+-- 21. "some holding exceeds its new ceiling"
+unfoldable pub someHoldsMore : Desk → List ℕ → Bool
+someHoldsMore d ceilings = any (d .count) (λ i. ltb (getD ceilings i 0) (holding d i))
+
+-- "the holdings, each raised to its new assured share where that is larger", added up
+abbrev pub raisedInAll : Desk → List ℕ → ℕ
+raisedInAll d assured = sum (d .count) (λ i. max (holding d i) (getD assured i 0))
+
+-- 22. They "add up to more than the new L".
+unfoldable pub raisedExceed : Desk → ℕ → List ℕ → Bool
+raisedExceed d limit assured = ltb limit (raisedInAll d assured)
+
 -- ---- in order
 
 -- "Opening checks 11 to 13; claims 14 to 17; hand-backs 14, 15, 18; looks 14."
@@ -111,3 +129,17 @@ handBackChecks d c k = (14, notOfDesk d c) ∷ returnChecks d c k
 
 abbrev pub lookChecks : Desk → ℕ → List Check
 lookChecks d c = (14, notOfDesk d c) ∷ []
+
+-- the checks of a change on a desk that can be: "12 and 13 apply to the new figures", 21 "checked after 13", 22 "checked after 21"
+abbrev pub figureChecks : Desk → ℕ → List ℕ → List ℕ → List Check
+figureChecks d limit assured ceilings =
+    (11, wrongCount d assured ceilings)
+    ∷ (12, wrongFigures limit assured ceilings)
+    ∷ (13, sharesExceed limit assured)
+    ∷ (21, someHoldsMore d ceilings)
+    ∷ (22, raisedExceed d limit assured)
+    ∷ []
+
+-- "14, for the desk, comes before 11"
+abbrev pub changeChecks : Desk → ℕ → List ℕ → List ℕ → List Check
+changeChecks d limit assured ceilings = (14, not (deskOk d)) ∷ figureChecks d limit assured ceilings

@@ -68,3 +68,13 @@ withHolding d c h = record {
   assured = d .assured;
   ceiling = d .ceiling;
 }
+
+-- F-7: the desk with a new limit, new shares and new ceilings: "all holdings carry over"
+abbrev pub withFigures : Desk → ℕ → List ℕ → List ℕ → Desk
+withFigures d limit assured ceilings = record {
+  count = d .count;
+  limit = limit;
+  held = d .held;
+  assured = padded assured;
+  ceiling = padded ceilings;
+}

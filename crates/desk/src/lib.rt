@@ -1,5 +1,5 @@
 // The share desk: the power that 2 to 8 controllers hold on one feeder, in hundreds of watts.
-// A call takes the desk and hands back the desk as it then is. The crate `opening` opens one.
+// A call takes the desk and hands back the desk as it then is. The crate `opening` opens one, `share_change` gives it new figures.
 ghost use mathlib.Core.Path.{_≡_};
 ghost use mathlib.Core.Bool.{true, false};
 ghost use Prim.Native.Nat.{_≤_, _<_, _-_, max, min};
@@ -38,7 +38,7 @@ pub struct Opened {
     pub desk: Desk,
 }
 
-// What a claim or a hand-back answers: the refusal's number, or 0, and the desk as it then is.
+// What a claim, a hand-back or a change answers: the refusal's number, or 0, and the desk as it then is.
 pub struct Booked {
     pub refusal: u32,
     pub desk: Desk,
@@ -142,7 +142,7 @@ impl Desk {
     }
 
     // Whether every place is, those past the last controller too.
-    fn places_ok(self) -> bool
+    pub fn places_ok(self) -> bool
         ensures { λ r. ⌜ r ≡ every mostControllers (placeOkAt self) ⌝ }
     {
         let mut i: usize = 0;
@@ -171,7 +171,7 @@ impl Desk {
     }
 
     // The desk is one that an answered opening and later calls can leave.
-    fn ok(self) -> bool
+    pub fn ok(self) -> bool
         ensures { λ r. ⌜ r ≡ deskOk self ⌝ }
     {
         if !in_range(FEWEST_CONTROLLERS, MOST_CONTROLLERS, self.count as usize) {

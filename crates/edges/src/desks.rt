@@ -103,10 +103,51 @@ fn hand_backs() {
     hand_back(b"a hand-back by controller 2 of 2", 2, 5);
 }
 
+// Gives a desk equal shares and equal ceilings for so many controllers.
+fn change_on(desk: Desk, name: &[u8], limit: u32, share: u32, ceiling: u32, count: usize) {
+    let assured = [share; 9];
+    let ceilings = [ceiling; 9];
+    if count <= 9 {
+        let booked = share_change::change(desk, limit, &assured[0..count], &ceilings[0..count]);
+        print_case(name, booked.refusal);
+        look(booked.desk, 1);
+    }
+}
+
+// The same where controller 1 of two holds 5.
+fn change(name: &[u8], limit: u32, share: u32, ceiling: u32, count: usize) {
+    let desk = small(12);
+    let held = desk.claim(1, 5).desk;
+    change_on(held, name, limit, share, ceiling, count);
+}
+
+fn changes() {
+    change(b"a change to the limit", 400000, 4, 12, 2);
+    change(b"a change to one more", 400001, 4, 12, 2);
+    change(b"a change to no limit", 0, 0, 0, 2);
+    change(b"a change to ceilings of what is held", 12, 4, 5, 2);
+    change(b"a change to ceilings of less", 12, 4, 4, 2);
+    change(b"a change to what is held and assured", 9, 4, 9, 2);
+    change(b"a change to less", 8, 4, 8, 2);
+    change(b"a change to shares of one more", 7, 4, 7, 2);
+    change(b"a change to 3 controllers", 12, 4, 12, 3);
+    change(b"a change to 1 controller", 12, 4, 12, 1);
+    let none = small(13);
+    change_on(
+        none,
+        b"a change of a desk that was not opened",
+        12,
+        4,
+        12,
+        3,
+    );
+}
+
 pub fn run() {
     lists();
     limits();
     pairs();
     claims();
     hand_backs();
+    changes();
 }

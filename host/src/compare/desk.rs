@@ -47,6 +47,32 @@ fn opening(random: &mut Random) -> (u32, Vec<u32>, Vec<u32>) {
     (limit, assured, ceilings)
 }
 
+/// The figures of a change that is often granted: near what is held and reserved.
+fn new_figures(random: &mut Random, desk: &Desk) -> (u32, Vec<u32>, Vec<u32>) {
+    let count = desk.count.min(9) as usize;
+    let held = |i: usize| *desk.held.get(i).unwrap_or(&0);
+    let reserve = |i: usize| held(i).max(*desk.assured.get(i).unwrap_or(&0));
+    let [in_hand, in_all] =
+        [&held as &dyn Fn(usize) -> u32, &reserve].map(|of| (0..count).fold(0u32, |sum, i| sum.wrapping_add(of(i))));
+    let near = random.pick(&[in_hand, in_all, desk.limit, desk.limit.saturating_mul(2), MOST_POWER]);
+    let limit = if random.percent(80) { near } else { figure(random, near) };
+    let top = |random: &mut Random, i: usize| random.pick(&[limit, limit, held(i), held(i).wrapping_sub(1), limit / 2]);
+    let mut ceilings: Vec<u32> = (0..count).map(|i| top(random, i)).collect();
+    let share = |random: &mut Random, top: u32| random.pick(&[0, top / 2, top, top.min(limit / count.max(1) as u32)]);
+    let mut assured: Vec<u32> = ceilings.iter().map(|top| share(random, *top)).collect();
+    match random.place(20) {
+        0 => assured.push(0),
+        1 => ceilings.push(limit),
+        2 => {
+            assured.pop();
+            ceilings.pop();
+        }
+        3 => assured.iter_mut().for_each(|share| *share = figure(random, limit)),
+        _ => {}
+    }
+    (limit, assured, ceilings)
+}
+
 /// A desk that no calls left: an opened one with some figures changed, or any figures at all.
 fn any_desk(random: &mut Random, opened: Desk) -> Desk {
     let mut desk = opened;
@@ -74,15 +100,15 @@ fn any_desk(random: &mut Random, opened: Desk) -> Desk {
 }
 
 /// Kinds of calls, and the numbers that each can answer.
-pub const KINDS: [(usize, &[usize]); 4] =
-    [(0, &[0, 11, 12, 13]), (1, &[0, 14, 15, 16, 17]), (2, &[0, 14, 15, 18]), (3, &[0, 14])];
+pub const KINDS: [(usize, &[usize]); 5] =
+    [(0, &[0, 11, 12, 13]), (1, &[0, 14, 15, 16, 17]), (2, &[0, 14, 15, 18]), (3, &[0, 14]), (4, &[0, 11, 12, 13, 14, 21, 22])];
 
 const CALLS: usize = 20;
 
 /// How often each number was answered by each kind of call.
 #[derive(Default)]
 pub struct Answers {
-    pub by: [[usize; 19]; 4],
+    pub by: [[usize; 23]; 5],
     /// How many desks were compared with the desk of larger modules.
     pub scaled: usize,
 }
@@ -130,6 +156,16 @@ impl Answers {
         self.same(0, answer, (&before, desk), expected, &|| format!("open {limit} {assured:?} {ceilings:?}"));
     }
 
+    fn change(&mut self, random: &mut Random, desk: &mut Desk) {
+        let (limit, assured, ceilings) = new_figures(random, desk);
+        let before = *desk;
+        // SAFETY: live slices and a live desk.
+        let answer =
+            unsafe { ffi::depot_desk_change(desk, limit, assured.as_ptr(), assured.len(), ceilings.as_ptr(), ceilings.len()) };
+        let expected = reference::change(&before, limit, &assured, &ceilings);
+        self.same(4, answer, (&before, desk), expected, &|| format!("change {limit} {assured:?} {ceilings:?}"));
+    }
+
     fn claim(&mut self, random: &mut Random, desk: &mut Desk, controller: u32) {
         let room = reference::look(desk, controller).unwrap_or(10);
         let power = if random.percent(10) { greedy(random, desk, controller) } else { figure(random, room) };
@@ -159,7 +195,7 @@ impl Answers {
         self.same(3, looked.refusal, (&before, desk), expected.map(|_| before), &|| format!("look {controller}"));
     }
 
-    /// Opens a desk, changes its figures now and then, and makes calls on it.
+    /// Opens a desk, spoils its figures now and then, and makes calls on it.
     pub fn on_a_desk(&mut self, random: &mut Random) {
         let mut desk = Desk { count: random.word() as u32, ..Desk::default() };
         self.open(random, &mut desk);
@@ -175,9 +211,10 @@ impl Answers {
                 let (power, s) = (figure(random, 10), random.pick(&[1, 2, 3, 300, 500, 10_000]));
                 self.scaled += usize::from(same_times(&desk, controller, power, s));
             }
-            match random.place(5) {
+            match random.place(6) {
                 0 | 1 => self.claim(random, &mut desk, controller),
                 2 | 3 => self.hand_back(random, &mut desk, controller),
+                4 => self.change(random, &mut desk),
                 _ => self.look(&mut desk, controller),
             }
         }

@@ -1,4 +1,4 @@
-//! The share desk: openings, claims, hand-backs and looks, and which desks calls can leave.
+//! The share desk: openings, changes, claims, hand-backs and looks, and which desks calls can leave.
 use crate::{Desk, MOST_POWER};
 
 /// A controller's figures, wide enough for every sum.
@@ -43,11 +43,11 @@ pub fn open(limit: u32, assured: &[u32], ceilings: &[u32]) -> Result<Desk, u32> 
 
 /// Whether an answered opening and later calls can leave this desk.
 ///
-/// The limit, the shares and the ceilings stay as they were opened, so opening must take them, and past the last controller all is 0.
-/// Of the holdings two things hold at opening and after every granted call: each is within its ceiling, and the reserves of all
-/// controllers add up to no more than L. (A claim that raises its controller's reserve was granted beside those of the others;
-/// a hand-back raises none.) Where both hold, one claim by each controller for its holding leaves the desk: no sum on the way
-/// exceeds the one at the end.
+/// The limit, the shares and the ceilings are those of the opening or of a change, so opening must take them, and past the last
+/// controller all is 0. Of the holdings two things hold at opening and after every granted call: each is within its ceiling, and the
+/// reserves of all controllers add up to no more than L. (A claim that raises its controller's reserve was granted beside those of the
+/// others; a hand-back raises none; a change checks both, 21 and 22.) Where both hold, an opening with these figures and one claim by
+/// each controller for its holding leave the desk: no sum on the way exceeds the one at the end.
 pub fn can_be_left(desk: &Desk) -> bool {
     let count = desk.count as usize;
     if count > 8 || open(desk.limit, &desk.assured[..count], &desk.ceiling[..count]).is_err() {
@@ -58,6 +58,26 @@ pub fn can_be_left(desk: &Desk) -> bool {
     past.iter().all(|place| place.held == 0 && place.assured == 0 && place.ceiling == 0)
         && controllers.iter().all(|place| place.held <= place.ceiling)
         && controllers.iter().map(Place::reserved).sum::<u64>() <= u64::from(desk.limit)
+}
+
+/// A change of the figures: the desk as it then is, or the number of the first check that fails.
+pub fn change(desk: &Desk, limit: u32, assured: &[u32], ceilings: &[u32]) -> Result<Desk, u32> {
+    if !can_be_left(desk) {
+        return Err(14);
+    }
+    let opened = open(limit, assured, ceilings);
+    if opened == Err(11) || assured.len() != desk.count as usize {
+        return Err(11);
+    }
+    let next = Desk { held: desk.held, ..opened? };
+    let places = places(&next);
+    if places.iter().any(|place| place.held > place.ceiling) {
+        return Err(21);
+    }
+    if places.iter().map(Place::reserved).sum::<u64>() > u64::from(limit) {
+        return Err(22);
+    }
+    Ok(next)
 }
 
 /// Whether check 14 fails.

@@ -13,4 +13,7 @@ pub fn measure() {
     println!("  claim refused    {:>7.1}", nanoseconds(|i| refused.claim(i % 8, MOST_POWER).is_ok()));
     let opening = nanoseconds(|i| Desk::open(MOST_POWER, &[i % 50_000; 8], &[MOST_POWER; 8]).is_ok());
     println!("  opening          {opening:>7.1}");
+    let mut changed = desk;
+    let change = nanoseconds(|i| changed.change(MOST_POWER, &[i % 50_000; 8], &[MOST_POWER; 8]).is_ok());
+    println!("  change           {change:>7.1}");
 }

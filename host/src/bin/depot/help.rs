@@ -11,7 +11,7 @@ usage: depot VERB ..
   depot plan LIST.csv --svg OUT  and as a picture; --html OUT for a page
   depot sheet LIST.csv -o FILE   a list to a job sheet, the bytes that a cabinet takes
   depot list FILE                a job sheet back to a list
-  depot desk                     an interactive share desk: open, claim, back, look, show
+  depot desk                     an interactive share desk: open, change, claim, back, look, show
   depot explain N                what refusal N means and what to do
   depot VERB --help              the options of a verb, and the list's format
 
@@ -78,6 +78,7 @@ usage: depot desk [SCRIPT] [--json]
 A share desk that takes a command from each line of standard input, or of a script file:
 
   open LIMIT SHARE/CEILING ..   opens a desk for 2 to 8 controllers; NAME=SHARE/CEILING gives one a name
+  change LIMIT SHARE/CEILING .. gives the desk new figures; what is held stays; NAME=SHARE/CEILING for the controller of that name
   claim CONTROLLER KW           claims power
   back CONTROLLER KW            hands power back
   look [CONTROLLER]             the largest claim that would be granted now
@@ -96,7 +97,7 @@ Exit status: 0 every call was answered; 1 some call was refused; 2 some line is 
 const EXPLAIN: &str = "\
 usage: depot explain [N] [--json]
 
-What refusal N, 1 to 18, means, which calls refuse with it, and what to do. Without N, all of them in a line each.
+What refusal N, 1 to 18, 21 or 22, means, which calls refuse with it, and what to do. Without N, all of them in a line each.
 ";
 
 /// Whether help is asked for among these words.

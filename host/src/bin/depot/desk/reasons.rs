@@ -12,6 +12,31 @@ pub fn most_in_words(name: &str, most: u32) -> String {
     format!("{name} may claim up to {} kW now", in_kw(most))
 }
 
+/// Why a change was refused.
+pub fn of_change(desk: &Desk, limit: u32, places: &[Place], refusal: Refusal) -> Vec<String> {
+    let held = |i: usize| desk.held[i];
+    match refusal {
+        Refusal::ListLengths => vec![format!("{} given; this desk has {} controllers", places.len(), desk.count)],
+        Refusal::HoldingAboveCeiling => {
+            let above = places.iter().enumerate().filter(|(i, place)| held(*i) > place.ceiling);
+            let words = |(i, place): (usize, &Place)| {
+                format!("{}: holds {} kW, above its new ceiling {}", place.name, in_kw(held(i)), in_kw(place.ceiling))
+            };
+            above.map(words).collect()
+        }
+        Refusal::HoldingsExceedLimit => {
+            let raised = || places.iter().enumerate().map(|(i, place)| u64::from(held(i).max(place.assured)));
+            let mut lines: Vec<String> =
+                places.iter().enumerate().map(|(i, place)| reserve(&place.name, held(i), place.assured)).collect();
+            let sums: Vec<String> = raised().map(in_kw).collect();
+            let all = in_kw(raised().sum::<u64>());
+            lines.push(format!("{} = {all} kW; the new limit is {}", sums.join(" + "), in_kw(limit)));
+            lines
+        }
+        _ => of_opening(limit, places, refusal),
+    }
+}
+
 /// Why an opening was refused.
 pub fn of_opening(limit: u32, places: &[Place], refusal: Refusal) -> Vec<String> {
     match refusal {
@@ -59,7 +84,7 @@ pub fn of_call(desk: &Desk, names: &[String], controller: u32, power: u32, refus
         Refusal::DoesNotFit => {
             let others: Vec<usize> = (0..desk.count as usize).filter(|i| *i != own).collect();
             let mut lines = vec![claim];
-            lines.extend(others.iter().map(|i| reserve(desk, &names[*i], *i)));
+            lines.extend(others.iter().map(|i| reserve(&names[*i], desk.held[*i], desk.assured[*i])));
             let reserved: u64 = others.iter().map(|i| u64::from(desk.held[*i].max(desk.assured[*i]))).sum();
             let [own, rest, all] = [sum, reserved, sum + reserved].map(in_kw);
             lines.push(format!("{own} + {rest} for the others = {all} kW; the limit is {}", in_kw(desk.limit)));
@@ -73,9 +98,8 @@ pub fn of_call(desk: &Desk, names: &[String], controller: u32, power: u32, refus
     }
 }
 
-/// What is kept for another controller: the larger of its holding and its assured share.
-fn reserve(desk: &Desk, name: &str, i: usize) -> String {
-    let (held, assured) = (desk.held[i], desk.assured[i]);
+/// What is kept for a controller: the larger of its holding and its assured share.
+fn reserve(name: &str, held: u32, assured: u32) -> String {
     let [holds, share, larger] = [held, assured, held.max(assured)].map(in_kw);
     format!("{name}: holds {holds}, is assured {share}; the larger, {larger} kW, counts")
 }

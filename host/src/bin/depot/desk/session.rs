@@ -28,12 +28,14 @@ impl Session {
     pub fn call(&mut self, command: Command) -> Result<Answer, String> {
         match command {
             Command::Open { limit, places } => Ok(self.open(limit, places)),
+            Command::Change { limit, places } => self.change(limit, places),
             Command::Claim { controller, power } => self.book("claim", controller, power),
             Command::Back { controller, power } => self.book("back", controller, power),
             Command::Look(controller) => self.look(controller),
             Command::Show => self.show(),
             Command::Explain(number) => {
-                let refusal = Refusal::of_number(number).ok_or(format!("found '{number}'; allowed: refusals 1 to 18"))?;
+                let refusal =
+                    Refusal::of_number(number).ok_or(format!("found '{number}'; allowed: refusals {}", Refusal::NUMBERS))?;
                 let text = explain::words_of(refusal);
                 Ok(Answer::Said { json: json::object(&[("explain", json::text(&text))]), text, refused: false })
             }
@@ -47,8 +49,7 @@ impl Session {
     }
 
     fn open(&mut self, limit: u32, places: Vec<Place>) -> Answer {
-        let assured: Vec<u32> = places.iter().map(|place| place.assured).collect();
-        let ceilings: Vec<u32> = places.iter().map(|place| place.ceiling).collect();
+        let (assured, ceilings) = figures_of(&places);
         let head = [("call", json::text("open")), ("limit_kw", in_kw(limit))];
         match Desk::open(limit, &assured, &ceilings) {
             Ok(desk) => {
@@ -60,6 +61,23 @@ impl Session {
             }
             Err(refusal) => refused(&head, refusal, reasons::of_opening(limit, &places, refusal)),
         }
+    }
+
+    fn change(&mut self, limit: u32, places: Vec<Place>) -> Result<Answer, String> {
+        let desk = self.desk()?;
+        let before = *desk;
+        let (assured, ceilings) = figures_of(&places);
+        let answer = desk.change(limit, &assured, &ceilings);
+        let after = *desk;
+        let head = [("call", json::text("change")), ("limit_kw", in_kw(limit))];
+        Ok(match answer {
+            Ok(()) => {
+                let text = format!("changed\n{}", bars::text(&after, &self.names));
+                let json = json::object(&[&head[..], &self.figures(&after)].concat());
+                Answer::Said { text, json, refused: false }
+            }
+            Err(refusal) => refused(&head, refusal, reasons::of_change(&before, limit, &places, refusal)),
+        })
     }
 
     /// A claim or a hand-back.
@@ -121,6 +139,11 @@ impl Session {
         };
         vec![("controllers", json::list((0..desk.count as usize).map(of)))]
     }
+}
+
+/// The shares and the ceilings.
+fn figures_of(places: &[Place]) -> (Vec<u32>, Vec<u32>) {
+    places.iter().map(|place| (place.assured, place.ceiling)).unzip()
 }
 
 fn refused(head: &[(&str, String)], refusal: Refusal, why: Vec<String>) -> Answer {
