@@ -34,8 +34,8 @@ extern "C" {
 /* ---- the version ------------------------------------------------------------------------------------------------------------- */
 
 /* Of this header, and as a number: major * 1000000 + minor * 1000 + patch. Bytes of sheets and cards may differ between minors. */
-#define DEPOT_VERSION "0.1.0"
-#define DEPOT_VERSION_NUMBER 1000
+#define DEPOT_VERSION "0.4.0"
+#define DEPOT_VERSION_NUMBER 4000
 
 /*
  * The number of the library that is linked. Compare it with DEPOT_VERSION_NUMBER at the start, so that header and library belong
@@ -46,38 +46,41 @@ uint32_t depot_version(void);
 /* ---- refusals ---------------------------------------------------------------------------------------------------------------- */
 
 /*
- * What a call answers: 0, or the number of the first check that fails. Each call makes its checks in the order of these numbers.
+ * What a call answers: 0, or the number of the first check that fails. Each call makes its checks in the order of these numbers; but
+ * depot_desk_change makes 14 first.
  */
 enum depot_refusal {
     DEPOT_DONE = 0,
-    DEPOT_SHEET_LENGTH = 1,         /* the sheet has fewer than 8 or more than 448 bytes */
-    DEPOT_TOO_MANY_JOBS = 2,        /* there are more than 20 jobs */
-    DEPOT_CABINET_SIZE = 3,         /* the cabinet has no modules or more than 64 */
-    DEPOT_RECORD_OFFSET = 4,        /* the record offset plus 10 for each job plus 8 is not the sheet's length */
-    DEPOT_RECORD_FIELD = 5,         /* some record has a field outside its range, or a bit for an earlier job that there is not */
-    DEPOT_LABEL_LENGTHS = 6,        /* the label lengths do not add up to the label bytes there are */
-    DEPOT_LABEL_BYTE = 7,           /* some label byte is below 33 or above 126 */
-    DEPOT_OVER_WIDE = 8,            /* some job needs more modules than the cabinet has */
-    DEPOT_CIRCULAR = 9,             /* some job would have to end before itself, directly or through others */
-    DEPOT_BUFFER_TOO_SHORT = 10,    /* the lent buffer for the card, or for the written sheet, is too short */
-    DEPOT_LIST_LENGTHS = 11,        /* shares and ceilings are not two lists of one length, 2 to 8 */
-    DEPOT_DESK_FIGURES = 12,        /* the limit is not 1 to 4096, a share exceeds its ceiling, or a ceiling exceeds the limit */
-    DEPOT_SHARES_EXCEED_LIMIT = 13, /* the assured shares add up to more than the limit */
-    DEPOT_NO_SUCH_NUMBER = 14,      /* no job or controller has this number, or no opening and later calls can leave this desk */
-    DEPOT_FOR_NOTHING = 15,         /* the call is for 0 modules */
-    DEPOT_PASSES_CEILING = 16,      /* the claim would pass the controller's ceiling */
-    DEPOT_DOES_NOT_FIT = 17,        /* the claim does not fit beside what the others hold or have reserved */
-    DEPOT_EXCEEDS_HOLDING = 18      /* the hand-back exceeds the holding */
+    DEPOT_SHEET_LENGTH = 1,           /* the sheet has fewer than 8 or more than 528 bytes */
+    DEPOT_TOO_MANY_JOBS = 2,          /* there are more than 20 jobs */
+    DEPOT_CABINET_SIZE = 3,           /* the cabinet has no modules or more than 64 */
+    DEPOT_RECORD_OFFSET = 4,          /* the record offset plus 10 for each job plus 8 is not the sheet's length */
+    DEPOT_RECORD_FIELD = 5,           /* some record has a field outside its range, or a bit for an earlier job that there is not */
+    DEPOT_LABEL_LENGTHS = 6,          /* the label lengths do not add up to the label bytes there are */
+    DEPOT_LABEL_BYTE = 7,             /* some label has a byte below 32 or above 126, or begins or ends with a space */
+    DEPOT_OVER_WIDE = 8,              /* some job needs more modules than the cabinet has */
+    DEPOT_CIRCULAR = 9,               /* some job would have to end before itself, directly or through others */
+    DEPOT_BUFFER_TOO_SHORT = 10,      /* the lent buffer for the card, or for the written sheet, is too short */
+    DEPOT_LIST_LENGTHS = 11,          /* shares and ceilings are not two lists of one length, 2 to 8, or not of the desk's */
+    DEPOT_DESK_FIGURES = 12,          /* the limit is not 1 to 400,000, a share exceeds its ceiling, or a ceiling exceeds the limit */
+    DEPOT_SHARES_EXCEED_LIMIT = 13,   /* the assured shares add up to more than the limit */
+    DEPOT_NO_SUCH_NUMBER = 14,        /* no job or controller has this number, or no opening and later calls can leave this desk */
+    DEPOT_FOR_NOTHING = 15,           /* the call is for no power */
+    DEPOT_PASSES_CEILING = 16,        /* the claim would pass the controller's ceiling */
+    DEPOT_DOES_NOT_FIT = 17,          /* the claim does not fit beside what the others hold or have reserved */
+    DEPOT_EXCEEDS_HOLDING = 18,       /* the hand-back exceeds the holding */
+    DEPOT_HOLDING_ABOVE_CEILING = 21, /* some holding exceeds its new ceiling */
+    DEPOT_HOLDINGS_EXCEED_LIMIT = 22  /* the holdings, each raised to its new share where that is larger, exceed the new limit */
 };
 
 /* ---- sizes ------------------------------------------------------------------------------------------------------------------- */
 
 #define DEPOT_MOST_JOBS 20
 #define DEPOT_MOST_MODULES 64 /* of a cabinet */
-#define DEPOT_LONGEST_LABEL 12
+#define DEPOT_LONGEST_LABEL 16
 
 #define DEPOT_SHORTEST_SHEET 8
-#define DEPOT_LONGEST_SHEET 448
+#define DEPOT_LONGEST_SHEET 528
 /* the sheet of so many jobs with so many label bytes in all */
 #define DEPOT_SHEET_BYTES(jobs, label_bytes) ((size_t)10 * (jobs) + (label_bytes) + 8)
 
@@ -87,7 +90,7 @@ enum depot_refusal {
 
 #define DEPOT_FEWEST_CONTROLLERS 2
 #define DEPOT_MOST_CONTROLLERS 8
-#define DEPOT_MOST_LIMIT 4096 /* of a feeder, in modules */
+#define DEPOT_MOST_POWER 400000 /* the largest limit of a feeder, in hundreds of watts: 40 MW */
 
 #define DEPOT_PLAN_STACK 40960
 #define DEPOT_CALL_STACK 2048
@@ -115,7 +118,7 @@ uint32_t depot_plan(const uint8_t *sheet, size_t sheet_len, uint8_t *card, size_
 
 /* A job, in the widths of its record. */
 struct depot_job {
-    uint8_t label_len;  /* 1 to 12 */
+    uint8_t label_len;  /* 1 to 16 */
     uint8_t modules;    /* that it needs, 1 to 255 */
     uint16_t minutes;   /* 1 to 1440 */
     uint32_t earlier;   /* bit i: job i must have ended first */
@@ -143,7 +146,7 @@ struct depot_reading depot_read(const uint8_t *sheet, size_t sheet_len);
 struct depot_label_place {
     uint32_t refusal; /* 0, or the refusal's number; then all else is 0 */
     size_t offset;    /* of the label's first byte in the sheet */
-    size_t length;    /* of the label, 1 to 12 */
+    size_t length;    /* of the label, 1 to 16 */
 };
 
 /*
@@ -166,7 +169,8 @@ struct depot_written {
  * Writes a job sheet. Reading it gives the same jobs, n and N.
  *
  * jobs     Read. The jobs in order.
- * labels   Read. The jobs' labels run together in the same order: as many bytes as the label lengths add up to.
+ * labels   Read. The jobs' labels run together in the same order: as many bytes as the label lengths add up to, each 32 to 126; a label
+ *          neither begins nor ends with a space.
  * modules  N, the modules in the cabinet.
  * sheet    Written. The sheet goes to its front, DEPOT_SHEET_BYTES(jobs_len, labels_len) bytes; the bytes behind it stay. A buffer of
  *          DEPOT_LONGEST_SHEET bytes is enough for every sheet.
@@ -180,10 +184,11 @@ struct depot_written depot_write(const struct depot_job *jobs, size_t jobs_len, 
 /* ---- the share desk ---------------------------------------------------------------------------------------------------------- */
 
 /*
- * What 2 to 8 controllers hold on one feeder, in modules. The caller keeps it and hands each call the desk as the call before it
- * left it: what is promised of several calls is promised of such a sequence. Calls on one desk come one after another. The fields
- * are open to be read. Whoever writes them makes a desk that later calls may refuse with 14, as every call but opening refuses a
- * desk that no answered opening and later calls can leave.
+ * What 2 to 8 controllers hold on one feeder. Every figure of power is in hundreds of watts, so that modules of 30 and of 50 kW,
+ * 300 and 500, share a feeder. The caller keeps the desk and hands each call the desk as the call before it left it: what is promised
+ * of several calls is promised of such a sequence. Calls on one desk come one after another. The fields are open to be read. Whoever
+ * writes them makes a desk that later calls may refuse with 14, as every call but opening refuses a desk that no answered opening and
+ * later calls can leave.
  */
 struct depot_desk {
     uint32_t count;                           /* of controllers */
@@ -197,7 +202,7 @@ struct depot_desk {
  * Opens a desk, on which nobody holds anything.
  *
  * desk      Written. Its earlier contents do not matter; they stay where the call is refused.
- * limit     The feeder's limit, 1 to 4096.
+ * limit     The feeder's limit, 1 to 400,000 hundreds of watts.
  * assured   Read. What each controller is assured of, for 2 to 8 controllers.
  * ceilings  Read. What each controller may hold at most, for as many.
  *
@@ -207,38 +212,57 @@ uint32_t depot_desk_open(struct depot_desk *desk, uint32_t limit, const uint32_t
                          const uint32_t *ceilings, size_t ceilings_len);
 
 /*
- * Claims modules for a controller. It is granted where the controller's holding plus the claim is within its ceiling and, together
+ * Gives a running desk a new limit, new shares and new ceilings, for the same controllers. All holdings carry over. From then on claims
+ * are judged by the new figures. A plan that a controller follows keeps its assurance as long as its share stays at what the plan needs.
+ *
+ * desk      Updated. Refused, it is as before.
+ * limit     The new limit, 1 to 400,000 hundreds of watts.
+ * assured   Read. The new share of each controller of the desk.
+ * ceilings  Read. The new ceiling of each.
+ *
+ * desk overlaps neither list. Answers 0, or a refusal: 14, 11 to 13, 21, 22, in this order. Stack: DEPOT_CALL_STACK.
+ */
+uint32_t depot_desk_change(struct depot_desk *desk, uint32_t limit, const uint32_t *assured, size_t assured_len,
+                           const uint32_t *ceilings, size_t ceilings_len);
+
+/*
+ * Claims power for a controller. It is granted where the controller's holding plus the claim is within its ceiling and, together
  * with the larger of holding and assured share of every other controller, within the limit.
  *
  * desk        Updated. Refused, it is as before.
  * controller  The controller's number, from 0.
- * modules     How many, 1 or more.
+ * power       How much, 1 or more hundreds of watts. For a job of a plan: its modules times the size of a module.
  *
  * Answers 0, or a refusal: 14 to 17. Stack: DEPOT_CALL_STACK.
  */
-uint32_t depot_desk_claim(struct depot_desk *desk, uint32_t controller, uint32_t modules);
+uint32_t depot_desk_claim(struct depot_desk *desk, uint32_t controller, uint32_t power);
 
 /*
- * Hands modules of a controller back.
+ * Hands power of a controller back.
  *
  * desk        Updated. Refused, it is as before.
  * controller  The controller's number, from 0.
- * modules     How many, 1 or more.
+ * power       How much, 1 or more hundreds of watts.
  *
  * Answers 0, or a refusal: 14, 15, 18. Stack: DEPOT_CALL_STACK.
  */
-uint32_t depot_desk_hand_back(struct depot_desk *desk, uint32_t controller, uint32_t modules);
+uint32_t depot_desk_hand_back(struct depot_desk *desk, uint32_t controller, uint32_t power);
+
+/* What a look answers. */
+struct depot_looked {
+    uint32_t refusal; /* 0, or the refusal's number; then the figure is 0 */
+    uint32_t power;   /* the largest claim that would be granted now, 0 if none */
+};
 
 /*
- * Gives the largest claim by a controller that would be granted now, 0 if none.
+ * Gives the largest claim by a controller that would be granted now.
  *
  * desk        Read.
  * controller  The controller's number, from 0.
- * modules     Written. The figure; refused, it is as before. It does not overlap desk.
  *
- * Answers 0, or the refusal 14. Stack: DEPOT_CALL_STACK.
+ * Answers the figure, or the refusal 14. Stack: DEPOT_CALL_STACK.
  */
-uint32_t depot_desk_look(const struct depot_desk *desk, uint32_t controller, uint32_t *modules);
+struct depot_looked depot_desk_look(const struct depot_desk *desk, uint32_t controller);
 
 #ifdef __cplusplus
 }

@@ -1,7 +1,7 @@
 """An independent model of the desk (docs/REQUIREMENTS.md, K and C), and the rows that the checker holds the definitions to.
 
-The model keeps a ledger of modules, one entry for each module that somebody holds, and finds the desks that can be by
-making every call from the opening on. It shares nothing with the definitions in crates/desk/specs. With a fixed seed it
+The model keeps a ledger of what each controller holds, in hundreds of watts, and finds the desks that can be by making every
+call from the opening on. It shares nothing with the definitions in crates/desk/specs. With a fixed seed it
 writes crates/desk/proofs/Samples.antt, whose rows the checker computes by those definitions.
 
     python3 tests/desk_model.py            write the rows
@@ -14,6 +14,7 @@ from collections import Counter, namedtuple
 from rows import numbers, settle, table
 
 PLACES = 8
+MOST_POWER = 400_000
 
 # five figures as firmware sees them; the lists have eight places
 Desk = namedtuple("Desk", "count limit held assured ceiling")
@@ -30,26 +31,26 @@ def open_desk(limit, assured, ceilings):
     """The number, and the desk."""
     if len(assured) != len(ceilings) or len(assured) not in range(2, 9):
         return 11, NO_DESK
-    if limit not in range(1, 4097) or any(not share <= top <= limit for share, top in zip(assured, ceilings)):
+    if limit not in range(1, MOST_POWER + 1) or any(not share <= top <= limit for share, top in zip(assured, ceilings)):
         return 12, NO_DESK
     if sum(assured) > limit:
         return 13, NO_DESK
     return 0, Desk(len(assured), limit, fixed(()), fixed(assured), fixed(ceilings))
 
 
-def book(desk, controller, modules):
-    """The holdings after a claim (modules above 0) or a hand-back (below 0) that the sums allow, else the number."""
+def book(desk, controller, power):
+    """The holdings after a claim (power above 0) or a hand-back (below 0) that the sums allow, else the number."""
     ledger = Counter({c: desk.held[c] for c in range(desk.count)})
-    if modules < 0:
-        if ledger[controller] + modules < 0:
+    if power < 0:
+        if ledger[controller] + power < 0:
             return 18
     else:
-        if ledger[controller] + modules > desk.ceiling[controller]:
+        if ledger[controller] + power > desk.ceiling[controller]:
             return 16
         kept = [max(ledger[c], desk.assured[c]) for c in range(desk.count) if c != controller]
-        if sum(kept) + ledger[controller] + modules > desk.limit:
+        if sum(kept) + ledger[controller] + power > desk.limit:
             return 17
-    ledger[controller] += modules
+    ledger[controller] += power
     return fixed([ledger[c] for c in range(desk.count)])
 
 
@@ -63,8 +64,8 @@ def holdings_that_can_be(count, limit, assured, ceiling):
     while todo:
         desk = todo.pop()
         for controller in range(count):
-            for modules in range(-limit, limit + 1):
-                held = book(desk, controller, modules) if modules else desk.held
+            for power in range(-limit, limit + 1):
+                held = book(desk, controller, power) if power else desk.held
                 if not isinstance(held, int) and held not in found:
                     found.add(held)
                     todo.append(desk._replace(held=held))
@@ -77,16 +78,33 @@ def can_be(desk):
     return desk.held in holdings_that_can_be(desk.count, desk.limit, desk.assured, desk.ceiling)
 
 
-def call(desk, kind, controller, modules, known):
+def change_desk(desk, limit, assured, ceilings, known):
+    """The number, and the desk with new figures and its own holdings. `known`: the desk can be."""
+    if not (known or can_be(desk)):
+        return 14, desk
+    number, fresh = open_desk(limit, assured, ceilings)
+    if number == 11 or len(assured) != desk.count:
+        return 11, desk
+    if number:
+        return number, desk
+    held = desk.held[: desk.count]
+    if any(own > top for own, top in zip(held, ceilings)):
+        return 21, desk
+    if sum(max(own, share) for own, share in zip(held, assured)) > limit:
+        return 22, desk
+    return 0, fresh._replace(held=desk.held)
+
+
+def call(desk, kind, controller, power, known):
     """The number, the figure that a look shows, and the holdings afterwards. `known`: the desk can be."""
     if controller >= desk.count or not (known or can_be(desk)):
         return 14, 0, desk.held
     if kind == "look":
-        fit = [k for k in range(1, desk.limit + 1) if not isinstance(book(desk, controller, k), int)]
-        return 0, max(fit, default=0), desk.held
-    if modules == 0:
+        granted = (k for k in range(desk.limit, 0, -1) if not isinstance(book(desk, controller, k), int))
+        return 0, next(granted, 0), desk.held
+    if power == 0:
         return 15, 0, desk.held
-    after = book(desk, controller, modules if kind == "claim" else -modules)
+    after = book(desk, controller, power if kind == "claim" else -power)
     return (after, 0, desk.held) if isinstance(after, int) else (0, 0, after)
 
 
@@ -94,7 +112,7 @@ def call(desk, kind, controller, modules, known):
 
 
 def random_opening(rng):
-    limit = rng.choice([0, 1, 4096, 4097] + [rng.randint(1, 40)] * 8)
+    limit = rng.choice([0, 1, MOST_POWER, MOST_POWER + 1] + [rng.randint(1, 40)] * 8)
     count = rng.choice([0, 1, 8, 9] + [rng.randint(2, 8)] * 10)
     ceilings = [rng.choice([limit, limit, rng.randint(0, limit)]) for _ in range(count)]
     assured = [rng.randint(0, min(top, limit * 2 // count)) for top in ceilings]
@@ -113,11 +131,28 @@ def random_calls(rng, desk, length):
         kind = rng.choice(["claim", "claim", "claim", "handBack", "look"])
         own = desk.held[controller] if controller < desk.count else 5
         most = max(own, 1) if kind == "handBack" else max(desk.limit // desk.count, 2)
-        modules = rng.choice([0, 1, own, own + 1, desk.limit] + [rng.randint(1, most)] * 5)
-        number, figure, held = call(desk, kind, controller, modules, True)
-        steps.append((kind, controller, modules, number, figure, held))
+        power = rng.choice([0, 1, own, own + 1, desk.limit] + [rng.randint(1, most)] * 5)
+        number, figure, held = call(desk, kind, controller, power, True)
+        steps.append((kind, controller, power, number, figure, held))
         desk = desk._replace(held=held)
     return steps
+
+
+def random_change(rng, desk):
+    """New figures, often such as the holdings allow."""
+    held = list(desk.held[: desk.count])
+    reserves = sum(max(pair) for pair in zip(held, desk.assured))
+    limit = rng.choice([desk.limit, reserves, max(0, reserves - 1), sum(held), max(0, sum(held) - 1), rng.randint(0, 2 * desk.limit)])
+    ceilings = [rng.choice([limit, limit, own, rng.randint(0, limit)]) for own in held]
+    assured = [rng.randint(0, rng.choice([top, limit // max(1, desk.count)])) for top in ceilings]
+    assured = [min(share, top) for share, top in zip(assured, ceilings)]
+    if rng.random() < 0.1 and held:
+        ceilings[rng.randrange(len(held))] = max(0, held[0] - 1)
+    if rng.random() < 0.1:
+        assured, ceilings = assured + [0], ceilings + [0]
+    if rng.random() < 0.05:
+        assured = assured[1:]
+    return limit, assured, ceilings
 
 
 def random_desk(rng):
@@ -148,9 +183,13 @@ def desk_text(desk):
 
 
 def step_text(step):
-    kind, controller, modules, number, figure, held = step
-    what = f"look {controller}" if kind == "look" else f"{kind} {controller} {modules}"
+    kind, controller, power, number, figure, held = step
+    what = f"look {controller}" if kind == "look" else f"{kind} {controller} {power}"
     return f"step ({what}) {number} {figure} ({numbers(held)})"
+
+
+def change_text(desk, limit, assured, ceilings, number, after):
+    return f"changes {desk_text(desk)} {limit} ({numbers(assured)}) ({numbers(ceilings)}) {number} {desk_text(after)}"
 
 
 def run_text(desk, steps):
@@ -165,20 +204,21 @@ use mathlib.Core.Bool.{true}
 use mathlib.Core.List.{List, [], _∷_}
 use Rattle.counting.specs.Counting.{sum, every, any}
 use Rattle.checking.specs.Checking.{firstFailing}
-use Rattle.desk.specs.Checks.{wrongLengths, wrongFigures, sharesExceed, deskOk, notOfDesk}
+use Rattle.desk.specs.Checks.{wrongLengths, wrongFigures, sharesExceed, deskOk, notOfDesk, wrongCount, someHoldsMore, raisedExceed}
 use Rattle.desk.specs.Calls.{claim, handBack, look}
 use Rattle.desk.specs.Calls.{openRefusal, opened, claimRefusal, claimed, handBackRefusal, handedBack, lookRefusal, looked}
-use Rattle.desk.specs.Rows.{desk, step, Row, opens, runs, allHold}
+use Rattle.desk.specs.Calls.{changeRefusal, changed}
+use Rattle.desk.specs.Rows.{desk, step, Row, opens, runs, changes, allHold}
 """
 
 OPENED = """\
-unfolding sum every any firstFailing wrongLengths wrongFigures sharesExceed deskOk notOfDesk openRefusal opened
-    claimRefusal claimed handBackRefusal handedBack lookRefusal looked
+unfolding sum every any firstFailing wrongLengths wrongFigures sharesExceed deskOk notOfDesk wrongCount someHoldsMore raisedExceed
+    openRefusal opened claimRefusal claimed handBackRefusal handedBack lookRefusal looked changeRefusal changed
 """
 
 
 def samples():
-    rng = random.Random(4096)
+    rng = random.Random(400_000)
     openings, runs, desks = [], [], []
     for _ in range(40):
         limit, assured, ceilings = random_opening(rng)
@@ -191,10 +231,31 @@ def samples():
     while len(desks) < 60:
         desk = random_desk(rng)
         kind, controller = rng.choice(["claim", "handBack", "look"]), rng.randint(0, 2)
-        modules = rng.randint(0, 3)
-        desks.append(run_text(desk, [(kind, controller, modules) + call(desk, kind, controller, modules, False)]))
+        power = rng.randint(0, 3)
+        desks.append(run_text(desk, [(kind, controller, power) + call(desk, kind, controller, power, False)]))
+    # on desks as calls leave them: changes, and calls behind each that is granted; changes of desks that may not be
+    changes, given = [], Counter()
+    while len(changes) < 60:
+        number, desk = open_desk(*random_opening(rng))
+        if number:
+            continue
+        for kind, controller, power, number, figure, held in random_calls(rng, desk, 10):
+            desk = desk._replace(held=held)
+        figures = random_change(rng, desk)
+        number, after = change_desk(desk, *figures, True)
+        changes.append(change_text(desk, *figures, number, after))
+        given[number] += 1
+        if number == 0:
+            changes.append(run_text(after, random_calls(rng, after, 4)))
+    while len(changes) < 100:
+        desk = random_desk(rng)
+        figures = random_change(rng, desk)
+        number, after = change_desk(desk, *figures, False)
+        changes.append(change_text(desk, *figures, number, after))
+        given[number] += 1
+    assert {0, 11, 12, 13, 14, 21, 22} <= set(given), given
     text = HEADER
-    for name, rows in [("openings", openings), ("lists", runs), ("desks", desks)]:
+    for name, rows in [("openings", openings), ("lists", runs), ("desks", desks), ("figures", changes)]:
         text += table(name, "Row", rows)
         text += f"\npub {name}-right : allHold {name} ≡ true\n{OPENED.replace('unfolding sum', f'unfolding {name} sum')}{name}-right = refl\n"
     return text

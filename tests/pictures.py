@@ -19,9 +19,10 @@ HEADER = 'cabinet,64\nlabel,modules,minutes,after,departure\n'
 # lists that are hard to draw: long labels, short and thin bars, late jobs, no jobs, the longest plan
 ODD = {
     'none': HEADER,
-    'longest': HEADER + 'WWWWWWWWWWWW,64,1440,,2880\n' * 20,
-    'tiny': HEADER + ''.join(f'{"LABEL-NO-" if i % 2 else "T"}{i},{1 + i % 3},{1 + i},,{i}\n' for i in range(19)) + 'LONG,20,900,,700\n',
+    'longest': HEADER + 'WWWWWWWWWWWWWWWW,64,1440,,2880\n' * 20,
+    'tiny': HEADER + ''.join(f'{"LABEL NUMBER " if i % 2 else "T"}{i},{1 + i % 3},{1 + i},,{i}\n' for i in range(19)) + 'LONG,20,900,,700\n',
     'markup': HEADER + '"<b>&""\'x\'",60,30,,10\n</svg>,9,20,,90\n',
+    'fleet': HEADER + ''.join(f'N  {400 + i} B,{1 + 3 * i % 30},{20 + 31 * i % 200},"N  {399 + i} B",{9 * i}\n' for i in range(1, 12)).replace('"N  400 B"', ''),
     'thin': HEADER + ''.join(f'J{i},3,{60 + 7 * i},,{100 + i}\n' for i in range(20)),
 }
 

@@ -24,46 +24,50 @@ def sheet(labels, records, modules, offset=None):
 
 E1 = bytes.fromhex(
     '414243 01010A0000000000 1E00 0102140000000000 1900 01010A0000000000 1E00 0300000003000200')
-LONGEST = sheet(b'L' * 240, [record(label=12, modules=64, minutes=1440, departure=2880)] * 20, 64)
+LONGEST = sheet(b'L' * 320, [record(label=16, modules=64, minutes=1440, departure=2880)] * 20, 64)
 
 PLANS = [
     ('E1', E1,
      'plan 30 3 2\n'
-     'A 0 10 -20 0000000000000001\n'
-     'B 10 30 5 0000000000000003\n'
-     'C 0 10 -20 0000000000000002\n'),
+     '0 10 -20 0000000000000001 A\n'
+     '10 30 5 0000000000000003 B\n'
+     '0 10 -20 0000000000000002 C\n'),
     ('E2: no jobs', sheet(b'', [], 1), 'plan 0 0 1\n'),
     ('E7', sheet(b'ABC', [record(departure=0), record(departure=20), record(minutes=20, departure=2880)], 2),
      'plan 20 3 2\n'
-     'A 0 10 10 0000000000000001\n'
-     'B 10 20 0 0000000000000001\n'
-     'C 0 20 -2860 0000000000000002\n'),
+     '0 10 10 0000000000000001 A\n'
+     '10 20 0 0000000000000001 B\n'
+     '0 20 -2860 0000000000000002 C\n'),
     ('E8', sheet(b'oneBBthree,4444', [
         record(label=3, minutes=1), record(label=2),
         record(label=6, modules=2, minutes=1, earlier=1), record(label=4, earlier=4)], 2),
      'plan 12 4 2\n'
-     'one 0 1 -29 0000000000000001\n'
-     'BB 2 12 -18 0000000000000001\n'
-     'three, 1 2 -28 0000000000000003\n'
-     '4444 2 12 -18 0000000000000002\n'),
+     '0 1 -29 0000000000000001 one\n'
+     '2 12 -18 0000000000000001 BB\n'
+     '1 2 -28 0000000000000003 three,\n'
+     '2 12 -18 0000000000000002 4444\n'),
+    ('fleet numbers with spaces', sheet(b'N 417 BN  9', [record(label=7), record(label=4)], 2),
+     'plan 10 2 2\n'
+     '0 10 -20 0000000000000001 N 417 B\n'
+     '0 10 -20 0000000000000002 N  9\n'),
     ('the lowest lateness, and all of 64 modules',
      sheet(b'!~', [record(minutes=1, departure=2880), record(modules=64, minutes=2, departure=0)], 64),
      'plan 3 2 64\n'
-     '! 0 1 -2879 0000000000000001\n'
-     '~ 1 3 3 FFFFFFFFFFFFFFFF\n'),
+     '0 1 -2879 0000000000000001 !\n'
+     '1 3 3 FFFFFFFFFFFFFFFF ~\n'),
     ('the highest module', sheet(b'AB', [record(modules=63), record()], 64),
      'plan 10 2 64\n'
-     'A 0 10 -20 7FFFFFFFFFFFFFFF\n'
-     'B 0 10 -20 8000000000000000\n'),
+     '0 10 -20 7FFFFFFFFFFFFFFF A\n'
+     '0 10 -20 8000000000000000 B\n'),
     ('the longest sheet, of the latest end', LONGEST,
      'plan 28800 20 64\n' + ''.join(
-         f'LLLLLLLLLLLL {1440 * j} {1440 * j + 1440} {1440 * j + 1440 - 2880} FFFFFFFFFFFFFFFF\n' for j in range(20))),
+         f'{1440 * j} {1440 * j + 1440} {1440 * j + 1440 - 2880} FFFFFFFFFFFFFFFF LLLLLLLLLLLLLLLL\n' for j in range(20))),
 ]
 
 REFUSED = [
     (1, 'nothing', b''),
     (1, '7 bytes', bytes(7)),
-    (1, '449 bytes', LONGEST + b'\0'),
+    (1, '529 bytes', LONGEST + b'\0'),
     (1, 'a byte before the longest sheet', b'L' + LONGEST),
     (1, '100000 bytes', bytes(100000)),
     (2, '21 jobs', sheet(b'A' * 21, [record()] * 21, 1)),
@@ -74,7 +78,12 @@ REFUSED = [
     (5, '1441 minutes', sheet(b'A', [record(minutes=1441)], 1)),
     (5, 'an earlier job that is not there', sheet(b'A', [record(earlier=2)], 1)),
     (6, 'a label byte too few', sheet(b'A', [record(label=2)], 1)),
-    (7, 'a space in a label', sheet(b' ', [record()], 1)),
+    (5, 'a label of 17 bytes', sheet(b'A' * 17, [record(label=17)], 1)),
+    (7, 'a label that is a space', sheet(b' ', [record()], 1)),
+    (7, 'a space first', sheet(b' A', [record(label=2)], 1)),
+    (7, 'a space last', sheet(b'A ', [record(label=2)], 1)),
+    (7, 'a space where two labels meet', sheet(b'A B', [record(label=2), record()], 1)),
+    (7, 'byte 31 in a label', sheet(b'A\x1fB', [record(label=3)], 1)),
     (7, 'byte 127 in a label', sheet(b'\x7f', [record()], 1)),
     (8, 'E3: a job that is too wide', sheet(b'A', [record(modules=2)], 1)),
     (8, 'E6: E4 with one job too wide', sheet(b'AB', [record(modules=2, earlier=2), record(earlier=1)], 1)),

@@ -8,9 +8,9 @@ import struct
 
 from rows import numbers, settle, table
 
-MOST_JOBS, MOST_MODULES, LONGEST_SHEET = 20, 64, 448
+MOST_JOBS, MOST_MODULES, LONGEST_SHEET = 20, 64, 528
 RECORD, TRAILER = struct.Struct('<BBHIH'), struct.Struct('<IHH')
-LONGEST_LABEL, LABEL_BYTES, MOST_MINUTES, LAST_DEPARTURE = 12, range(33, 127), 1440, 2880
+LONGEST_LABEL, LABEL_BYTES, MOST_MINUTES, LAST_DEPARTURE = 16, range(32, 127), 1440, 2880
 
 
 def faulty(job, n):
@@ -19,12 +19,25 @@ def faulty(job, n):
             or earlier >= 2 ** n or departure > LAST_DEPARTURE)
 
 
+def cut(jobs, labels):
+    """The labels of the jobs, one behind another."""
+    start = 0
+    for length, *_ in jobs:
+        yield labels[start:start + length]
+        start += length
+
+
+def wrong(label):
+    """F-1.1: bytes of 32 to 126, and neither the first nor the last a space."""
+    return any(b not in LABEL_BYTES for b in label) or label.startswith(b' ') or label.endswith(b' ')
+
+
 def content_refusal(jobs, labels):
     if any(faulty(job, len(jobs)) for job in jobs):
         return 5
     if sum(job[0] for job in jobs) != len(labels):
         return 6
-    return 7 if any(b not in LABEL_BYTES for b in labels) else 0
+    return 7 if any(wrong(label) for label in cut(jobs, labels)) else 0
 
 
 def read(sheet):
@@ -66,7 +79,7 @@ def write(jobs, labels, modules, room=LONGEST_SHEET):
 
 
 def random_jobs(rng, n):
-    return [(rng.choice([1, 12, rng.randint(1, 12)]), rng.randint(1, 255), rng.choice([1, 1440, rng.randint(1, 1440)]),
+    return [(rng.choice([1, 16, rng.randint(1, 16)]), rng.randint(1, 255), rng.choice([1, 1440, rng.randint(1, 1440)]),
              rng.randrange(2 ** n), rng.choice([0, 2880, rng.randint(0, 2880)])) for _ in range(n)]
 
 
@@ -83,14 +96,21 @@ def try_bytes(sheet):
 def damage(rng, sheet):
     damaged = bytearray(sheet)
     for _ in range(rng.randint(1, 3)):
-        damaged[rng.randrange(len(damaged))] = rng.choice([0, 1, 12, 13, 32, 127, 255, rng.randrange(256)])
+        damaged[rng.randrange(len(damaged))] = rng.choice([0, 1, 16, 17, 31, 32, 127, 255, rng.randrange(256)])
     return bytes(damaged)
+
+
+def random_label(rng, length):
+    """Spaces stand inside alone."""
+    inside = [rng.choice([32, 33, 126, rng.randint(32, 126)]) for _ in range(length)]
+    inside[0], inside[-1] = (rng.choice([33, 126, rng.randint(33, 126)]) for _ in range(2))
+    return bytes(inside)
 
 
 def random_sheet(rng, n):
     """Legal jobs, their labels and modules, and the sheet that they are written as."""
     jobs, modules = random_jobs(rng, n), rng.randint(1, 64)
-    labels = bytes(rng.choice([33, 126, rng.randint(33, 126)]) for _ in range(sum(j[0] for j in jobs)))
+    labels = b''.join(random_label(rng, length) for length, *_ in jobs)
     refusal, sheet = write(jobs, labels, modules)
     assert refusal == 0 and read(sheet) == (0, jobs, modules)
     assert b''.join(label(sheet, i)[1] for i in range(n)) == labels
@@ -102,7 +122,7 @@ def try_sheets(rng):
     for _ in range(2000):
         sheet = damage(rng, random_sheet(rng, rng.choice([0, 1, 20, rng.randint(0, 20)])))
         seen.add(try_bytes(sheet[:rng.choice([len(sheet), rng.randint(0, len(sheet))])]))
-        seen.add(try_bytes(sheet + bytes(rng.randint(0, 2) * 225)))
+        seen.add(try_bytes(sheet + bytes(rng.randint(0, 2) * 265)))
     assert seen == set(range(8)), seen
 
 
@@ -122,21 +142,31 @@ use Rattle.counting.specs.Counting.{sum, any, joined}
 use Rattle.checking.specs.Checking.{firstFailing}
 use Rattle.words.specs.Words.{numberAt}
 use Rattle.sheet_format.specs.Format.{recordAt, places}
-use Rattle.sheet_format.specs.Checks.{outside, faulty}
+use Rattle.sheet_format.specs.Checks.{outside, faulty, wrongLabel}
 use Rattle.sheet.specs.Read.{reading}
 use Rattle.sheet.specs.Label.{labelOf}
 use Rattle.sheet.proofs.Rows.{Row, row, found, told}
 """
 FOOT = """
 pub rows-right : found rows ≡ told rows
-unfolding rows found told reading labelOf firstFailing outside faulty any sum places joined recordAt numberAt
+unfolding rows found told reading labelOf firstFailing outside faulty wrongLabel any sum places joined recordAt numberAt
 rows-right = refl
 """
 
 
+def spaces():
+    """One job whose label has a space inside, first, last, and alone; two jobs with one where their labels meet."""
+    for lengths, labels in [([7], b'N 417 B'), ([2], b' B'), ([2], b'A '), ([1], b' '), ([2, 1], b'A B'), ([1, 2], b'A B')]:
+        records = b''.join(RECORD.pack(length, 1, 10, 0, 30) for length in lengths)
+        yield labels + records + TRAILER.pack(len(labels), len(lengths), 2)
+
+
 def samples(rng):
-    """Two rows or more of every answer, from short sheets."""
+    """Two rows or more of every answer, from short sheets, and spaces in labels."""
     chosen = {refusal: [] for refusal in range(8)}
+    for s in spaces():
+        chosen[read(s)[0]].append(s)
+    assert [len(chosen[0]), len(chosen[7])] == [1, 5]
     while any(len(sheets) < 2 for sheets in chosen.values()):
         sheet = random_sheet(rng, rng.randint(0, 2))
         for s in [sheet, damage(rng, sheet), sheet[:rng.randint(0, len(sheet))]]:

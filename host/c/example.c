@@ -1,7 +1,7 @@
 /*
  * A cabinet's controller in small: it reads and plans the job sheet of the example E1, prints the plan as the printing program
- * does, writes the sheet anew, and claims and hands back modules as in E9 and E10. It checks all that it gets and exits with 1
- * where something differs.
+ * does, writes the sheet anew, and claims and hands back power as in E9 and E10, with modules of 30 kW. It checks all that it gets
+ * and exits with 1 where something differs.
  */
 #include "depot.h"
 
@@ -29,9 +29,9 @@ static const uint8_t e1[] = {
 };
 
 static const char e1_lines[] = "plan 30 3 2\n"
-                               "A 0 10 -20 0000000000000001\n"
-                               "B 10 30 5 0000000000000003\n"
-                               "C 0 10 -20 0000000000000002\n";
+                               "0 10 -20 0000000000000001 A\n"
+                               "10 30 5 0000000000000003 B\n"
+                               "0 10 -20 0000000000000002 C\n";
 
 /* A number of so many bytes, little-endian. */
 static uint64_t number(const uint8_t *bytes, size_t count)
@@ -44,7 +44,7 @@ static uint64_t number(const uint8_t *bytes, size_t count)
     return value;
 }
 
-/* The lines of a planned sheet: end, n and N; then label, start, end, lateness and module set of each job. */
+/* The lines of a planned sheet: end, n and N; then start, end, lateness, module set and label of each job. */
 static void plan_lines(const uint8_t *sheet, size_t sheet_len, const uint8_t *card, char *text, size_t room)
 {
     struct depot_reading reading = depot_read(sheet, sheet_len);
@@ -58,8 +58,8 @@ static void plan_lines(const uint8_t *sheet, size_t sheet_len, const uint8_t *ca
         int start = (int)number(row, 2), end = (int)number(row + 2, 2);
         unsigned long long modules = number(row + 4, 8);
         check(label.refusal == DEPOT_DONE, "a job that was read has a label");
-        used += (size_t)snprintf(text + used, room - used, "%.*s %d %d %d %016llX\n", (int)label.length,
-                                 (const char *)sheet + label.offset, start, end, end - reading.jobs[job].departure, modules);
+        used += (size_t)snprintf(text + used, room - used, "%d %d %d %016llX %.*s\n", start, end, end - reading.jobs[job].departure,
+                                 modules, (int)label.length, (const char *)sheet + label.offset);
     }
 }
 
@@ -118,33 +118,48 @@ static void read_and_write_e1(void)
 
 static uint32_t look(const struct depot_desk *desk, uint32_t controller)
 {
-    uint32_t modules = 0;
-    check(depot_desk_look(desk, controller, &modules) == DEPOT_DONE, "a look is answered");
-    return modules;
+    struct depot_looked looked = depot_desk_look(desk, controller);
+    check(looked.refusal == DEPOT_DONE, "a look is answered");
+    return looked.power;
 }
 
 static void claim_and_hand_back(void)
 {
-    static const uint32_t assured[] = {4, 3}, ceilings[] = {10, 10}, too_much[] = {6, 5};
+    /* modules of 30 kW, in hundreds of watts: E9's desk of 10 modules */
+    enum { MODULE = 300 };
+    static const uint32_t assured[] = {4 * MODULE, 3 * MODULE}, ceilings[] = {10 * MODULE, 10 * MODULE};
+    static const uint32_t too_much[] = {6 * MODULE, 5 * MODULE};
+    static const uint32_t new_shares[] = {2 * MODULE, 2 * MODULE}, new_ceilings[] = {6 * MODULE, 6 * MODULE};
+    static const uint32_t none[] = {0, 0}, low[] = {2 * MODULE, 2 * MODULE};
     struct depot_desk desk, before;
     memset(&desk, 0, sizeof desk);
 
-    check(depot_desk_open(&desk, 10, assured, 2, ceilings, 2) == DEPOT_DONE, "E9's desk opens");
-    check(look(&desk, 0) == 7 && look(&desk, 1) == 6, "E9's looks give 7 and 6");
-    check(depot_desk_claim(&desk, 0, 7) == DEPOT_DONE, "controller 0 claims 7");
+    check(depot_desk_open(&desk, 10 * MODULE, assured, 2, ceilings, 2) == DEPOT_DONE, "E9's desk opens");
+    check(look(&desk, 0) == 7 * MODULE && look(&desk, 1) == 6 * MODULE, "E9's looks give 7 and 6 modules");
+    check(depot_desk_claim(&desk, 0, 7 * MODULE) == DEPOT_DONE, "controller 0 claims 7");
     before = desk;
-    check(depot_desk_claim(&desk, 0, 1) == DEPOT_DOES_NOT_FIT, "1 more does not fit");
+    check(depot_desk_claim(&desk, 0, 1 * MODULE) == DEPOT_DOES_NOT_FIT, "1 more does not fit");
     check(memcmp(&desk, &before, sizeof desk) == 0, "a refused claim leaves the desk as it was");
-    check(depot_desk_claim(&desk, 1, 3) == DEPOT_DONE, "controller 1 claims its share of 3");
-    check(depot_desk_claim(&desk, 1, 1) == DEPOT_DOES_NOT_FIT, "1 more does not fit");
+    check(depot_desk_claim(&desk, 1, 3 * MODULE) == DEPOT_DONE, "controller 1 claims its share of 3");
+    check(depot_desk_claim(&desk, 1, 1 * MODULE) == DEPOT_DOES_NOT_FIT, "1 more does not fit");
     check(desk.held[0] + desk.held[1] == desk.limit, "the feeder is full");
-    check(depot_desk_hand_back(&desk, 0, 8) == DEPOT_EXCEEDS_HOLDING, "controller 0 holds no 8");
-    check(depot_desk_hand_back(&desk, 0, 7) == DEPOT_DONE, "controller 0 hands 7 back");
-    check(desk.held[0] == 0 && desk.held[1] == 3, "then it holds nothing");
-    check(depot_desk_claim(&desk, 2, 1) == DEPOT_NO_SUCH_NUMBER, "there is no controller 2");
+    check(depot_desk_hand_back(&desk, 0, 8 * MODULE) == DEPOT_EXCEEDS_HOLDING, "controller 0 holds no 8");
+    check(depot_desk_hand_back(&desk, 0, 7 * MODULE) == DEPOT_DONE, "controller 0 hands 7 back");
+    check(desk.held[0] == 0 && desk.held[1] == 3 * MODULE, "then it holds nothing");
+    check(depot_desk_claim(&desk, 2, 1 * MODULE) == DEPOT_NO_SUCH_NUMBER, "there is no controller 2");
+    check(depot_desk_look(&desk, 2).power == 0, "a refused look shows 0");
+
+    /* the grid operator lowers the limit while controller 1 holds 3 modules */
+    before = desk;
+    check(depot_desk_change(&desk, 6 * MODULE, too_much, 2, ceilings, 2) == DEPOT_DESK_FIGURES, "a ceiling above the new limit");
+    check(memcmp(&desk, &before, sizeof desk) == 0, "a refused change leaves the desk as it was");
+    check(depot_desk_change(&desk, 6 * MODULE, new_shares, 2, new_ceilings, 2) == DEPOT_DONE, "the limit is lowered to 6 modules");
+    check(desk.limit == 6 * MODULE && desk.held[1] == 3 * MODULE, "the holdings carry over");
+    check(look(&desk, 0) == 3 * MODULE, "claims are judged by the new figures");
+    check(depot_desk_change(&desk, 2 * MODULE, none, 2, low, 2) == DEPOT_HOLDING_ABOVE_CEILING, "a ceiling below what is held");
 
     before = desk;
-    check(depot_desk_open(&desk, 10, too_much, 2, ceilings, 2) == DEPOT_SHARES_EXCEED_LIMIT, "E11's first desk does not open");
+    check(depot_desk_open(&desk, 10 * MODULE, too_much, 2, ceilings, 2) == DEPOT_SHARES_EXCEED_LIMIT, "E11's first desk does not open");
     check(memcmp(&desk, &before, sizeof desk) == 0, "a refused opening leaves the desk as it was");
 }
 

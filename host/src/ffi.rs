@@ -28,6 +28,14 @@ pub struct Written {
     pub length: usize,
 }
 
+/// What a look answers: refusal 0 with the largest claim that would be granted now, or the number of the refusal with 0.
+#[repr(C)]
+#[derive(Clone, Copy, Debug, PartialEq, Eq)]
+pub struct Looked {
+    pub refusal: u32,
+    pub power: u32,
+}
+
 extern "C" {
     pub fn depot_version() -> u32;
 
@@ -56,9 +64,18 @@ extern "C" {
         ceilings_len: usize,
     ) -> u32;
 
-    pub fn depot_desk_claim(desk: *mut Desk, controller: u32, modules: u32) -> u32;
+    pub fn depot_desk_change(
+        desk: *mut Desk,
+        limit: u32,
+        assured: *const u32,
+        assured_len: usize,
+        ceilings: *const u32,
+        ceilings_len: usize,
+    ) -> u32;
 
-    pub fn depot_desk_hand_back(desk: *mut Desk, controller: u32, modules: u32) -> u32;
+    pub fn depot_desk_claim(desk: *mut Desk, controller: u32, power: u32) -> u32;
 
-    pub fn depot_desk_look(desk: *const Desk, controller: u32, modules: *mut u32) -> u32;
+    pub fn depot_desk_hand_back(desk: *mut Desk, controller: u32, power: u32) -> u32;
+
+    pub fn depot_desk_look(desk: *const Desk, controller: u32) -> Looked;
 }

@@ -22,7 +22,7 @@ pub mod stack;
 pub mod units;
 
 pub use card::{Card, Row};
-pub use desk::{Desk, MOST_CONTROLLERS};
+pub use desk::{Desk, MOST_CONTROLLERS, MOST_POWER};
 pub use refusal::Refusal;
 pub use sheet::{label, read, write, Job, Reading};
 
@@ -30,7 +30,10 @@ pub use sheet::{label, read, write, Job, Reading};
 pub const MOST_JOBS: usize = 20;
 
 /// How many bytes the longest sheet has.
-pub const LONGEST_SHEET: usize = 448;
+pub const LONGEST_SHEET: usize = 528;
+
+/// How many bytes the longest label has.
+pub const LONGEST_LABEL: usize = 16;
 
 /// How many bytes the card of so many jobs has.
 pub const fn card_length(jobs: usize) -> usize {

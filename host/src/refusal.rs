@@ -24,37 +24,48 @@ pub enum Refusal {
     PassesCeiling,
     DoesNotFit,
     ExceedsHolding,
+    HoldingAboveCeiling = 21,
+    HoldingsExceedLimit,
 }
 
 use Refusal::*;
 
 /// Every refusal in the order of the numbers, in plain words.
-const IN_WORDS: [(Refusal, &str); 18] = [
-    (SheetLength, "the sheet has fewer than 8 or more than 448 bytes"),
+const IN_WORDS: [(Refusal, &str); 20] = [
+    (SheetLength, "the sheet has fewer than 8 or more than 528 bytes"),
     (TooManyJobs, "there are more than 20 jobs"),
     (CabinetSize, "the cabinet has no modules or more than 64"),
     (RecordOffset, "the records do not lie where the trailer says"),
     (RecordField, "some record has a field outside its range, or waits for a job that there is not"),
     (LabelLengths, "the label lengths do not add up to the label bytes there are"),
-    (LabelByte, "some label byte is below 33 or above 126"),
+    (LabelByte, "some label has a byte below 32 or above 126, or begins or ends with a space"),
     (OverWide, "some job needs more modules than the cabinet has"),
     (Circular, "some job would have to end before itself"),
     (BufferTooShort, "the lent buffer is too short"),
-    (ListLengths, "shares and ceilings are not two lists of one length, 2 to 8"),
-    (DeskFigures, "the limit is not 1 to 4096, a share exceeds its ceiling, or a ceiling exceeds the limit"),
+    (ListLengths, "shares and ceilings are not two lists of one length, 2 to 8, or not of the desk's"),
+    (DeskFigures, "the limit is not 0.1 to 40,000 kW, a share exceeds its ceiling, or a ceiling exceeds the limit"),
     (SharesExceedLimit, "the assured shares add up to more than the limit"),
     (NoSuchNumber, "no controller or job has this number, or no calls can have left this desk"),
-    (ForNothing, "the call is for 0 modules"),
+    (ForNothing, "the call is for no power"),
     (PassesCeiling, "the claim would pass the controller's ceiling"),
     (DoesNotFit, "the claim does not fit beside what others hold or have reserved"),
     (ExceedsHolding, "the hand-back exceeds the holding"),
+    (HoldingAboveCeiling, "some holding exceeds its new ceiling"),
+    (HoldingsExceedLimit, "the holdings, each raised to its new share where that is larger, exceed the new limit"),
 ];
 
 impl Refusal {
-    /// The refusal of this number, 1 to 18.
+    /// The numbers that there are, for people.
+    pub const NUMBERS: &'static str = "1 to 18, 21 and 22";
+
+    /// Every refusal, in the order of the numbers.
+    pub fn all() -> impl Iterator<Item = Refusal> {
+        IN_WORDS.iter().map(|(refusal, _)| *refusal)
+    }
+
+    /// The refusal of this number.
     pub fn of_number(number: u32) -> Option<Refusal> {
-        let place = number.checked_sub(1)?;
-        IN_WORDS.get(place as usize).map(|(refusal, _)| *refusal)
+        Refusal::all().find(|refusal| refusal.number() == number)
     }
 
     /// Its number in docs/REQUIREMENTS.md.
@@ -74,7 +85,8 @@ impl Refusal {
 
 impl fmt::Display for Refusal {
     fn fmt(&self, f: &mut fmt::Formatter<'_>) -> fmt::Result {
-        f.write_str(IN_WORDS[*self as usize - 1].1)
+        let words = IN_WORDS.iter().find(|(refusal, _)| refusal == self);
+        f.write_str(words.expect("every refusal has its words").1)
     }
 }
 
@@ -82,10 +94,11 @@ impl Error for Refusal {}
 
 #[test]
 fn each_number_has_its_own_words() {
-    for (place, (refusal, words)) in IN_WORDS.iter().enumerate() {
-        assert_eq!(refusal.number() as usize, place + 1);
-        assert_eq!(refusal.to_string(), *words);
+    let numbers: Vec<u32> = Refusal::all().map(Refusal::number).collect();
+    assert_eq!(numbers, (1..=18).chain([21, 22]).collect::<Vec<u32>>());
+    for (refusal, words) in IN_WORDS {
+        assert_eq!(Refusal::of_number(refusal.number()), Some(refusal));
+        assert_eq!(refusal.to_string(), words);
     }
-    assert_eq!(Refusal::of_number(0), None);
-    assert_eq!(Refusal::of_number(19), None);
+    assert_eq!([0, 19, 20, 23].map(Refusal::of_number), [None; 4]);
 }

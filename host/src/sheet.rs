@@ -5,7 +5,7 @@ use crate::{ffi, Refusal};
 #[repr(C)]
 #[derive(Clone, Copy, Debug, Default, PartialEq, Eq)]
 pub struct Job {
-    /// How many bytes its label has, 1 to 12.
+    /// How many bytes its label has, 1 to 16.
     pub label_len: u8,
     /// The modules that it needs, 1 to 255.
     pub modules: u8,

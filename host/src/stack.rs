@@ -1,7 +1,9 @@
 //! How much stack the calls need.
 use crate::guarded::{Against, Guarded};
 use crate::raw_sheet::Sheet;
-use crate::{card_length, label, plan, read, version, write, Desk, Job, Refusal, LONGEST_SHEET, MOST_JOBS};
+use crate::{
+    card_length, label, plan, read, version, write, Desk, Job, Refusal, LONGEST_LABEL, LONGEST_SHEET, MOST_JOBS, MOST_POWER,
+};
 use std::ffi::{c_int, c_void};
 use std::ptr;
 
@@ -74,12 +76,12 @@ pub fn of_every_call() -> Vec<(&'static str, usize)> {
         let sheet = Sheet::of(2, jobs).bytes();
         done(|| plan(&sheet, &mut card, &mut work))
     });
-    let long = Job { label_len: 12, modules: 64, minutes: 1440, ..Job::default() };
-    let labels = [b'~'; 12 * MOST_JOBS];
+    let long = Job { label_len: LONGEST_LABEL as u8, modules: 64, minutes: 1440, ..Job::default() };
+    let labels = [b'~'; LONGEST_LABEL * MOST_JOBS];
     let mut sheet = [0; LONGEST_SHEET];
     let writing = done(|| write(&[long; MOST_JOBS], &labels, 64, &mut sheet));
     let mut desk = Desk::default();
-    let opening = done(|| Desk::open(4096, &[500; 8], &[4096; 8]).map(|opened| desk = opened));
+    let opening = done(|| Desk::open(MOST_POWER, &[50_000; 8], &[MOST_POWER; 8]).map(|opened| desk = opened));
     vec![
         ("depot_version", done(|| Ok(version()))),
         ("depot_plan", planning[0].max(planning[1])),
@@ -87,8 +89,9 @@ pub fn of_every_call() -> Vec<(&'static str, usize)> {
         ("depot_label", done(|| label(&sheet, MOST_JOBS - 1))),
         ("depot_write", writing),
         ("depot_desk_open", opening),
-        ("depot_desk_claim", done(|| desk.claim(7, 500))),
-        ("depot_desk_hand_back", done(|| desk.hand_back(7, 500))),
+        ("depot_desk_change", done(|| desk.change(MOST_POWER, &[50_000; 8], &[MOST_POWER; 8]))),
+        ("depot_desk_claim", done(|| desk.claim(7, 50_000))),
+        ("depot_desk_hand_back", done(|| desk.hand_back(7, 50_000))),
         ("depot_desk_look", done(|| desk.look(7))),
     ]
 }

@@ -3,7 +3,7 @@ mod command;
 
 use command::{depot, file};
 use depot_host::raw_sheet::Sheet;
-use depot_host::Job;
+use depot_host::{Job, LONGEST_SHEET};
 
 const HEAD: &str = "cabinet,16\nlabel,modules,minutes,after,departure\n";
 
@@ -60,10 +60,18 @@ fn times_of_day() {
 
 #[test]
 fn labels() {
-    row(",1,10,,30", "line 3, column 1 (label): found no label; allowed: 1 to 12 letters, digits or signs, without spaces");
-    row("ABCDEFGHIJKLM,1,10,,30", "line 3, column 1 (label): found 'ABCDEFGHIJKLM', 13 characters; allowed: 1 to 12 characters");
-    let plain = "plain letters, digits and signs (bytes 33 to 126), without spaces";
-    row("B 1,1,10,,30", &format!("line 3, column 1 (label): found 'B 1' with ' ' in it; allowed: {plain}"));
+    row(",1,10,,30", "line 3, column 1 (label): found no label; allowed: 1 to 16 letters, digits, signs or spaces");
+    let long = "ABCDEFGHIJKLMNOPQ";
+    row(
+        &format!("{long},1,10,,30"),
+        &format!("line 3, column 1 (label): found '{long}', 17 characters; allowed: 1 to 16 characters"),
+    );
+    let edges = "a label that neither begins nor ends with a space";
+    for label in [" B1", "B1 ", " "] {
+        row(&format!("\"{label}\",1,10,,30"), &format!("line 3, column 1 (label): found '{label}'; allowed: {edges}"));
+    }
+    let plain = "plain letters, digits, signs and spaces (bytes 32 to 126)";
+    row("B\t1,1,10,,30", &format!("line 3, column 1 (label): found 'B\\t1' with '\\t' in it; allowed: {plain}"));
     row("Bü1,1,10,,30", &format!("line 3, column 1 (label): found 'Bü1' with 'ü' in it; allowed: {plain}"));
     row("B\u{7f},1,10,,30", &format!("line 3, column 1 (label): found 'B\\u{{7f}}' with '\\u{{7f}}' in it; allowed: {plain}"));
 }
@@ -78,6 +86,10 @@ fn names_in_after() {
     let twice = format!("{HEAD}A,1,10,,30\nA,1,10,,30\nB,1,10,A,30\n");
     let fault = "line 5, column 4 (after): found 'A', the label of 2 jobs; allowed: one of them by its number: #0 or #1";
     assert_eq!(faults(twice.as_bytes()), [fault]);
+    let bare = format!("{HEAD}N 417 B,1,10,,30\nA,1,10,N 417 B,30\n");
+    let quotes = "\"N 417 B\": a label with a space in it stands in double quotes";
+    let fault = format!("line 4, column 4 (after): found 'N 417 B' without double quotes; allowed: {quotes}");
+    assert_eq!(faults(bare.as_bytes()), [fault]);
 }
 
 #[test]
@@ -174,9 +186,13 @@ fn over_wide_and_circular() {
 
 #[test]
 fn sheets_that_do_not_read() {
-    for (bytes, number) in
-        [(&b"1234567"[..], 1), (&[0; 449], 1), (&[0, 0, 0, 0, 21, 0, 1, 0], 2), (&[0; 8], 3), (&[1, 0, 0, 0, 0, 0, 1, 0], 4)]
-    {
+    for (bytes, number) in [
+        (&b"1234567"[..], 1),
+        (&[0; LONGEST_SHEET + 1], 1),
+        (&[0, 0, 0, 0, 21, 0, 1, 0], 2),
+        (&[0; 8], 3),
+        (&[1, 0, 0, 0, 0, 0, 1, 0], 4),
+    ] {
         for verb in ["plan", "list"] {
             let ran = depot(&[verb, "-"], bytes);
             assert_eq!((ran.status, ran.text().as_str()), (1, ""));
@@ -257,22 +273,29 @@ fn files() {
 #[test]
 fn desk_lines() {
     let lines = [
-        ("claim 0 1", "there is no desk yet; open one first, as 'open 10 yard=4/10 workshop=3/10'"),
-        ("open", "found 'open' alone; allowed: open LIMIT SHARE/CEILING .., as 'open 10 yard=4/10 workshop=3/10'"),
-        ("open x 1/2 1/2", "found 'x'; allowed: a whole number of modules as the limit"),
-        ("open 10 4-10 3/10", "found '4-10'; allowed: SHARE/CEILING or NAME=SHARE/CEILING, as 4/10 or yard=4/10"),
-        ("open 10 7=4/10 3/10", "found '7=4/10'; allowed: SHARE/CEILING or NAME=SHARE/CEILING, as 4/10 or yard=4/10"),
+        ("claim 0 1", "there is no desk yet; open one first, as 'open 500 yard=240/420 workshop=100/200'"),
+        ("open", "found 'open' alone; allowed: open LIMIT SHARE/CEILING .., as 'open 500 yard=240/420 workshop=100/200'"),
+        ("open x 1/2 1/2", "found 'x'; allowed: kW, as 30 or 12.5, or modules of a size, as 3x30"),
+        ("open 10 4-10 3/10", "found '4-10'; allowed: SHARE/CEILING or NAME=SHARE/CEILING, as 240/420 or yard=240/420"),
+        ("open 10 7=4/10 3/10", "found '7=4/10'; allowed: SHARE/CEILING or NAME=SHARE/CEILING, as 240/420 or yard=240/420"),
+        ("open 10 4/10.25 3/10", "found '10.25'; allowed: whole hundreds of watts, so 10.2 or 10.3 kW"),
         ("open 10 a=4/10 a=3/10", "found the name 'a' twice; allowed: a name for each controller"),
-        ("claim 0", "found 'claim 0'; allowed: claim CONTROLLER MODULES, as 'claim 0 4'"),
+        ("claim 0", "found 'claim 0'; allowed: claim CONTROLLER KW, as 'claim 0 12.5'"),
         ("claim yard 1", "found 'yard'; allowed: a controller's number"),
-        ("claim 0 -1", "found '-1'; allowed: a whole number of modules"),
+        ("claim 0 -1", "found '-1'; allowed: kW, as 30 or 12.5, or modules of a size, as 3x30"),
+        ("claim 0 0.05", "found '0.05'; allowed: whole hundreds of watts, so 0 or 0.1 kW"),
+        ("back 0 429496729.6", "found '429496729.6'; allowed: kW, up to 40000"),
         ("look 0 1", "found 'look 0 1'; allowed: look, or look CONTROLLER"),
-        ("explain 19", "found '19'; allowed: refusals 1 to 18"),
-        ("grab 1 1", "found 'grab 1 1'; allowed: open, claim, back, look, show, explain, help, quit"),
+        ("explain 19", "found '19'; allowed: refusals 1 to 18, 21 and 22"),
+        ("explain x", "found 'x'; allowed: a refusal's number, 1 to 18, 21 and 22"),
+        ("change", "found 'change' alone; allowed: change LIMIT SHARE/CEILING .., as 'change 400 yard=180/360 workshop=100/200'"),
+        ("change 10 4/10 3/10", "there is no desk yet; open one first, as 'open 500 yard=240/420 workshop=100/200'"),
+        ("change 10 yard=4/10 3/10", "found 'yard'; allowed: a controller's number"),
+        ("grab 1 1", "found 'grab 1 1'; allowed: open, change, claim, back, look, show, explain, help, quit"),
     ];
     let script = file("wrong.desk", lines.map(|(line, _)| line).join("\n").as_bytes());
     let ran = depot(&["desk", &script], b"");
-    assert_eq!((ran.status, ran.errors.as_str()), (2, "depot: 12 lines are no command\n"));
+    assert_eq!((ran.status, ran.errors.as_str()), (2, "depot: 19 lines are no command\n"));
     let said: Vec<String> = ran.text().lines().filter(|line| !line.starts_with('>')).map(String::from).collect();
     let expected = lines.iter().enumerate().map(|(place, (_, why))| format!("{script}, line {}: {why}", place + 1));
     assert_eq!(said, expected.collect::<Vec<_>>());

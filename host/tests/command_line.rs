@@ -51,7 +51,7 @@ fn help() {
 fn explain() {
     golden("explain.txt", &["explain"], 0);
     golden("explain.json", &["explain", "--json"], 0);
-    let each = (1..=18).map(|number: u32| depot(&["explain", &number.to_string()], b"").text());
+    let each = (1..=18).chain([21, 22]).map(|number: u32| depot(&["explain", &number.to_string()], b"").text());
     same("host/tests/golden/explain-each.txt", each.collect::<Vec<_>>().join("\n").as_bytes());
     golden("explain-17.json", &["explain", "17", "--json"], 0);
 }
@@ -118,7 +118,7 @@ fn plans_in_other_forms() {
 /// A sheet without jobs, the longest sheet and labels full of markup are drawn too.
 #[test]
 fn pictures_of_edges() {
-    let longest = format!("{}\n", "~~~~~~~~~~~~,64,1440,,2880\n".repeat(20));
+    let longest = format!("{}\n", "~~~~~~~~~~~~~~~~,64,1440,,2880\n".repeat(20));
     let header = "cabinet,64\nlabel,modules,minutes,after,departure\n";
     let markup = "\"<b>&\"\"'x'\",1,1,,0\n</title>,1,1,,0\n";
     for (name, rows) in [("none", ""), ("longest", longest.as_str()), ("markup", markup)] {
@@ -231,6 +231,31 @@ fn lists_as_people_write_them() {
     }
 }
 
+/// A fleet number with spaces, and how it is named in the column `after`: in double quotes, as a text or a spreadsheet has them.
+#[test]
+fn fleet_numbers() {
+    let sheet = |after: &str| {
+        let rows = format!("N 417 B,1,10,,30\nA301,1,10,,30\n\"# 9\",1,10,,30\nB7,2,20,{after},25\n");
+        let list = file("fleet.csv", format!("cabinet,4\nlabel,modules,minutes,after,departure\n{rows}").as_bytes());
+        let ran = depot(&["sheet", &list, "-o", "-"], b"");
+        assert_eq!((ran.status, ran.errors.as_str()), (0, ""), "{after}");
+        ran.output
+    };
+    assert!(sheet("").starts_with(b"N 417 BA301# 9B7"));
+    for after in ["\"N 417 B\"", "\"\"\"N 417 B\"\"\""] {
+        assert_eq!(sheet(after), sheet("#0"), "{after}");
+    }
+    for after in ["\"N 417 B\" A301", "A301 \"N 417 B\"", "\"\"\"N 417 B\"\" A301\"", "\"N 417 B\" #1", "\"A301 #0\""] {
+        assert_eq!(sheet(after), sheet("#0 #1"), "{after}");
+    }
+    let raw = depot(&["plan", "-", "--raw"], &sheet("\"N 417 B\" A301"));
+    assert_eq!(
+        raw.text(),
+        "plan 30 4 4\n0 10 -20 0000000000000001 N 417 B\n0 10 -20 0000000000000002 A301\n\
+         0 10 -20 0000000000000004 # 9\n10 30 5 0000000000000003 B7\n"
+    );
+}
+
 #[test]
 fn desk() {
     golden("desk.txt", &["desk", SCRIPT], 1);
@@ -240,19 +265,21 @@ fn desk() {
     let shown = depot(&["desk", SCRIPT], b"").text();
     let answers: Vec<&str> = shown.lines().filter(|line| !line.starts_with('>')).collect();
     assert_eq!(typed.text().lines().collect::<Vec<_>>(), answers);
-    let calm = depot(&["desk"], b"open 10 4/10 3/10\nclaim 0 7\nback 0 7\nquit\nclaim 0 99\n");
-    assert_eq!((calm.status, calm.text().lines().last()), (0, Some("done: hands back 7; controller 0 now holds 0")));
+    let calm = depot(&["desk"], b"open 10 4/10 3/10\nclaim 0 6.5\nback 0 6.5\nquit\nclaim 0 99\n");
+    assert_eq!((calm.status, calm.text().lines().last()), (0, Some("done: hands back 6.5 kW; controller 0 now holds 0")));
 }
 
 /// Each refusal of the desk, with its sums.
 #[test]
 fn desk_refusals() {
-    let script = b"open 10 4/10\nopen 10 5/4 3/12\nopen 0 0/0 0/0\nopen 10 6/10 5/10\nopen 10 4/8 3/10\nclaim 2 1\nlook 7\nclaim 0 0\n\
-                   claim 0 9\nclaim 0 4294967295\nclaim 0 8\nclaim 1 3\nclaim 0 5\nclaim 1 6\nback 0 6\nback 0 0\nback 9 1\nclaim 1 7\n";
+    let script = b"open 10 4/10\nopen 10 5/4 3/12\nopen 0 0/0 0/0\nopen 40000.1 0/0 0/0\nopen 10 6/10 5/10\nopen 10 4/8 3/10\nclaim 2 1\nlook 7\nclaim 0 0\n\
+                   claim 0 8.1\nclaim 0 429496729.5\nclaim 0 8\nclaim 1 3\nclaim 0 5\nclaim 1 6\nback 0 6\nback 0 0\nback 9 1\nclaim 1 7\n\
+                   change 10 4/10\nchange 10 4/11 3/10\nchange 10 6/10 5/10\nchange 10 4/4.9 3/10\nchange 8 2/8 6/8\n\
+                   change 8 5/8 3/8\nchange 9 1=3/9 0=5/9\nclaim 0 1\nclaim 0 2\n";
     let ran = depot(&["desk"], script);
     assert_eq!((ran.status, ran.errors.as_str()), (1, ""));
     same("host/tests/golden/desk-refusals.txt", &ran.output);
-    for number in [11, 12, 13, 14, 15, 16, 17, 18] {
+    for number in [11, 12, 13, 14, 15, 16, 17, 18, 21, 22] {
         assert!(ran.text().contains(&format!("refused {number}: ")), "no refusal {number}");
     }
 }
@@ -262,5 +289,5 @@ fn output_that_nobody_reads_is_no_trouble() {
     let pipe = format!("'{}' explain | head -n 1", env!("CARGO_BIN_EXE_depot"));
     let ran = run(Path::new("/bin/sh"), &["-c", &pipe], b"");
     assert_eq!((ran.status, ran.errors.as_str()), (0, ""));
-    assert_eq!(ran.text(), " 1  the sheet has fewer than 8 or more than 448 bytes\n");
+    assert_eq!(ran.text(), " 1  the sheet has fewer than 8 or more than 528 bytes\n");
 }

@@ -1,8 +1,9 @@
 //! Every exported call with every argument at its edges, at the least, at the most and just past them: the answer and all lent
 //! memory are what a reading of the requirements says.
 use depot_host::guarded::{Against, Guarded};
+use depot_host::plain_search::{mislead, GROUP};
 use depot_host::raw_sheet::Sheet;
-use depot_host::{card_length, ffi, reference, Desk, Job, LONGEST_SHEET, MOST_JOBS};
+use depot_host::{card_length, ffi, reference, Desk, Job, LONGEST_LABEL, LONGEST_SHEET, MOST_JOBS, MOST_POWER};
 use std::ptr::null_mut;
 
 /// Lent memory that ends at a page that may not be touched.
@@ -67,7 +68,7 @@ const PLAIN: Job = Job { label_len: 1, modules: 1, minutes: 1, earlier: 0, depar
 /// A job with each figure at each of its edges, in a list of n jobs.
 fn edge_jobs(n: u32) -> Vec<Job> {
     let mut jobs = vec![PLAIN];
-    jobs.extend(around(1, 12, 255).iter().map(|x| Job { label_len: *x as u8, ..PLAIN }));
+    jobs.extend(around(1, LONGEST_LABEL as u32, 255).iter().map(|x| Job { label_len: *x as u8, ..PLAIN }));
     jobs.extend(around(1, 64, 255).iter().map(|x| Job { modules: *x as u8, ..PLAIN }));
     jobs.extend(around(1, 1440, 65535).iter().map(|x| Job { minutes: *x as u16, ..PLAIN }));
     jobs.extend([1, 1 << (n - 1), 1 << n, 1 << 31, (1 << n) - 1, u32::MAX].map(|earlier| Job { earlier, ..PLAIN }));
@@ -89,7 +90,8 @@ fn parts(jobs: Vec<Job>, modules: u16) -> Sheet {
 }
 
 fn longest() -> Sheet {
-    let longest_labels = chain(MOST_JOBS, PLAIN).into_iter().map(|job| Job { label_len: 12, minutes: 1440, ..job });
+    let longest_labels =
+        chain(MOST_JOBS, PLAIN).into_iter().map(|job| Job { label_len: LONGEST_LABEL as u8, minutes: 1440, ..job });
     parts(longest_labels.collect(), 64)
 }
 
@@ -99,8 +101,17 @@ fn edge_sheets() -> Vec<Vec<u8>> {
     for n in [1, MOST_JOBS] {
         sheets.extend(edge_jobs(n as u32).iter().map(|job| parts(chain(n, *job), 64)));
     }
-    for byte in [0, 32, 33, 126, 127, 255] {
+    for byte in [0, 31, 32, 33, 126, 127, 255] {
         sheets.push(Sheet { labels: vec![byte], ..parts(vec![PLAIN], 1) });
+        for place in 0..3 {
+            let mut sheet = parts(vec![Job { label_len: 3, ..PLAIN }], 1);
+            sheet.labels[place] = byte;
+            sheets.push(sheet);
+        }
+    }
+    for lengths in [[1, 2], [2, 1]] {
+        let jobs = lengths.map(|label_len| Job { label_len, ..PLAIN });
+        sheets.push(Sheet { labels: b"A B".to_vec(), ..parts(jobs.to_vec(), 1) });
     }
     for count in [0, 1, 2, 20, 21, 65535] {
         sheets.push(Sheet { count, ..parts(vec![PLAIN], 1) });
@@ -121,18 +132,21 @@ fn edge_sheets() -> Vec<Vec<u8>> {
 
 #[test]
 fn planning() {
+    let zeros = [0; 4096];
     for sheet in edge_sheets() {
         let n = reference::reading::read(&sheet).map_or(0, |sheet| sheet.jobs.len());
         let whole = card_length(n);
         for room in [0, 7, 8, whole - 1, whole, whole + 1, card_length(MOST_JOBS)] {
             let expected = reference::planning::plan(&sheet, room);
-            for work_length in [0, 1, 45, 4096] {
-                let (lent, card, work) = (Lent::of(&sheet), Lent::painted(room), Lent::painted(work_length));
+            for work_length in [0, 1, GROUP - 1, GROUP, GROUP + 1, 4096] {
+                let mut planted = vec![0x5A; work_length];
+                mislead(&mut planted, n);
+                let (lent, card, work) = (Lent::of(&sheet), Lent::painted(room), Lent::of(&planted));
                 // SAFETY: three buffers of their own.
                 let answer = unsafe { ffi::depot_plan(lent.at(), lent.len(), card.at(), room, work.at(), work_length) };
                 assert_eq!(answer, refusal(&expected), "sheet {sheet:02x?}, room {room}");
                 assert!(card.has(expected.as_deref().unwrap_or(&[])), "sheet {sheet:02x?}, room {room}");
-                assert!(work.has(&vec![0; if answer == 0 { work_length } else { 0 }]), "sheet {sheet:02x?}");
+                assert!(work.has(if answer == 0 { &zeros[..work_length] } else { &planted }), "sheet {sheet:02x?}");
                 assert!(lent.has(&sheet));
             }
         }
@@ -227,7 +241,7 @@ fn call_on(desk: &Desk, expected: Result<Desk, u32>, call: impl Fn(*mut Desk) ->
 #[test]
 fn openings() {
     let kept = Desk { count: 3, limit: u32::MAX, held: [7; 8], ..Desk::default() };
-    for limit in around(1, 4096, u32::MAX) {
+    for limit in around(1, MOST_POWER, u32::MAX) {
         for (shares, tops) in (0..=9).flat_map(|shares| (0..=9).map(move |tops| (shares, tops))) {
             for share in [0, 1, limit / shares.max(1) as u32, limit, u32::MAX] {
                 for top in [0, 1, limit.saturating_sub(1), limit, limit.saturating_add(1), u32::MAX] {
@@ -242,11 +256,33 @@ fn openings() {
     }
 }
 
+#[test]
+fn changes() {
+    for desk in edge_desks() {
+        let held: u32 = desk.held.iter().fold(0, |sum, held| sum.wrapping_add(*held));
+        let count = desk.count.min(9) as usize;
+        for limit in [0, 1, held.wrapping_sub(1), held, desk.limit, MOST_POWER, MOST_POWER + 1, u32::MAX] {
+            for (shares, tops) in [(0, 0), (1, 1), (2, 2), (8, 8), (9, 9), (count, count), (count, count + 1), (count + 1, count)]
+            {
+                for share in [0, 1, limit / shares.max(1) as u32, u32::MAX] {
+                    for top in [0, desk.held[0].wrapping_sub(1), desk.held[0], limit, limit.saturating_add(1)] {
+                        let (assured, ceilings) = (vec![share; shares], vec![top; tops]);
+                        call_on(&desk, reference::desk::change(&desk, limit, &assured, &ceilings), |desk| {
+                            // SAFETY: a live desk and two slices that are read.
+                            unsafe { ffi::depot_desk_change(desk, limit, assured.as_ptr(), shares, ceilings.as_ptr(), tops) }
+                        });
+                    }
+                }
+            }
+        }
+    }
+}
+
 /// Desks at the edges of what calls can leave, and desks that they cannot.
 fn edge_desks() -> Vec<Desk> {
     let mut desks = vec![Desk::default()];
     for count in [2, 8] {
-        for limit in [1, 8, 4096] {
+        for limit in [1, 8, MOST_POWER] {
             for share in [0, 1, limit / count] {
                 let shares = vec![share; count as usize];
                 if let Ok(desk) = reference::desk::open(limit, &shares, &vec![limit; count as usize]) {
@@ -273,27 +309,25 @@ fn claims_hand_backs_and_looks() {
         for controller in [0, 1, desk.count.saturating_sub(1), desk.count, 7, 8, u32::MAX] {
             let room = reference::desk::look(&desk, controller).unwrap_or(1);
             let held = *desk.held.get(controller as usize).unwrap_or(&1);
-            for bound in [0, 1, room, held, 4096, u32::MAX] {
-                for modules in [bound.saturating_sub(1), bound, bound.saturating_add(1)] {
-                    call_on(&desk, reference::desk::claim(&desk, controller, modules), |desk| {
+            for bound in [0, 1, room, held, MOST_POWER, u32::MAX - held, u32::MAX - room, u32::MAX] {
+                for power in [bound.saturating_sub(1), bound, bound.saturating_add(1)] {
+                    call_on(&desk, reference::desk::claim(&desk, controller, power), |desk| {
                         // SAFETY: a live desk.
-                        unsafe { ffi::depot_desk_claim(desk, controller, modules) }
+                        unsafe { ffi::depot_desk_claim(desk, controller, power) }
                     });
-                    call_on(&desk, reference::desk::hand_back(&desk, controller, modules), |desk| {
+                    call_on(&desk, reference::desk::hand_back(&desk, controller, power), |desk| {
                         // SAFETY: a live desk.
-                        unsafe { ffi::depot_desk_hand_back(desk, controller, modules) }
+                        unsafe { ffi::depot_desk_hand_back(desk, controller, power) }
                     });
                 }
             }
             let expected = reference::desk::look(&desk, controller);
-            for before in [0, u32::MAX] {
-                let shown = Lent::of(&before.to_le_bytes());
-                call_on(&desk, expected.map(|_| desk), |desk| {
-                    // SAFETY: a live desk, which is read, and a live number.
-                    unsafe { ffi::depot_desk_look(desk, controller, shown.at()) }
-                });
-                assert!(shown.has(&expected.unwrap_or(before).to_le_bytes()), "{desk:?}");
-            }
+            call_on(&desk, expected.map(|_| desk), |lent| {
+                // SAFETY: a live desk, which is read.
+                let looked = unsafe { ffi::depot_desk_look(lent, controller) };
+                assert_eq!(looked.power, expected.unwrap_or(0), "{desk:?}");
+                looked.refusal
+            });
         }
     }
 }
@@ -313,6 +347,7 @@ fn empty_buffers_may_have_any_pointer() {
         assert_eq!(ffi::depot_write(null_mut(), 0, null_mut(), 0, 1, null_mut(), 0).refusal, 10);
         assert_eq!(ffi::depot_write(null_mut(), 0, null_mut(), 0, 1, sheet.as_mut_ptr(), 8).length, 8);
         assert_eq!(ffi::depot_desk_open(&mut desk, 1, null_mut(), 0, null_mut(), 0), 11);
+        assert_eq!(ffi::depot_desk_change(&mut desk, 1, null_mut(), 0, null_mut(), 0), 14);
     }
     assert_eq!(sheet, [0, 0, 0, 0, 0, 0, 1, 0]);
 }

@@ -1,6 +1,6 @@
 //! The examples E1 to E11 of docs/REQUIREMENTS.md, and the edges of a sheet, through the exported calls.
 use depot_host::raw_sheet::Sheet;
-use depot_host::{card_length, plan, Desk, Job, Refusal};
+use depot_host::{card_length, plan, Desk, Job, Refusal, LONGEST_SHEET};
 
 /// A job of so many modules and minutes that waits for the jobs of a set.
 fn job(modules: u8, minutes: u16, earlier: u32) -> Job {
@@ -58,6 +58,19 @@ fn e9_to_e11() {
     assert!(Desk::open(10, &[5, 5], &[10, 10]).is_ok());
 }
 
+/// E9 and E10 with modules of 30 kW: every figure times 300.
+#[test]
+fn e9_and_e10_in_hundreds_of_watts() {
+    let mut desk = Desk::open(3_000, &[1_200, 900], &[3_000, 3_000]).unwrap();
+    assert_eq!((desk.look(0), desk.look(1)), (Ok(2_100), Ok(1_800)));
+    assert_eq!(desk.claim(0, 2_100), Ok(()));
+    assert_eq!(desk.claim(0, 300), Err(Refusal::DoesNotFit));
+    assert_eq!(desk.claim(1, 900), Ok(()));
+    assert_eq!(desk.claim(1, 300), Err(Refusal::DoesNotFit));
+    assert_eq!(desk.hand_back(0, 2_400), Err(Refusal::ExceedsHolding));
+    assert_eq!(desk.hand_back(0, 2_100), Ok(()));
+}
+
 #[test]
 fn edges() {
     assert_eq!(planned(1, vec![job(1, 1440, 0)]), Ok((1440, vec![0])));
@@ -69,13 +82,13 @@ fn edges() {
     assert_eq!(planned(1, one_after_another(21)), Err(Refusal::TooManyJobs));
 }
 
-/// The longest sheet, of 448 bytes, plans; with a byte more it is too long.
+/// The longest sheet, of 528 bytes, plans; with a byte more it is too long.
 #[test]
 fn longest_sheet() {
-    let long_label = Job { label_len: 12, ..job(1, 1, 0) };
-    let mut sheet = Sheet { labels: vec![b'~'; 240], jobs: vec![long_label; 20], offset: 240, count: 20, modules: 64 };
+    let long_label = Job { label_len: 16, ..job(1, 1, 0) };
+    let mut sheet = Sheet { labels: vec![b'~'; 320], jobs: vec![long_label; 20], offset: 320, count: 20, modules: 64 };
     let mut card = [0; card_length(20)];
-    assert_eq!(sheet.bytes().len(), 448);
+    assert_eq!(sheet.bytes().len(), LONGEST_SHEET);
     assert_eq!(plan(&sheet.bytes(), &mut card, &mut []), Ok(()));
     sheet.labels.push(b'~');
     assert_eq!(plan(&sheet.bytes(), &mut card, &mut []), Err(Refusal::SheetLength));

@@ -89,6 +89,7 @@ fn in_c(name: &str) -> String {
         "LabelPlace" => "struct depot_label_place",
         "Written" => "struct depot_written",
         "Desk" => "struct depot_desk",
+        "Looked" => "struct depot_looked",
         other => panic!("{other} has no type in C"),
     };
     name.to_string()
@@ -149,7 +150,7 @@ fn constant(text: &str, name: &str) -> usize {
 #[test]
 fn calls_agree() {
     let declared = c_calls();
-    assert_eq!(declared.len(), 9);
+    assert_eq!(declared.len(), 10);
     assert_eq!(calls(&source("crates/depot/src/lib.rt")), declared);
     assert_eq!(calls(&source("host/src/ffi.rs")), declared);
 }
@@ -162,6 +163,7 @@ fn structs_agree() {
         ("LabelPlace", "crates/sheet/src/lib.rt", "host/src/ffi.rs"),
         ("Written", "crates/sheet/src/lib.rt", "host/src/ffi.rs"),
         ("Desk", "crates/desk/src/lib.rt", "host/src/desk.rs"),
+        ("Looked", "crates/lent/src/lib.rt", "host/src/ffi.rs"),
     ];
     let declared = c_structs();
     assert_eq!(declared.len(), files.len());
@@ -187,12 +189,14 @@ fn numbers_agree() {
         ("DEPOT_LONGEST_CARD", depot_host::card_length(depot_host::MOST_JOBS)),
         ("DEPOT_FEWEST_CONTROLLERS", constant(&desk, "FEWEST_CONTROLLERS")),
         ("DEPOT_MOST_CONTROLLERS", constant(&desk, "MOST_CONTROLLERS")),
-        ("DEPOT_MOST_LIMIT", constant(&desk, "MOST_MODULES")),
+        ("DEPOT_MOST_POWER", constant(&desk, "MOST_POWER")),
     ] {
         assert_eq!(macros[name], number, "{name}");
     }
     assert_eq!(depot_host::MOST_JOBS, macros["DEPOT_MOST_JOBS"]);
     assert_eq!(depot_host::LONGEST_SHEET, macros["DEPOT_LONGEST_SHEET"]);
+    assert_eq!(depot_host::LONGEST_LABEL, macros["DEPOT_LONGEST_LABEL"]);
+    assert_eq!(depot_host::MOST_POWER as usize, macros["DEPOT_MOST_POWER"]);
 }
 
 /// One version: the header's two forms of it, the proved call's, and the package's.
@@ -222,12 +226,12 @@ fn refusals_agree() {
         .map(|(name, number)| (name.trim().to_string(), number.trim().to_string()))
         .collect();
     let mut expected = vec![("DEPOT_DONE".to_string(), "0".to_string())];
-    for refusal in (1..).map_while(Refusal::of_number) {
+    for refusal in Refusal::all() {
         let in_capitals = |c: char| if c.is_uppercase() { format!("_{c}") } else { c.to_uppercase().to_string() };
         let name: String = format!("{refusal:?}").chars().map(in_capitals).collect();
         expected.push((format!("DEPOT{name}"), refusal.number().to_string()));
     }
-    assert_eq!(expected.len(), 19);
+    assert_eq!(expected.len(), 21);
     assert_eq!(declared, expected);
 }
 

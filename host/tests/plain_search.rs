@@ -1,6 +1,9 @@
 //! The search in plain Rust on lists of every family: `compare/search.rs` says what is compared.
+use depot_host::compare::sheets;
 use depot_host::families::{self, Family};
-use depot_host::plain_search::{run_with, Outcome, Rules, Tables};
+use depot_host::lists::List;
+use depot_host::plain_search::{mislead, run_believing, run_with, Outcome, Rules, Tables, GROUP};
+use depot_host::random::Random;
 use depot_host::{compare, lists};
 
 fn every_family(seeds: u64, compare: fn(&Family, u64)) {
@@ -37,4 +40,37 @@ fn a_search_is_given_up_at_its_limit() {
 fn a_circle_has_no_order() {
     let circle = &lists::read("circle 2 4\n1 5 2\n1 5 1\n").expect("a list")[0];
     assert_eq!(run_with(&Tables::of(circle), &mut [], &Rules::default()), Outcome::NoOrder);
+}
+
+/// How many of the sheets that the planning call is compared on are planned wrongly by a search that believes the part-plans that
+/// were planted in working memory of this length. The search that clears its memory plans them all as without memory.
+fn misled(length: usize) -> usize {
+    let mut random = Random::new(20_161);
+    let is_misled = |_: &usize| {
+        let sheet = sheets::good(&mut random);
+        let list = List { name: String::new(), modules: sheet.modules, jobs: sheet.jobs };
+        let tables = Tables::of(&list);
+        let answer = |outcome| match outcome {
+            Outcome::Found(found) => (found.end, found.order),
+            other => panic!("{other:?}"),
+        };
+        let right = answer(run_with(&tables, &mut [], &Rules::default()));
+        let mut planted = vec![0xA5; length];
+        mislead(&mut planted, list.jobs.len());
+        assert_eq!(answer(run_with(&tables, &mut planted.clone(), &Rules::default())), right);
+        answer(run_believing(&tables, &mut planted, &Rules::default())) != right
+    };
+    (0..3_000).filter(is_misled).count()
+}
+
+#[test]
+fn planted_part_plans_mislead_a_search_that_believes_them() {
+    for length in [0, 1, GROUP - 1] {
+        assert_eq!(misled(length), 0, "{length} bytes have no part-plan");
+    }
+    for length in [GROUP, GROUP + 1, 2 * GROUP - 1, 2 * GROUP, 4096, 1 << 16] {
+        let times = misled(length);
+        println!("{times} of 3,000 sheets, {length} bytes");
+        assert!(times >= 10, "{length} bytes: {times}");
+    }
 }

@@ -1,5 +1,8 @@
 //! The planning call on many sheets: `compare/planning.rs` says what is compared.
 use depot_host::compare::planning::Planning;
+use depot_host::lists::List;
+use depot_host::plain_search::{run_believing, Outcome, Rules, Tables};
+use depot_host::{plan, read, Refusal};
 
 const SEED: u64 = 20_160;
 const GOOD: usize = 14_000;
@@ -21,6 +24,25 @@ fn planning_is_what_document_01_says() {
 #[test]
 fn bytes_of_no_sheet_are_refused() {
     let mut planning = Planning::new(SEED);
-    (0..=460).for_each(|length| planning.noisy(length));
-    assert_eq!(planning.compared, 461);
+    (0..=540).for_each(|length| planning.noisy(length));
+    assert_eq!(planning.compared, 541);
+}
+
+/// Planning whose end is that of a search that does not clear its working memory.
+fn believing(sheet: &[u8], card: &mut [u8], work: &mut [u8]) -> Result<(), Refusal> {
+    let mut believed = work.to_vec();
+    plan(sheet, card, work)?;
+    let reading = read(sheet)?;
+    let at = 13 * reading.jobs.len() + 4;
+    let list = List { name: String::new(), modules: reading.modules, jobs: reading.jobs };
+    if let Outcome::Found(found) = run_believing(&Tables::of(&list), &mut believed, &Rules::default()) {
+        card[at..at + 2].copy_from_slice(&found.end.to_le_bytes());
+    }
+    Ok(())
+}
+
+#[test]
+#[should_panic(expected = "assertion `left == right` failed: sheet")]
+fn a_planner_that_believes_its_working_memory_is_found_out() {
+    Planning::of(believing, SEED).good(GOOD);
 }

@@ -1,13 +1,14 @@
--- An instance: on E9's desk controller 1 follows E1's plan, while controller 0 takes all it can get and others' calls are refused.
+-- An instance: modules of 30 kW, E9's desk in hundreds of watts. Controller 1 follows E1's plan, while controller 0 takes all it can get,
+-- others' calls are refused, and the limit and the shares change.
 use mathlib.Core.Path.{_≡_, refl}
-use mathlib.Core.Bool.{false}
+use mathlib.Core.Bool.{Bool, true, false, _&&_}
 use mathlib.Core.List.{List, [], _∷_}
 use Prim.Native.Nat.{ℕ}
 use native.Mathlib.Omega.{arith}
 use lib.Dec.{ltb, leb}
 use borrow.Author.Tests.{ltb-true, leb-true}
 use Rattle.counting.specs.Counting.{sum, largest, every, any}
-use Rattle.counting.proofs.Tests.{clash}
+use Rattle.counting.proofs.Tests.{clash, and-left, and-right}
 use Rattle.counting.proofs.Ranges.{every-at}
 use Rattle.checking.specs.Checking.{firstFailing}
 use Rattle.schedule.specs.Plan.{Sheet, Plan, Valid, Narrow, Lasting, Needing}
@@ -15,14 +16,14 @@ use Rattle.schedule.specs.ListPlan.{Order, ready, firstMinute, startOf, placeAl
 use Rattle.schedule.specs.Rows.{job, sheet}
 use Rattle.schedule.proofs.Sound.{list-plan-valid}
 use Rattle.desk.specs.declared.Desk.{Desk}
-use Rattle.desk.specs.Desk.{newDesk}
-use Rattle.desk.specs.Checks.{wrongLengths, wrongFigures, sharesExceed, deskOk, notOfDesk}
+use Rattle.desk.specs.Desk.{assuredShare, newDesk}
+use Rattle.desk.specs.Checks.{wrongLengths, wrongFigures, sharesExceed, deskOk, notOfDesk, wrongCount, someHoldsMore, raisedExceed}
 use Rattle.desk.specs.Reachable.{Reachable, opening}
-use Rattle.desk.specs.Calls.{Call, claim, handBack, look, refusalOf, deskAfter}
-use Rattle.desk.specs.Calls.{claimRefusal, claimed, handBackRefusal, handedBack, lookRefusal, looked}
-use Rattle.assurance.specs.Following.{Event, begin, end, InOrder, FollowsPlan, AllGranted}
+use Rattle.desk.specs.Calls.{Call, claim, handBack, look, change, refusalOf, deskAfter}
+use Rattle.desk.specs.Calls.{claimRefusal, claimed, handBackRefusal, handedBack, lookRefusal, looked, changeRefusal, changed}
+use Rattle.assurance.specs.Following.{Event, begin, end, InOrder, FollowsPlan, FollowsSoFar, AllGranted, GrantedWhile, KeepsShare}
 use Rattle.assurance.proofs.Once.{eachOnce, once-says}
-use Rattle.assurance.proofs.Assured.{plan-granted}
+use Rattle.assurance.proofs.Assured.{plan-granted, so-far-granted}
 
 -- ---- E1's sheet and plan: A and C from minute 0 to 10, B from 10 to 30
 
@@ -52,19 +53,35 @@ yard-valid : Valid yardSheet yardPlan
 unfolding yardPlan
 yard-valid = list-plan-valid yardSheet yard-narrow (0 ∷ 2 ∷ 1 ∷ []) yard-order
 
+-- that no change takes a share below n, as a computed test
+abbrev keptShare : ℕ → ℕ → Desk → List Call → Bool
+keptShare n c d [] = true
+keptShare n c d (x ∷ l) = leb n (assuredShare (deskAfter d x) c) && keptShare n c (deskAfter d x) l
+
+kept-says : (n c : ℕ) (d : Desk) (l : List Call) → keptShare n c d l ≡ true → KeepsShare n c d l
+kept-says n c d [] e = tt
+kept-says n c d (x ∷ l) e =
+    let first = leb n (assuredShare (deskAfter d x) c) in
+    let rest = keptShare n c (deskAfter d x) l in
+    (leb-true n _ (and-left first rest e), kept-says n c (deskAfter d x) l (and-right first rest e))
+
 -- ---- E9's desk, and the calls
 
 abbrev yardDesk : Desk
-yardDesk = newDesk 10 (4 ∷ 3 ∷ []) (10 ∷ 10 ∷ [])
+yardDesk = newDesk 3000 (1200 ∷ 900 ∷ []) (3000 ∷ 3000 ∷ [])
 
 yard-opened : Reachable yardDesk
 unfolding sum any firstFailing wrongLengths wrongFigures sharesExceed
-yard-opened = opening 10 (4 ∷ 3 ∷ []) (10 ∷ 10 ∷ []) refl
+yard-opened = opening 3000 (1200 ∷ 900 ∷ []) (3000 ∷ 3000 ∷ []) refl
 
+-- In between the grid operator wants the limit at 2400, below what is held: 22. With 2700, and controller 1's share down to the 600 that
+-- its plan needs, it is granted; a ceiling of 2000 for controller 0, which holds 2100, is 21, and a third controller 11.
 abbrev yardCalls : List Call
 yardCalls =
-    claim 0 7 ∷ claim 0 1 ∷ claim 1 1 ∷ look 1 ∷ claim 1 1 ∷ handBack 0 8 ∷ claim 9 5
-    ∷ handBack 1 1 ∷ claim 0 1 ∷ handBack 1 1 ∷ claim 1 2 ∷ claim 0 0 ∷ handBack 1 2 ∷ []
+    claim 0 2100 ∷ claim 0 1 ∷ claim 1 300 ∷ look 1 ∷ claim 1 300 ∷ handBack 0 2101 ∷ claim 9 1500
+    ∷ change 2400 (1200 ∷ 600 ∷ []) (2400 ∷ 2400 ∷ []) ∷ change 2700 (1200 ∷ 600 ∷ []) (2700 ∷ 2700 ∷ [])
+    ∷ change 2700 (1200 ∷ 600 ∷ []) (2000 ∷ 2700 ∷ []) ∷ change 2700 (1200 ∷ 600 ∷ 0 ∷ []) (2700 ∷ 2700 ∷ 0 ∷ [])
+    ∷ handBack 1 300 ∷ claim 0 300 ∷ handBack 1 300 ∷ claim 1 600 ∷ claim 0 0 ∷ handBack 1 600 ∷ []
 
 abbrev yardEvents : List Event
 yardEvents = begin 0 ∷ begin 2 ∷ end 0 ∷ end 2 ∷ begin 1 ∷ end 1 ∷ []
@@ -86,23 +103,63 @@ yard-in-order = (
   ),
 )
 
-yard-follows : FollowsPlan yardSheet yardPlan 1 yardCalls
+yard-follows : FollowsPlan yardSheet yardPlan 300 1 yardCalls
 unfolding eachOnce every
 yard-follows = record { events = yardEvents; once = once-says 3 yardEvents refl; order = yard-in-order; own = refl }
 
 -- ---- so every call of controller 1 is granted
 
+-- behind every call its share is what the plan needs, 2 modules of 30 kW, or more
+yard-keeps : KeepsShare 600 1 yardDesk yardCalls
+unfolding sum every any firstFailing wrongLengths wrongFigures sharesExceed deskOk notOfDesk wrongCount someHoldsMore raisedExceed
+    claimRefusal claimed handBackRefusal handedBack lookRefusal looked changeRefusal changed
+yard-keeps = kept-says 600 1 yardDesk yardCalls refl
+
 pub yard-granted : AllGranted 1 yardDesk yardCalls
 yard-granted =
-    plan-granted yardSheet yardPlan yard-valid yard-lasting yard-needing yardDesk yard-opened 1 refl (omega arith)
-    yardCalls yard-follows
+    plan-granted yardSheet yardPlan yard-valid yard-lasting yard-needing 300 (omega arith) yardDesk yard-opened 1 refl
+    (omega arith) yardCalls yard-keeps yard-follows
 
 -- what each call gives
 abbrev numbers : Desk → List Call → List ℕ
 numbers d [] = []
 numbers d (x ∷ l) = refusalOf d x ∷ numbers (deskAfter d x) l
 
--- Of the other calls controller 0's first claim is granted, and the rest are refused: 17, 18, 14, 17 and 15.
-pub yard-numbers : numbers yardDesk yardCalls ≡ 0 ∷ 17 ∷ 0 ∷ 0 ∷ 0 ∷ 18 ∷ 14 ∷ 0 ∷ 17 ∷ 0 ∷ 0 ∷ 15 ∷ 0 ∷ []
-unfolding sum every any firstFailing deskOk notOfDesk claimRefusal claimed handBackRefusal handedBack lookRefusal looked
+-- Of the other calls controller 0's first claim and the second change are granted, and the rest are refused: 17, 18, 14, 22, 21, 11, 17
+-- and 15.
+pub yard-numbers : numbers yardDesk yardCalls
+    ≡ 0 ∷ 17 ∷ 0 ∷ 0 ∷ 0 ∷ 18 ∷ 14 ∷ 22 ∷ 0 ∷ 21 ∷ 11 ∷ 0 ∷ 17 ∷ 0 ∷ 0 ∷ 15 ∷ 0 ∷ []
+unfolding sum every any firstFailing wrongLengths wrongFigures sharesExceed deskOk notOfDesk wrongCount someHoldsMore raisedExceed
+    claimRefusal claimed handBackRefusal handedBack lookRefusal looked changeRefusal changed
 yard-numbers = refl
+
+-- ---- a plan that is not yet over, and a change that takes the share below its need
+
+-- A and C are done, and B is still to come: a change leaves controller 1 a share of 500, of the 600 that its plan needs, and controller 0
+-- takes the rest.
+abbrev cutCalls : List Call
+cutCalls =
+    claim 1 300 ∷ claim 1 300 ∷ handBack 1 300 ∷ handBack 1 300
+    ∷ change 3000 (1200 ∷ 500 ∷ []) (3000 ∷ 3000 ∷ []) ∷ claim 0 2500 ∷ claim 1 600 ∷ []
+
+cut-follows : FollowsSoFar yardSheet yardPlan 300 1 cutCalls
+unfolding eachOnce every
+cut-follows = record {
+  made = begin 0 ∷ begin 2 ∷ end 0 ∷ end 2 ∷ begin 1 ∷ [];
+  left = end 1 ∷ [];
+  once = once-says 3 yardEvents refl;
+  order = yard-in-order;
+  own = refl;
+}
+
+-- What it calls before that change is granted,
+pub cut-granted : GrantedWhile 600 1 yardDesk cutCalls
+cut-granted =
+    so-far-granted yardSheet yardPlan yard-valid yard-lasting yard-needing 300 (omega arith) yardDesk yard-opened 1 refl
+    (omega arith) cutCalls cut-follows
+
+-- and behind it B's claim is refused: the condition is needed.
+pub cut-numbers : numbers yardDesk cutCalls ≡ 0 ∷ 0 ∷ 0 ∷ 0 ∷ 0 ∷ 0 ∷ 17 ∷ []
+unfolding sum every any firstFailing wrongLengths wrongFigures sharesExceed deskOk notOfDesk wrongCount someHoldsMore raisedExceed
+    claimRefusal claimed handBackRefusal handedBack lookRefusal looked changeRefusal changed
+cut-numbers = refl

@@ -1,14 +1,14 @@
 -- Which number a list of checks gives: that of the first that fails, and 0 where none does.
 use mathlib.Core.Path.{_≡_, refl, ap, ap₂}
 use mathlib.Core.Logic.{_↔_, _≢_}
-use mathlib.Core.Bool.{Bool, true, false, _&&_}
+use mathlib.Core.Bool.{Bool, true, false, not, _&&_}
 use mathlib.Core.List.{List, [], _∷_, _++_}
 use Prim.Native.Nat.{ℕ, zero, suc, _<_}
 use native.Mathlib.Nat.{not-suc-le-zero, le-of-suc-le-suc}
 use native.Mathlib.Omega.{arith}
-use lib.Dec.{ltb}
+use lib.Dec.{ltb, eqb}
 use lib.ListN.{length, getD}
-use borrow.Author.Tests.{ltb-true}
+use borrow.Author.Tests.{ltb-true, eqb-false, not-true}
 use Rattle.counting.proofs.Tests.{and-left, and-right, clash}
 use Rattle.checking.specs.Checking.{Check, firstFailing, FirstFails, NoneFails}
 
@@ -115,19 +115,26 @@ at-passed (c ∷ cs) h = (h 0 (omega arith), at-passed cs (λ i l. h (suc i) (om
 pub answered-exactly : (cs : List Check) → numberedAbove 0 cs ≡ true → (firstFailing cs ≡ 0) ↔ NoneFails cs
 answered-exactly cs n = (λ e. passed-at cs (all-passed cs n e), λ h. none-failing cs (at-passed cs h))
 
--- ---- a list's first check, where the numbers behind it are above its own
+-- ---- a list's first check, where its number stands nowhere behind it
 
-not-later : (n : ℕ) → 0 < n → (cs : List Check) → numberedAbove n cs ≡ true → firstFailing cs ≢ n
+-- no check of the list has the number n: it computes on a written list
+abbrev pub notAmong : ℕ → List Check → Bool
+notAmong n [] = true
+notAmong n (c ∷ cs) = not (eqb (c .0) n) && notAmong n cs
+
+not-later : (n : ℕ) → 0 < n → (cs : List Check) → notAmong n cs ≡ true → firstFailing cs ≢ n
 unfolding firstFailing
 not-later n p [] a e = omega arith
-not-later n p (c ∷ cs) a e = go (c .1) refl (not-later n p cs (above-rest n c cs a))
+not-later n p (c ∷ cs) a e = go (c .1) refl (not-later n p cs (and-right (not (eqb (c .0) n)) (notAmong n cs) a))
   where
     go : (b : Bool) → c .1 ≡ b → firstFailing cs ≢ n → ⊥
-    go true q rest = let z : c .0 ≡ n = rw q at e in omega (arith, above-first n c cs a)
+    go true q rest =
+        let z : c .0 ≡ n = rw q at e in
+        eqb-false (c .0) n (not-true _ (and-left (not (eqb (c .0) n)) (notAmong n cs) a)) z
     go false q rest = rest (rw q at e)
 
 -- its number is given exactly when it fails
-pub first-exactly : (n : ℕ) → 0 < n → (b : Bool) (cs : List Check) → numberedAbove n cs ≡ true
+pub first-exactly : (n : ℕ) → 0 < n → (b : Bool) (cs : List Check) → notAmong n cs ≡ true
     → (firstFailing ((n, b) ∷ cs) ≡ n) ↔ (b ≡ true)
 unfolding firstFailing
 first-exactly n p true cs a = ((λ e. refl), λ e. refl)

@@ -1,12 +1,12 @@
 -- Laws of the largest value, of tests of every and any number below n, and searches among them.
-use mathlib.Core.Path.{_≡_, refl, ap₂}
+use mathlib.Core.Path.{_≡_, refl, ap, ap₂, _∙_}
 use mathlib.Core.Logic.{_⊎_, inl, inr, ⊎-elim}
 use mathlib.Core.Bool.{Bool, true, false, _||_}
-use Prim.Native.Nat.{ℕ, zero, suc, _≤_, _<_, max, zero-le}
+use Prim.Native.Nat.{ℕ, zero, suc, _+_, _≤_, _<_, max, zero-le}
 use native.Mathlib.Omega.{arith}
-use native.Mathlib.Nat.{le-refl, not-suc-le-zero}
-use Rattle.counting.specs.Counting.{largest, every, any}
-use Rattle.counting.proofs.Tests.{true-or-false, clash, and-left, and-right, or-left, or-right}
+use native.Mathlib.Nat.{add-zero, le-refl, not-suc-le-zero}
+use Rattle.counting.specs.Counting.{sum, largest, every, any}
+use Rattle.counting.proofs.Tests.{true-or-false, clash, and-left, and-right, or-left, or-right, or-false, or-assoc}
 use Rattle.counting.proofs.Tests.{less-or-not, below-suc, last-or-below}
 
 -- ---- the largest
@@ -76,6 +76,26 @@ pub any-same : (n : ℕ) (p q : ℕ → Bool) → ((i : ℕ) → i < n → p i �
 unfolding any
 any-same zero p q h = refl
 any-same (suc n) p q h = ap₂ _||_ (any-same n p q (below-suc n h)) (h n (le-refl _))
+
+-- one number that passes is enough
+pub any-at : (n : ℕ) (p : ℕ → Bool) (i : ℕ) → i < n → p i ≡ true → any n p ≡ true
+any-at n p i l e = ⊎-elim (λ t. t) (λ h. clash (p i) e (any-none n p h i l)) (true-or-false (any n p))
+
+-- the first a numbers, and the b behind them
+any-apart : (a b : ℕ) (p : ℕ → Bool) → any (a + b) p ≡ (any a p || any b (λ k. p (a + k)))
+unfolding any
+any-apart a zero p = ap (λ (k : ℕ). any k p) (add-zero a) ∙ or-false (any a p)
+any-apart a (suc b) p =
+    let e : a + suc b ≡ suc (a + b) = omega arith in
+    ap (λ (k : ℕ). any k p) e ∙ ap (λ (x : Bool). x || p (a + b)) (any-apart a b p)
+    ∙ or-assoc (any a p) (any b (λ k. p (a + k))) (p (a + b))
+
+-- a test of all numbers up to a sum, part by part
+pub any-by-parts : (n : ℕ) (size : ℕ → ℕ) (p : ℕ → Bool) → any (sum n size) p ≡ any n (λ i. any (size i) (λ k. p (sum i size + k)))
+unfolding any sum
+any-by-parts zero size p = refl
+any-by-parts (suc n) size p =
+    any-apart (sum n size) (size n) p ∙ ap (λ (x : Bool). x || any (size n) (λ k. p (sum n size + k))) (any-by-parts n size p)
 
 -- ---- searches
 

@@ -41,6 +41,26 @@ or-right true true e = e
 or-right true false e = refl
 or-right false b e = e
 
+pub or-false : (a : Bool) → a ≡ (a || false)
+or-false true = refl
+or-false false = refl
+
+pub or-assoc : (a b c : Bool) → ((a || b) || c) ≡ (a || (b || c))
+or-assoc true b c = refl
+or-assoc false b c = refl
+
+-- one of the two
+pub or-either : (a b : Bool) → (a || b) ≡ true → (a ≡ true) ⊎ (b ≡ true)
+or-either true b e = inl refl
+or-either false b e = inr e
+
+pub or-first : (a b : Bool) → a ≡ true → (a || b) ≡ true
+or-first a b p = rw p
+
+pub or-second : (a b : Bool) → b ≡ true → (a || b) ≡ true
+or-second true b p = refl
+or-second false b p = p
+
 pub not-of-false : (b : Bool) → b ≡ false → not b ≡ true
 not-of-false b p = rw p
 

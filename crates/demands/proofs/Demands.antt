@@ -11,12 +11,12 @@ use Rattle.sheet.proofs.ReadIsWritten.{read-is-written, read-is-written-bytes}
 use Rattle.sheet.specs.Label.{labelPlace}
 use Rattle.planner.specs.Planning.{planChecks, planRefusal, cardAfter, memoryAfter}
 use Rattle.planner.proofs.Planning.{plan-refused, plan-answered, no-plan-exactly}
-use Rattle.planner.proofs.Granted.{card-granted}
+use Rattle.planner.proofs.Granted.{card-granted, card-all-granted}
 use Rattle.desk.specs.declared.Desk.{Desk}
-use Rattle.desk.specs.Calls.{opened, Call, claim, handBack, look, refusalOf}
+use Rattle.desk.specs.Calls.{opened, Call, claim, handBack, look, change, refusalOf}
 use Rattle.lent.specs.Lent.{openedOver}
 use Rattle.desk.proofs.Refusals.{open-refused, open-answered, claim-refused, claim-answered, hand-back-refused, hand-back-answered}
-use Rattle.desk.proofs.Refusals.{look-refused, look-answered}
+use Rattle.desk.proofs.Refusals.{look-refused, look-answered, change-refused, change-answered}
 use Rattle.desk.proofs.Claims.{claim-granted-when}
 use Rattle.desk.proofs.Holdings.{holdings-add-up, holdings-within}
 use Rattle.desk.proofs.Lists.{refused-leaves, reachable-by-calls}
@@ -27,6 +27,7 @@ call-refusal : (d : Desk) (x : Call) → FirstRefusal (refusalOf d x) (checksOf 
 call-refusal d (claim c k) = (claim-refused d c k, claim-answered d c k)
 call-refusal d (handBack c k) = (hand-back-refused d c k, hand-back-answered d c k)
 call-refusal d (look c) = (look-refused d c, look-answered d c)
+call-refusal d (change l a t) = (change-refused d l a t, change-answered d l a t)
 
 -- R-1: every call answers, and a refused one changes nothing.
 pub every-call-answers : EveryCallAnswers
@@ -62,5 +63,6 @@ pub none-earlier-and-granted : NoneEarlierAndGranted
 none-earlier-and-granted = record {
   earliest = λ s card e. plan-answered s card e .1 .earliest;
   refused-exactly = λ s room e. no-plan-exactly s room (sym (read-number s) ∙ e);
-  granted = λ s card e d r. card-granted s card e d (reachable-by-calls d .1 r);
+  granted = λ s card e size one d r. card-granted s card e size one d (reachable-by-calls d .1 r);
+  all-granted = λ s card e size one d r. card-all-granted s card e size one d (reachable-by-calls d .1 r);
 }

@@ -2,13 +2,14 @@
 --
 -- They speak of definitions. That the calls answer by these definitions, for whatever bytes and numbers they are lent, is the contract of
 -- each call in crates/depot/src/lib.rt: depot_plan answers `planRefusal` and leaves `cardAfter` and `memoryAfter`, depot_read answers
--- `reading`, depot_label `labelPlace`, depot_write `writeAnswer` and leaves `writeLeaves`; the desk's calls answer `opened`, `claimed`,
--- `handedBack` and `looked`, and opening where firmware keeps desk d leaves `openedOver d`.
+-- `reading`, depot_label `labelPlace`, depot_write `writeAnswer` and leaves `writeLeaves`; the desk's calls answer `opened`, `changed`,
+-- `claimed`, `handedBack` and `looked`, and opening where firmware keeps desk d leaves `openedOver d`.
 --
 -- R-1.2 to R-1.4 have no field: that a call touches nothing else, that no sum overflows and that it ends is what the checker proves of
 -- every function.
 use mathlib.Core.Path.{_≡_}
 use mathlib.Core.Logic.{_⊎_, _≢_, _↔_}
+use mathlib.Core.Bool.{true}
 use mathlib.Core.List.{List, _++_}
 use Prim.Native.Nat.{ℕ, _+_, _≤_, _<_}
 use lib.ListN.{length, drop}
@@ -16,10 +17,11 @@ use Rattle.counting.specs.Counting.{sum}
 use Rattle.checking.specs.Checking.{Check, FirstFails, NoneFails}
 use Rattle.words.specs.Words.{byteAt}
 use Rattle.sheet_format.specs.declared.Job.{Job}
+use Rattle.sheet_format.specs.Format.{labelIn}
 use Rattle.sheet.specs.Read.{readChecks, answered, reading}
 use Rattle.sheet.specs.Label.{labelChecks, labelOf, labelPlace}
 use Rattle.sheet.specs.Write.{writeChecks, writeAnswer, over, writeLeaves}
-use Rattle.sheet.specs.RoundTrip.{writtenSheet, labelIn, rewriteAnswer, rewriteLeaves}
+use Rattle.sheet.specs.RoundTrip.{writtenSheet, rewriteAnswer, rewriteLeaves}
 use Rattle.schedule.specs.Plan.{Plan, Valid, planEnd}
 use Rattle.schedule.specs.TieRule.{Best}
 use Rattle.card.specs.Card.{cardSize, cardOf}
@@ -28,11 +30,11 @@ use Rattle.planner.specs.Planning.{planChecks, planRefusal, cardAfter, memoryAf
 use Rattle.planner.specs.Planned.{ourPlan}
 use Rattle.desk.specs.declared.Desk.{Desk}
 use Rattle.desk.specs.Desk.{holding, assuredShare, ceilingOf, reservedForOthers}
-use Rattle.desk.specs.Checks.{openChecks, claimChecks, handBackChecks, lookChecks}
-use Rattle.desk.specs.Calls.{opened, claimed, Call, claim, handBack, look, refusalOf, deskAfter, deskAfterAll, LeftByCalls}
-use Rattle.desk.specs.Calls.{grantedClaims, grantedHandBacks}
+use Rattle.desk.specs.Checks.{openChecks, claimChecks, handBackChecks, lookChecks, changeChecks}
+use Rattle.desk.specs.Calls.{opened, claimed, Call, claim, handBack, look, change, refusalOf, deskAfter, deskAfterAll, LeftByCalls}
+use Rattle.desk.specs.Calls.{grantedClaims, grantedHandBacks, figuresAfter}
 use Rattle.lent.specs.Lent.{openedOver}
-use Rattle.assurance.specs.Following.{FollowsPlan, AllGranted}
+use Rattle.assurance.specs.Following.{planNeed, FollowsPlan, AllGranted, GrantedWhile, unchanging}
 
 -- ---- R-1
 
@@ -45,6 +47,7 @@ abbrev pub checksOf : Desk → Call → List Check
 checksOf d (claim c k) = claimChecks d c k
 checksOf d (handBack c k) = handBackChecks d c k
 checksOf d (look c) = lookChecks d c
+checksOf d (change l a t) = changeChecks d l a t
 
 pub record EveryCallAnswers : Type 0 where
   -- R-1.1: whoever calls gets a result or the first refusal in the order of checks
@@ -87,9 +90,10 @@ pub record EveryAnswerIsRight : Type 0 where
   pub holdings : (limit : ℕ) (assured ceilings : List ℕ) → opened limit assured ceilings .refusal ≡ 0 → (calls : List Call) (c : ℕ)
       → holding (deskAfterAll (opened limit assured ceilings .desk) calls) c + grantedHandBacks c (opened limit assured ceilings .desk) calls
       ≡ grantedClaims c (opened limit assured ceilings .desk) calls
-  -- R-2.7: together they are never above the limit
+  -- R-2.7: together they are never above the limit in force, the opening's or that of the last granted change (F-7.3)
   pub within : (limit : ℕ) (assured ceilings : List ℕ) → opened limit assured ceilings .refusal ≡ 0 → (calls : List Call)
-      → sum (length assured) (holding (deskAfterAll (opened limit assured ceilings .desk) calls)) ≤ limit
+      → sum (length assured) (holding (deskAfterAll (opened limit assured ceilings .desk) calls))
+      ≤ figuresAfter (record { limit = limit; assured = assured; ceilings = ceilings }) (opened limit assured ceilings .desk) calls .limit
 
 -- ---- R-3
 
@@ -100,8 +104,13 @@ pub record NoneEarlierAndGranted : Type 0 where
   -- R-3.2: a sheet that reads is refused as over-wide (8) or circular (9) exactly when it has no valid plan
   pub refused-exactly : (s : List ℕ) (room : ℕ) → reading s .refusal ≡ 0
       → ((planRefusal s room ≡ 8) ⊎ (planRefusal s room ≡ 9)) ↔ (¬ ((P : Plan) × Valid (sheetIn s) P))
-  -- R-3.3: in every list of calls on every desk that an opening and later calls leave, a controller that holds nothing at the start, is
-  -- assured the sheet's modules and makes in the list exactly our plan's claims and hand-backs is granted every one of them
-  pub granted : (s card : List ℕ) → planRefusal s (length card) ≡ 0
-      → (d : Desk) → LeftByCalls d → (c : ℕ) → holding d c ≡ 0 → sheetIn s .modules ≤ assuredShare d c
-      → (calls : List Call) → FollowsPlan (sheetIn s) (ourPlan s card) c calls → AllGranted c d calls
+  -- R-3.3, with modules of any size (F-6.2) and with changes in the list (F-7.4): in every list of calls on every desk that an opening and
+  -- later calls leave, a controller that holds nothing at the start, is assured the sheet's modules times the size and makes in the list
+  -- exactly our plan's claims and hand-backs is granted every one of them, as long as no change takes its share below that
+  pub granted : (s card : List ℕ) → planRefusal s (length card) ≡ 0 → (size : ℕ) → 1 ≤ size
+      → (d : Desk) → LeftByCalls d → (c : ℕ) → holding d c ≡ 0 → planNeed (sheetIn s) size ≤ assuredShare d c
+      → (calls : List Call) → FollowsPlan (sheetIn s) (ourPlan s card) size c calls → GrantedWhile (planNeed (sheetIn s) size) c d calls
+  -- the same of a list of claims, hand-backs and looks alone: every one of them is granted
+  pub all-granted : (s card : List ℕ) → planRefusal s (length card) ≡ 0 → (size : ℕ) → 1 ≤ size
+      → (d : Desk) → LeftByCalls d → (c : ℕ) → holding d c ≡ 0 → planNeed (sheetIn s) size ≤ assuredShare d c
+      → (calls : List Call) → FollowsPlan (sheetIn s) (ourPlan s card) size c calls → unchanging calls ≡ true → AllGranted c d calls

@@ -1,6 +1,7 @@
 // What firmware links: the version, planning, job sheets, and the desk where firmware keeps it. Each is a call of a proved function; include/depot.h
 // declares them for C. The desk's calls copy the lent desk, make the call by value, and put the desk that it hands back in its place.
 use desk::Desk;
+use lent::Looked;
 use sheet::LabelPlace;
 use sheet::Reading;
 use sheet::Written;
@@ -12,14 +13,14 @@ ghost use Rattle.sheet_format.specs.Format.{jobsIn};
 ghost use Rattle.sheet.specs.Read.{reading};
 ghost use Rattle.sheet.specs.Label.{labelPlace};
 ghost use Rattle.sheet.specs.Write.{writeAnswer, writeLeaves};
-ghost use Rattle.desk.specs.Calls.{claimed, handedBack, looked};
-ghost use Rattle.lent.specs.Lent.{openedOver, shownOver};
+ghost use Rattle.desk.specs.Calls.{claimed, handedBack, changed};
+ghost use Rattle.lent.specs.Lent.{openedOver, lookedAt};
 ghost use Rattle.depot.specs.Version.{version};
 
 // ---- the version
 
 // 0.1.0
-const VERSION: u32 = 1000;
+const VERSION: u32 = 4000;
 
 // The number of this library's version; the header has the same.
 #[no_mangle]
@@ -95,34 +96,48 @@ pub extern "C" fn depot_desk_open(
     answer.refusal
 }
 
+// Gives the lent desk a new limit, new shares and new ceilings; all holdings carry over. Refused, it is as before.
+#[no_mangle]
+pub extern "C" fn depot_desk_change(
+    desk: &mut Desk,
+    limit: u32,
+    assured: &[u32],
+    ceilings: &[u32],
+) -> u32
+    ensures { λ r. ⌜ (r ≡ changed (now (desk .entry)) limit (now (assured .entry)) (now (ceilings .entry)) .refusal)
+        × (now (desk .exit) ≡ changed (now (desk .entry)) limit (now (assured .entry)) (now (ceilings .entry)) .desk) ⌝ }
+{
+    let answer = share_change::change(*desk, limit, assured, ceilings);
+    *desk = answer.desk;
+    answer.refusal
+}
+
 // A claim on the lent desk. Refused, it is as before.
 #[no_mangle]
-pub extern "C" fn depot_desk_claim(desk: &mut Desk, controller: u32, modules: u32) -> u32
-    ensures { λ r. ⌜ (r ≡ claimed (now (desk .entry)) controller modules .refusal)
-        × (now (desk .exit) ≡ claimed (now (desk .entry)) controller modules .desk) ⌝ }
+pub extern "C" fn depot_desk_claim(desk: &mut Desk, controller: u32, power: u32) -> u32
+    ensures { λ r. ⌜ (r ≡ claimed (now (desk .entry)) controller power .refusal)
+        × (now (desk .exit) ≡ claimed (now (desk .entry)) controller power .desk) ⌝ }
 {
-    let answer = (*desk).claim(controller, modules);
+    let answer = (*desk).claim(controller, power);
     *desk = answer.desk;
     answer.refusal
 }
 
 // A hand-back on the lent desk. Refused, it is as before.
 #[no_mangle]
-pub extern "C" fn depot_desk_hand_back(desk: &mut Desk, controller: u32, modules: u32) -> u32
-    ensures { λ r. ⌜ (r ≡ handedBack (now (desk .entry)) controller modules .refusal)
-        × (now (desk .exit) ≡ handedBack (now (desk .entry)) controller modules .desk) ⌝ }
+pub extern "C" fn depot_desk_hand_back(desk: &mut Desk, controller: u32, power: u32) -> u32
+    ensures { λ r. ⌜ (r ≡ handedBack (now (desk .entry)) controller power .refusal)
+        × (now (desk .exit) ≡ handedBack (now (desk .entry)) controller power .desk) ⌝ }
 {
-    let answer = (*desk).hand_back(controller, modules);
+    let answer = (*desk).hand_back(controller, power);
     *desk = answer.desk;
     answer.refusal
 }
 
-// A look at the lent desk: the figure goes where `modules` lies. Refused, what lies there is as before.
+// A look at the lent desk, which stays as it is: the number and the figure.
 #[no_mangle]
-pub extern "C" fn depot_desk_look(desk: &Desk, controller: u32, modules: &mut u32) -> u32
-    ensures { λ r. ⌜ (r ≡ looked (now (desk .entry)) controller .refusal)
-        × (now (modules .exit) ≡ shownOver (now (modules .entry)) r (looked (now (desk .entry)) controller .modules)) ⌝ }
+pub extern "C" fn depot_desk_look(desk: &Desk, controller: u32) -> Looked
+    ensures { λ r. ⌜ r ≡ lookedAt (now (desk .entry)) controller ⌝ }
 {
-    let answer = (*desk).look(controller);
-    lent::show(answer.refusal, answer.modules, modules)
+    lent::look_at(*desk, controller)
 }

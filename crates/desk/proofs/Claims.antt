@@ -2,19 +2,19 @@
 use mathlib.Core.Path.{_≡_, refl}
 use mathlib.Core.Logic.{_⊎_, inl, inr, _↔_}
 use mathlib.Core.Bool.{Bool, true, false, not, _||_}
-use mathlib.Core.List.{[]}
+use mathlib.Core.List.{List, []}
 use Prim.Native.Nat.{ℕ, _+_, _≤_, _<_}
 use native.Mathlib.Omega.{arith}
 use lib.Dec.{ltb}
-use borrow.Author.Tests.{le-ltb}
+use borrow.Author.Tests.{le-ltb, not-true}
 use Rattle.counting.proofs.Tests.{clash, less-or-not}
 use Rattle.checking.specs.Checking.{firstFailing}
 use Rattle.checking.proofs.Order.{first-exactly}
 use Rattle.desk.specs.declared.Desk.{Desk}
 use Rattle.desk.specs.Desk.{holding, ceilingOf, reservedForOthers, noDesk}
-use Rattle.desk.specs.Checks.{deskOk, notOfDesk, bookingChecks, returnChecks}
+use Rattle.desk.specs.Checks.{deskOk, notOfDesk, bookingChecks, returnChecks, figureChecks}
 use Rattle.desk.specs.Reachable.{Reachable, Barred}
-use Rattle.desk.specs.Calls.{claimRefusal, claimed, handBackRefusal, handedBack, lookRefusal, looked, room}
+use Rattle.desk.specs.Calls.{claimRefusal, claimed, handBackRefusal, handedBack, lookRefusal, looked, room, changeRefusal, changed}
 use Rattle.desk.proofs.Sound.{here, of-desk}
 use Rattle.desk.proofs.Grants.{claim-says, claim-granted, hand-back-says, hand-back-granted}
 use Rattle.desk.proofs.Reaches.{reached-sound, reachable-when}
@@ -62,6 +62,20 @@ module _ (d : Desk) (c : ℕ) where
       let e = first-exactly 14 (omega arith) (notOfDesk d c) [] refl in
       ((λ q. fails-barred (e .0 q)), λ b. e .1 (barred-fails b))
 
+-- A change gives 14 exactly when no answered opening and later calls leave the desk.
+pub change-14 : (d : Desk) (limit : ℕ) (assured ceilings : List ℕ)
+    → (changed d limit assured ceilings .refusal ≡ 14) ↔ (Reachable d → ⊥)
+unfolding changed changeRefusal
+change-14 d limit assured ceilings =
+    let e = first-exactly 14 (omega arith) (not (deskOk d)) (figureChecks d limit assured ceilings) refl in (
+      (λ q r. clash (deskOk d) (reachable-when d .1 r) (not-true (deskOk d) (e .0 q))),
+      λ n. e .1 (go n (deskOk d) refl),
+    )
+  where
+    go : (Reachable d → ⊥) → (b : Bool) → deskOk d ≡ b → not (deskOk d) ≡ true
+    go n true q = absurd (n (reachable-when d .0 q))
+    go n false q = rw q refl
+
 -- The desk of zeros that a refused opening answers cannot be, so every call on it gives 14.
 pub no-desk-unreachable : Reachable noDesk → ⊥
 no-desk-unreachable r = let s = reached-sound r .controllers in omega (arith, s .least)
@@ -87,12 +101,12 @@ module _ (d : Desk) (r : Reachable d) (c : ℕ) (l : c < d .count) (k : ℕ) whe
     λ p. hand-back-granted d c k (reached-sound r) l (record { one = one; within = p }),
   )
 
-  look-shows : looked d c .modules ≡ room d c
+  look-shows : looked d c .power ≡ room d c
   unfolding looked lookRefusal firstFailing
   look-shows = rw (of-desk d c (reached-sound r) l) refl
 
-  -- A claim is granted exactly when it is for 1 to as many modules as a look shows: the look shows the largest, 0 if there is none.
-  pub look-exact : (claimed d c k .refusal ≡ 0) ↔ ((1 ≤ k) × (k ≤ looked d c .modules))
+  -- A claim is granted exactly when it is for 1 up to what a look shows: the look shows the largest, 0 if there is none.
+  pub look-exact : (claimed d c k .refusal ≡ 0) ↔ ((1 ≤ k) × (k ≤ looked d c .power))
   unfolding claimed
   look-exact = (
     (λ e.

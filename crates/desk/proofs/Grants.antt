@@ -1,4 +1,4 @@
--- What it takes for no check of a call to fail, and so what an answered opening and a granted claim or hand-back tell.
+-- What it takes for no check of a call to fail, and so what an answered opening and a granted claim, hand-back or change tell.
 use mathlib.Core.Path.{_≡_, refl}
 use mathlib.Core.Bool.{Bool, true, false, not}
 use mathlib.Core.List.{List}
@@ -12,9 +12,10 @@ use Rattle.counting.proofs.Ranges.{any-none, none-any}
 use Rattle.checking.specs.Checking.{firstFailing}
 use Rattle.checking.proofs.Order.{all-passed, none-failing}
 use Rattle.desk.specs.declared.Desk.{Desk}
-use Rattle.desk.specs.Desk.{mostModules, fewestControllers, mostControllers, holding, ceilingOf, reservedForOthers}
+use Rattle.desk.specs.Desk.{mostPower, fewestControllers, mostControllers, holding, ceilingOf, reservedForOthers}
 use Rattle.desk.specs.Checks.{inRange, wrongLengths, wrongPair, somePairWrong, wrongFigures, sharesInAll, sharesExceed}
-use Rattle.desk.specs.Checks.{notOfDesk, openChecks, bookingChecks, returnChecks}
+use Rattle.desk.specs.Checks.{notOfDesk, openChecks, bookingChecks, returnChecks, figureChecks}
+use Rattle.desk.specs.Checks.{wrongCount, someHoldsMore, raisedInAll, raisedExceed}
 use Rattle.desk.specs.Calls.{openRefusal, opened, claimRefusal, handBackRefusal}
 use Rattle.desk.proofs.Sound.{InRange, range-says, in-range, Sound, Here, of-desk-says, of-desk}
 
@@ -34,7 +35,7 @@ pair-says limit assured ceiling e = record {
 pub record Opens (limit : ℕ) (assured ceilings : List ℕ) : Type 0 where
   pub same : length assured ≡ length ceilings
   pub controllers : InRange fewestControllers mostControllers (length assured)
-  pub modules : InRange 1 mostModules limit
+  pub power : InRange 1 mostPower limit
   pub pairs : (i : ℕ) → i < length assured → Pair limit (getD assured i 0) (getD ceilings i 0)
   pub total : sharesInAll assured ≤ limit
 
@@ -51,11 +52,11 @@ module _ (limit : ℕ) (assured ceilings : List ℕ) where
       let a = p .0 in
       let b = p .1 .0 in
       let few = inRange fewestControllers mostControllers (length assured) in
-      let small = inRange 1 mostModules limit in
+      let small = inRange 1 mostPower limit in
       record {
         same = eqb-true _ _ (not-false (eqb (length assured) (length ceilings)) (or-left _ (not few) a));
         controllers = range-says _ _ _ (not-false few (or-right (not (eqb (length assured) (length ceilings))) _ a));
-        modules = range-says _ _ _ (not-false small (or-left _ (somePairWrong limit assured ceilings) b));
+        power = range-says _ _ _ (not-false small (or-left _ (somePairWrong limit assured ceilings) b));
         pairs = pairs-say (or-right (not small) _ b);
         total = ltb-false _ _ (p .1 .1 .0);
       }
@@ -69,7 +70,7 @@ module _ (limit : ℕ) (assured ceilings : List ℕ) where
       rw (
         eq-eqb _ _ (o .same),
         in-range fewestControllers mostControllers _ (o .controllers .least) (o .controllers .most),
-        in-range 1 mostModules _ (o .modules .least) (o .modules .most),
+        in-range 1 mostPower _ (o .power .least) (o .power .most),
         right,
         le-ltb _ _ (o .total),
       ) refl
@@ -132,3 +133,27 @@ module _ (d : Desk) (c k : ℕ) where
   pub hand-back-granted : Sound d → c < d .count → Holds d c k → handBackRefusal d c k ≡ 0
   unfolding handBackRefusal firstFailing
   hand-back-granted s l h = rw (of-desk d c s l) (return-holds h)
+
+-- ---- new figures
+
+-- what it takes for a running desk to get new figures
+pub record Changes (d : Desk) (limit : ℕ) (assured ceilings : List ℕ) : Type 0 where
+  pub opens : Opens limit assured ceilings
+  pub count : length assured ≡ d .count
+  pub holds : (i : ℕ) → i < d .count → holding d i ≤ getD ceilings i 0
+  pub total : raisedInAll d assured ≤ limit
+
+module _ (d : Desk) (limit : ℕ) (assured ceilings : List ℕ) where
+  pub figures-say : firstFailing (figureChecks d limit assured ceilings) ≡ 0 → Changes d limit assured ceilings
+  unfolding wrongCount someHoldsMore raisedExceed opened openRefusal
+  figures-say e =
+      let p = all-passed (figureChecks d limit assured ceilings) refl e in
+      let same = not (eqb (length assured) (d .count)) in
+      record {
+        opens = open-says limit assured ceilings
+            (none-failing (openChecks limit assured ceilings)
+            (or-left (wrongLengths assured ceilings) same (p .0), (p .1 .0, (p .1 .1 .0, tt))));
+        count = eqb-true _ _ (not-false (eqb (length assured) (d .count)) (or-right (wrongLengths assured ceilings) same (p .0)));
+        holds = λ i l. ltb-false _ _ (any-none (d .count) (λ k. ltb (getD ceilings k 0) (holding d k)) (p .1 .1 .1 .0) i l);
+        total = ltb-false _ _ (p .1 .1 .1 .1 .0);
+      }

@@ -7,39 +7,21 @@ use Prim.Native.Nat.{ℕ, zero, suc, _+_, _-_, _≤_, _<_}
 use native.Mathlib.Omega.{arith}
 use native.Mathlib.Nat.{zero-add}
 use lib.Dec.{eqb}
-use lib.ListN.{length, getD, set, take, drop, length-set, length-append, length-drop, getD-replicate, List·getD-append}
-use lib.ListN.{List·getD-eq-default}
-use lib.Seq.{getD-set-same, getD-set-other, set-getD, ext-getD, getD-take, getD-drop, getD-append-add, length-take-le}
+use lib.ListN.{length, getD, set, take, length-set}
+use lib.Seq.{getD-set-same, getD-set-other, set-getD, ext-getD, getD-take, length-take-le}
 use Rattle.counting.specs.Counting.{only, sum}
 use Rattle.counting.proofs.Tests.{less-or-not, same-or-not}
 use Rattle.counting.proofs.Sums.{sum-le, sum-same}
 use Rattle.desk.specs.declared.Desk.{Desk}
 use Rattle.desk.specs.Desk.{mostControllers, holding, assuredShare, ceilingOf, reserved, zeros, padded, newDesk, withHolding}
 use Rattle.desk.specs.Checks.{sharesInAll, deskOk}
-use Rattle.desk.specs.Reachable.{Reachable, opening, claiming, handingBack}
+use Rattle.desk.specs.Reachable.{Reachable, opening, claiming, handingBack, changing}
 use Rattle.desk.specs.Calls.{openRefusal, opened}
 use Rattle.desk.proofs.Sound.{Place, Sound, here, ok-says, sound-ok, bound-inside, bound-past}
-use Rattle.desk.proofs.Grants.{Opens, open-says, opens, Fits, booking-says, booking-fits, return-says}
+use Rattle.desk.proofs.Grants.{Opens, open-says, opens, Fits, booking-says, booking-fits, return-says, figures-say}
+use Rattle.desk.proofs.Padded.{zero-at, padded-inside, padded-past, padded-length}
 use Rattle.desk.proofs.Keeps.{claim-keeps, hand-back-keeps}
-
--- ---- a padded list, place by place
-
-pub zero-at : (i : ℕ) → getD zeros i 0 ≡ 0
-zero-at i = ⊎-elim (λ l. getD-replicate mostControllers i 0 0 l) (λ l. List·getD-eq-default zeros 0 l) (less-or-not i mostControllers)
-
-pub padded-inside : (l : List ℕ) (i : ℕ) → i < length l → getD (padded l) i 0 ≡ getD l i 0
-padded-inside l i h = List·getD-append l (drop (length l) zeros) 0 i h
-
-pub padded-past : (l : List ℕ) (i : ℕ) → length l ≤ i → getD (padded l) i 0 ≡ 0
-padded-past l i h =
-    let e : i ≡ length l + (i - length l) = omega arith in
-    ap (λ (k : ℕ). getD (padded l) k 0) e
-    ∙ getD-append-add l (drop (length l) zeros) (i - length l) 0
-    ∙ getD-drop (length l) zeros (i - length l) 0
-    ∙ zero-at (length l + (i - length l))
-
-pub padded-length : (l : List ℕ) → length l ≤ mostControllers → length (padded l) ≡ mostControllers
-padded-length l h = omega (arith, length-append l (drop (length l) zeros), length-drop (length l) zeros)
+use Rattle.desk.proofs.NewFigures.{change-keeps}
 
 -- ---- one way: what is reached passes the test
 
@@ -75,7 +57,7 @@ module _ (limit : ℕ) (assured ceilings : List ℕ) (o : Opens limit assured ce
       ceiling = let m = o .controllers .most in padded-length ceilings (omega (arith, o .same));
     };
     controllers = o .controllers;
-    limit = o .modules;
+    limit = o .power;
     places = λ i l. new-place i (less-or-not i (length assured));
     total = let t = o .total in omega (arith, new-total);
   }
@@ -85,6 +67,8 @@ unfolding opened openRefusal
 reached-sound (opening limit assured ceilings e) = new-sound limit assured ceilings (open-says limit assured ceilings e)
 reached-sound (claiming {d = d} r c k l e) = claim-keeps d c k (reached-sound r) l (booking-says d c k e)
 reached-sound (handingBack {d = d} r c k l e) = hand-back-keeps d c k (reached-sound r) l (return-says d c k e)
+reached-sound (changing {d = d} r limit assured ceilings e) =
+    change-keeps d limit assured ceilings (reached-sound r) (figures-say d limit assured ceilings e)
 
 -- ---- the other way: the desk is opened, and each controller in turn claims what it holds
 
@@ -156,7 +140,7 @@ module _ (d : Desk) (s : Sound d) where
   front-opens = record {
     same = shares-length ∙ sym tops-length;
     controllers = record { least = rw shares-length (s .controllers .least); most = rw shares-length few };
-    modules = s .limit;
+    power = s .limit;
     pairs = λ i h.
         let inside : i < d .count = omega (arith, shares-length) in
         let a = getD-take (d .count) (d .assured) i 0 inside in

@@ -6,8 +6,9 @@ use Prim.Native.Nat.{ℕ, _<_}
 use Rattle.checking.specs.Checking.{FirstFails, NoneFails}
 use Rattle.checking.proofs.Order.{refused-exactly, answered-exactly}
 use Rattle.desk.specs.declared.Desk.{Desk}
-use Rattle.desk.specs.Checks.{openChecks, claimChecks, handBackChecks, lookChecks}
+use Rattle.desk.specs.Checks.{openChecks, claimChecks, handBackChecks, lookChecks, changeChecks}
 use Rattle.desk.specs.Calls.{openRefusal, opened, claimRefusal, claimed, handBackRefusal, handedBack, lookRefusal, looked}
+use Rattle.desk.specs.Calls.{changeRefusal, changed}
 
 -- Opening gives n exactly when check n fails and none before it does, and 0 exactly when none fails.
 module _ (limit : ℕ) (assured ceilings : List ℕ) where
@@ -19,7 +20,7 @@ module _ (limit : ℕ) (assured ceilings : List ℕ) where
   unfolding opened openRefusal
   open-answered = answered-exactly (openChecks limit assured ceilings) refl
 
--- So do a claim, a hand-back and a look.
+-- So do a claim, a hand-back, a look and a change.
 module _ (d : Desk) (c k : ℕ) where
   pub claim-refused : (n : ℕ) → 0 < n → (claimed d c k .refusal ≡ n) ↔ FirstFails (claimChecks d c k) n
   unfolding claimed claimRefusal
@@ -45,3 +46,13 @@ module _ (d : Desk) (c : ℕ) where
   pub look-answered : (looked d c .refusal ≡ 0) ↔ NoneFails (lookChecks d c)
   unfolding looked lookRefusal
   look-answered = answered-exactly (lookChecks d c) refl
+
+module _ (d : Desk) (limit : ℕ) (assured ceilings : List ℕ) where
+  pub change-refused : (n : ℕ) → 0 < n
+      → (changed d limit assured ceilings .refusal ≡ n) ↔ FirstFails (changeChecks d limit assured ceilings) n
+  unfolding changed changeRefusal
+  change-refused n p = refused-exactly (changeChecks d limit assured ceilings) n p
+
+  pub change-answered : (changed d limit assured ceilings .refusal ≡ 0) ↔ NoneFails (changeChecks d limit assured ceilings)
+  unfolding changed changeRefusal
+  change-answered = answered-exactly (changeChecks d limit assured ceilings) refl

@@ -12,7 +12,7 @@ use Rattle.counting.proofs.Tests.{and-left, and-right, and-both, or-left, or-ri
 use Rattle.counting.proofs.Sums.{sum-same, sum-add, sum-single}
 use Rattle.counting.proofs.Ranges.{every-at, every-intro}
 use Rattle.desk.specs.declared.Desk.{Desk}
-use Rattle.desk.specs.Desk.{mostModules, fewestControllers, mostControllers, holding, assuredShare, ceilingOf, reserved}
+use Rattle.desk.specs.Desk.{mostPower, fewestControllers, mostControllers, holding, assuredShare, ceilingOf, reserved}
 use Rattle.desk.specs.Desk.{reservedForOthers}
 use Rattle.desk.specs.Checks.{inRange, fullLists, ceilingBound, placeOkAt, deskOk, notOfDesk}
 
@@ -90,7 +90,7 @@ place-small d i p =
 pub record Sound (d : Desk) : Type 0 where
   pub lists : Full d
   pub controllers : InRange fewestControllers mostControllers (d .count)
-  pub limit : InRange 1 mostModules (d .limit)
+  pub limit : InRange 1 mostPower (d .limit)
   pub places : (i : ℕ) → i < mostControllers → Place d i
   pub total : sum (d .count) (reserved d) ≤ d .limit
 
@@ -99,7 +99,7 @@ unfolding deskOk
 ok-says d e =
     let a = fullLists d in
     let b = inRange fewestControllers mostControllers (d .count) in
-    let c = inRange 1 mostModules (d .limit) in
+    let c = inRange 1 mostPower (d .limit) in
     let p = every mostControllers (placeOkAt d) in
     let t = leb (sum (d .count) (reserved d)) (d .limit) in
     let abcp = and-left (a && b && c && p) t e in
@@ -165,7 +165,7 @@ pub record Here (d : Desk) (c : ℕ) : Type 0 where
   pub share : assuredShare d c ≤ ceilingOf d c
   pub hold : holding d c ≤ ceilingOf d c
   pub ceiling : ceilingOf d c ≤ d .limit
-  pub most : d .limit ≤ mostModules
+  pub most : d .limit ≤ mostPower
   pub split : sum (d .count) (reserved d) ≡ max (holding d c) (assuredShare d c) + reservedForOthers d c
   pub total : sum (d .count) (reserved d) ≤ d .limit
 

@@ -1,6 +1,6 @@
 -- What the calls on a desk answer, and what a list of calls leaves: "each takes the desk that the one before it handed back".
 use mathlib.Core.Path.{_≡_}
-use mathlib.Core.Bool.{Bool, cond}
+use mathlib.Core.Bool.{Bool, true, false, cond}
 use mathlib.Core.List.{List, [], _∷_}
 use Prim.Native.Nat.{ℕ, _+_, _-_, min}
 use lib.Dec.{eqb}
@@ -10,8 +10,8 @@ use Rattle.desk.specs.declared.Desk.{Desk}
 use Rattle.desk.specs.declared.Opened.{Opened}
 use Rattle.desk.specs.declared.Booked.{Booked}
 use Rattle.desk.specs.declared.Looked.{Looked}
-use Rattle.desk.specs.Desk.{holding, ceilingOf, reservedForOthers, newDesk, noDesk, withHolding}
-use Rattle.desk.specs.Checks.{openChecks, claimChecks, handBackChecks, lookChecks}
+use Rattle.desk.specs.Desk.{holding, ceilingOf, reservedForOthers, newDesk, noDesk, padded, withHolding, withFigures}
+use Rattle.desk.specs.Checks.{openChecks, claimChecks, handBackChecks, lookChecks, changeChecks}
 
 -- ---- one call
 
@@ -57,27 +57,41 @@ unfoldable pub looked : Desk → ℕ → Looked
 looked d c = record {
   refusal = lookRefusal d c;
   desk = d;
-  modules = only (eqb (lookRefusal d c) 0) (room d c);
+  power = only (eqb (lookRefusal d c) 0) (room d c);
+}
+
+unfoldable pub changeRefusal : Desk → ℕ → List ℕ → List ℕ → ℕ
+changeRefusal d limit assured ceilings = firstFailing (changeChecks d limit assured ceilings)
+
+-- F-7: "A running desk takes a new L, new shares and new ceilings for the same number of controllers, and all holdings carry over."
+unfoldable pub changed : Desk → ℕ → List ℕ → List ℕ → Booked
+changed d limit assured ceilings = record {
+  refusal = changeRefusal d limit assured ceilings;
+  desk = cond (eqb (changeRefusal d limit assured ceilings) 0) (withFigures d limit assured ceilings) d;
 }
 
 -- ---- lists of calls
 
--- a claim and a hand-back by the controller of that number, for so many modules; a look
+-- a claim and a hand-back by the controller of that number, for so many hundreds of watts; a look; a change to a new limit,
+-- new shares and new ceilings (F-7)
 pub data Call : Type 0 where
   claim handBack : ℕ → ℕ → Call
   look : ℕ → Call
+  change : ℕ → List ℕ → List ℕ → Call
 
 -- the number that the call gives, 0 where it is granted
 abbrev pub refusalOf : Desk → Call → ℕ
 refusalOf d (claim c k) = claimed d c k .refusal
 refusalOf d (handBack c k) = handedBack d c k .refusal
 refusalOf d (look c) = looked d c .refusal
+refusalOf d (change l a t) = changed d l a t .refusal
 
 -- "hands back the desk as it then is"
 abbrev pub deskAfter : Desk → Call → Desk
 deskAfter d (claim c k) = claimed d c k .desk
 deskAfter d (handBack c k) = handedBack d c k .desk
 deskAfter d (look c) = looked d c .desk
+deskAfter d (change l a t) = changed d l a t .desk
 
 -- the desk that a list of calls leaves
 abbrev pub deskAfterAll : Desk → List Call → Desk
@@ -102,11 +116,13 @@ abbrev pub claims : ℕ → Call → ℕ
 claims c (claim b k) = only (eqb b c) k
 claims c (handBack b k) = 0
 claims c (look b) = 0
+claims c (change l a t) = 0
 
 abbrev pub handsBack : ℕ → Call → ℕ
 handsBack c (claim b k) = 0
 handsBack c (handBack b k) = only (eqb b c) k
 handsBack c (look b) = 0
+handsBack c (change l a t) = 0
 
 -- "granted claims" and "granted hand-backs" of controller c in a list of calls on the desk, added up
 abbrev pub grantedClaims : ℕ → Desk → List Call → ℕ
@@ -116,3 +132,38 @@ grantedClaims c d (x ∷ l) = only (granted d x) (claims c x) + grantedClaims c 
 abbrev pub grantedHandBacks : ℕ → Desk → List Call → ℕ
 grantedHandBacks c d [] = 0
 grantedHandBacks c d (x ∷ l) = only (granted d x) (handsBack c x) + grantedHandBacks c (deskAfter d x) l
+
+-- the two desks differ in nothing but holdings
+pub record OnlyHoldings (d e : Desk) : Type 0 where
+  pub count : d .count ≡ e .count
+  pub limit : d .limit ≡ e .limit
+  pub assured : d .assured ≡ e .assured
+  pub ceiling : d .ceiling ≡ e .ceiling
+
+-- ---- the figures in force
+
+abbrev pub isChange : Call → Bool
+isChange (claim c k) = false
+isChange (handBack c k) = false
+isChange (look c) = false
+isChange (change l a t) = true
+
+pub record Figures : Type 0 where
+  pub limit : ℕ
+  pub assured : List ℕ
+  pub ceilings : List ℕ
+
+-- "From the change on, claims are judged by the new figures" (F-7): those of the last granted change in the list, else those before it
+abbrev pub figuresAfter : Figures → Desk → List Call → Figures
+figuresAfter f d [] = f
+figuresAfter f d (claim c k ∷ l) = figuresAfter f (deskAfter d (claim c k)) l
+figuresAfter f d (handBack c k ∷ l) = figuresAfter f (deskAfter d (handBack c k)) l
+figuresAfter f d (look c ∷ l) = figuresAfter f (deskAfter d (look c)) l
+figuresAfter f d (change n a t ∷ l) =
+    figuresAfter (cond (granted d (change n a t)) (record { limit = n; assured = a; ceilings = t }) f) (deskAfter d (change n a t)) l
+
+-- the desk has these figures
+pub record InForce (f : Figures) (d : Desk) : Type 0 where
+  pub limit : d .limit ≡ f .limit
+  pub assured : d .assured ≡ padded (f .assured)
+  pub ceiling : d .ceiling ≡ padded (f .ceilings)

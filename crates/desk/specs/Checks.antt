@@ -1,13 +1,13 @@
--- C-11 to C-18: each test is true where its check fails. A call gives the first that fails.
+-- C-11 to C-18, and 21 and 22 of F-7: each test is true where its check fails. A call gives the first that fails.
 use mathlib.Core.Bool.{Bool, not, _&&_, _||_}
 use mathlib.Core.List.{List, [], _∷_}
-use Prim.Native.Nat.{ℕ, _+_}
+use Prim.Native.Nat.{ℕ, _+_, max}
 use lib.Dec.{ltb, leb, eqb}
 use lib.ListN.{length, getD}
 use Rattle.counting.specs.Counting.{only, sum, every, any}
 use Rattle.checking.specs.Checking.{Check}
 use Rattle.desk.specs.declared.Desk.{Desk}
-use Rattle.desk.specs.Desk.{mostModules, fewestControllers, mostControllers, holding, assuredShare, ceilingOf, reserved}
+use Rattle.desk.specs.Desk.{mostPower, fewestControllers, mostControllers, holding, assuredShare, ceilingOf, reserved}
 use Rattle.desk.specs.Desk.{reservedForOthers}
 
 -- x is low to high
@@ -28,9 +28,9 @@ wrongPair limit assured ceiling = ltb ceiling assured || ltb limit ceiling
 abbrev pub somePairWrong : ℕ → List ℕ → List ℕ → Bool
 somePairWrong limit assured ceilings = any (length assured) (λ i. wrongPair limit (getD assured i 0) (getD ceilings i 0))
 
--- 12. "L is 0 or above 4096, an assured share exceeds its ceiling, or a ceiling exceeds L."
+-- 12. "L is 0 or above" 400,000 (F-6), "an assured share exceeds its ceiling, or a ceiling exceeds L."
 unfoldable pub wrongFigures : ℕ → List ℕ → List ℕ → Bool
-wrongFigures limit assured ceilings = not (inRange 1 mostModules limit) || somePairWrong limit assured ceilings
+wrongFigures limit assured ceilings = not (inRange 1 mostPower limit) || somePairWrong limit assured ceilings
 
 abbrev pub sharesInAll : List ℕ → ℕ
 sharesInAll assured = sum (length assured) (λ i. getD assured i 0)
@@ -39,7 +39,7 @@ sharesInAll assured = sum (length assured) (λ i. getD assured i 0)
 unfoldable pub sharesExceed : ℕ → List ℕ → Bool
 sharesExceed limit assured = ltb limit (sharesInAll assured)
 
--- ---- claims, hand-backs and looks: the desk, the controller's number and the modules
+-- ---- claims, hand-backs and looks: the desk, the controller's number and the power
 
 -- The three lists have a place for each controller that there may be, as those of every desk in memory have.
 abbrev pub fullLists : Desk → Bool
@@ -64,7 +64,7 @@ unfoldable pub deskOk : Desk → Bool
 deskOk d =
     fullLists d
     && inRange fewestControllers mostControllers (d .count)
-    && inRange 1 mostModules (d .limit)
+    && inRange 1 mostPower (d .limit)
     && every mostControllers (placeOkAt d)
     && leb (sum (d .count) (reserved d)) (d .limit)
 
@@ -73,7 +73,7 @@ deskOk d =
 unfoldable pub notOfDesk : Desk → ℕ → Bool
 notOfDesk d c = not (ltb c (d .count)) || not (deskOk d)
 
--- 15. "The call is for 0 modules."
+-- 15. "The call is for 0", hundreds of watts now.
 abbrev pub forNothing : ℕ → Bool
 forNothing k = eqb k 0
 
@@ -88,6 +88,24 @@ doesNotFit d c k = ltb (d .limit) (holding d c + k + reservedForOthers d c)
 -- 18. "The hand-back exceeds the holding."
 abbrev pub exceedsHolding : Desk → ℕ → ℕ → Bool
 exceedsHolding d c k = ltb (holding d c) k
+
+-- ---- a change of the figures: the desk, the new limit, the new shares and the new ceilings
+
+-- 11 "also refuses a changed number of controllers".
+unfoldable pub wrongCount : Desk → List ℕ → List ℕ → Bool
+wrongCount d assured ceilings = wrongLengths assured ceilings || not (eqb (length assured) (d .count))
+
+-- 21. "some holding exceeds its new ceiling"
+unfoldable pub someHoldsMore : Desk → List ℕ → Bool
+someHoldsMore d ceilings = any (d .count) (λ i. ltb (getD ceilings i 0) (holding d i))
+
+-- "the holdings, each raised to its new assured share where that is larger", added up
+abbrev pub raisedInAll : Desk → List ℕ → ℕ
+raisedInAll d assured = sum (d .count) (λ i. max (holding d i) (getD assured i 0))
+
+-- 22. They "add up to more than the new L".
+unfoldable pub raisedExceed : Desk → ℕ → List ℕ → Bool
+raisedExceed d limit assured = ltb limit (raisedInAll d assured)
 
 -- ---- in order
 
@@ -111,3 +129,17 @@ handBackChecks d c k = (14, notOfDesk d c) ∷ returnChecks d c k
 
 abbrev pub lookChecks : Desk → ℕ → List Check
 lookChecks d c = (14, notOfDesk d c) ∷ []
+
+-- the checks of a change on a desk that can be: "12 and 13 apply to the new figures", 21 "checked after 13", 22 "checked after 21"
+abbrev pub figureChecks : Desk → ℕ → List ℕ → List ℕ → List Check
+figureChecks d limit assured ceilings =
+    (11, wrongCount d assured ceilings)
+    ∷ (12, wrongFigures limit assured ceilings)
+    ∷ (13, sharesExceed limit assured)
+    ∷ (21, someHoldsMore d ceilings)
+    ∷ (22, raisedExceed d limit assured)
+    ∷ []
+
+-- "14, for the desk, comes before 11"
+abbrev pub changeChecks : Desk → ℕ → List ℕ → List ℕ → List Check
+changeChecks d limit assured ceilings = (14, not (deskOk d)) ∷ figureChecks d limit assured ceilings

@@ -1,4 +1,4 @@
--- The figures of a desk: requirements, K. Controllers are numbered from 0; a figure past the end of a list is 0.
+-- The figures of a desk, in hundreds of watts: requirements, K and F-6. Controllers are numbered from 0; a figure past the end of a list is 0.
 use mathlib.Core.Bool.{not}
 use mathlib.Core.List.{List, _++_}
 use Prim.Native.Nat.{ℕ, max}
@@ -7,9 +7,9 @@ use lib.ListN.{length, getD, set, drop, replicate}
 use Rattle.counting.specs.Counting.{only, sum}
 use Rattle.desk.specs.declared.Desk.{Desk}
 
--- "a feeder limit L in modules (1 to 4096)", "for 2 to 8 controllers"
-abbrev pub mostModules : ℕ
-mostModules = 4096
+-- a feeder limit L "from 1 to 400,000" hundreds of watts (F-6), "for 2 to 8 controllers"
+abbrev pub mostPower : ℕ
+mostPower = 400000
 
 abbrev pub fewestControllers : ℕ
 fewestControllers = 2
@@ -67,4 +67,14 @@ withHolding d c h = record {
   held = set (d .held) c h;
   assured = d .assured;
   ceiling = d .ceiling;
+}
+
+-- F-7: the desk with a new limit, new shares and new ceilings: "all holdings carry over"
+abbrev pub withFigures : Desk → ℕ → List ℕ → List ℕ → Desk
+withFigures d limit assured ceilings = record {
+  count = d .count;
+  limit = limit;
+  held = d .held;
+  assured = padded assured;
+  ceiling = padded ceilings;
 }

@@ -4,13 +4,14 @@ use mathlib.Core.List.{List, [], _∷_}
 use Prim.Native.Nat.{ℕ}
 use lib.Dec.{eqb}
 use Rattle.desk.specs.declared.Desk.{Desk}
-use Rattle.desk.specs.Calls.{Call, claim, handBack, look, opened, looked, refusalOf, deskAfter}
+use Rattle.desk.specs.Calls.{Call, claim, handBack, look, change, opened, looked, changed, refusalOf, deskAfter}
 
--- the figure that a call shows: a look's modules, and 0 for a claim or a hand-back
+-- the figure that a call shows: a look's power, and 0 for a claim, a hand-back or a change
 abbrev pub figureOf : Desk → Call → ℕ
 figureOf d (claim c k) = 0
 figureOf d (handBack c k) = 0
-figureOf d (look c) = looked d c .modules
+figureOf d (look c) = looked d c .power
+figureOf d (change l a t) = 0
 
 -- a desk written out
 abbrev pub desk : ℕ → ℕ → List ℕ → List ℕ → List ℕ → Desk
@@ -28,9 +29,11 @@ step x r f h = record { call = x; refusal = r; figure = f; held = h }
 
 -- `opens`: opening with this limit, these shares and ceilings gives this number and this desk.
 -- `runs`: the calls on the desk, one after another, answer so, and alter nothing but the holdings.
+-- `changes`: on this desk a change to this limit, these shares and ceilings gives this number and this desk.
 pub data Row : Type 0 where
   opens : ℕ → List ℕ → List ℕ → ℕ → Desk → Row
   runs : Desk → List Step → Row
+  changes : Desk → ℕ → List ℕ → List ℕ → ℕ → Desk → Row
 
 -- the desk d with these holdings
 abbrev pub holdingOn : Desk → List ℕ → Desk
@@ -64,6 +67,8 @@ abbrev pub holds : Row → Bool
 holds (opens limit assured ceilings r d) =
     eqb (opened limit assured ceilings .refusal) r && sameDesk (opened limit assured ceilings .desk) d
 holds (runs d l) = stepsHold d l
+holds (changes d limit assured ceilings r e) =
+    eqb (changed d limit assured ceilings .refusal) r && sameDesk (changed d limit assured ceilings .desk) e
 
 abbrev pub allHold : List Row → Bool
 allHold [] = true

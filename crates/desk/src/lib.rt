@@ -1,15 +1,15 @@
-// The share desk: the power modules that 2 to 8 controllers hold on one feeder.
-// A call takes the desk and hands back the desk as it then is. The crate `opening` opens one.
+// The share desk: the power that 2 to 8 controllers hold on one feeder, in hundreds of watts.
+// A call takes the desk and hands back the desk as it then is. The crate `opening` opens one, `share_change` gives it new figures.
 ghost use mathlib.Core.Path.{_≡_};
 ghost use mathlib.Core.Bool.{true, false};
 ghost use Prim.Native.Nat.{_≤_, _<_, _-_, max, min};
 ghost use Rattle.counting.specs.Counting.{sum, every};
-ghost use Rattle.desk.specs.Desk.{mostModules, mostControllers, holding, ceilingOf, reserved, reservedForOthers, withHolding};
+ghost use Rattle.desk.specs.Desk.{mostPower, mostControllers, holding, ceilingOf, reserved, reservedForOthers, withHolding};
 ghost use Rattle.desk.specs.Checks.{inRange, ceilingBound, placeOk, placeOkAt, deskOk, notOfDesk};
 ghost use Rattle.desk.specs.Calls.{claimRefusal, claimed, handBackRefusal, handedBack, looked};
 
-// The largest limit of a feeder, in modules.
-pub const MOST_MODULES: u32 = 4096;
+// The largest limit of a feeder, in hundreds of watts.
+pub const MOST_POWER: u32 = 400000;
 
 // The fewest controllers of a desk.
 pub const FEWEST_CONTROLLERS: usize = 2;
@@ -17,12 +17,12 @@ pub const FEWEST_CONTROLLERS: usize = 2;
 // The most controllers of a desk.
 pub const MOST_CONTROLLERS: usize = 8;
 
-// The desk as firmware keeps it: a place for each controller, and 0 past the last.
+// The desk as firmware keeps it, its figures in hundreds of watts: a place for each controller, and 0 past the last.
 #[repr(C)]
 pub struct Desk {
     // How many controllers there are.
     pub count: u32,
-    // The feeder's limit in modules.
+    // The feeder's limit.
     pub limit: u32,
     // What each controller holds.
     pub held: [u32; MOST_CONTROLLERS],
@@ -38,7 +38,7 @@ pub struct Opened {
     pub desk: Desk,
 }
 
-// What a claim or a hand-back answers: the refusal's number, or 0, and the desk as it then is.
+// What a claim, a hand-back or a change answers: the refusal's number, or 0, and the desk as it then is.
 pub struct Booked {
     pub refusal: u32,
     pub desk: Desk,
@@ -48,7 +48,7 @@ pub struct Booked {
 pub struct Looked {
     pub refusal: u32,
     pub desk: Desk,
-    pub modules: u32,
+    pub power: u32,
 }
 
 // ---- numbers
@@ -118,12 +118,12 @@ impl Desk {
         larger(self.holding_at(i), self.assured[i as usize])
     }
 
-    // The desk on which it holds so many modules.
-    fn with_holding(mut self, i: u32, modules: u32) -> Desk
+    // The desk on which it holds so much.
+    fn with_holding(mut self, i: u32, power: u32) -> Desk
         requires { ⌜ i < mostControllers ⌝ }
-        ensures { λ r. ⌜ r ≡ withHolding self i modules ⌝ }
+        ensures { λ r. ⌜ r ≡ withHolding self i power ⌝ }
     {
-        self.held[i as usize] = modules;
+        self.held[i as usize] = power;
         self
     }
 
@@ -142,7 +142,7 @@ impl Desk {
     }
 
     // Whether every place is, those past the last controller too.
-    fn places_ok(self) -> bool
+    pub fn places_ok(self) -> bool
         ensures { λ r. ⌜ r ≡ every mostControllers (placeOkAt self) ⌝ }
     {
         let mut i: usize = 0;
@@ -157,7 +157,7 @@ impl Desk {
 
     // What is held or reserved, of a desk whose places are right: each place is within the limit, so that the sum fits.
     fn reserved_in_all(self) -> u32
-        requires { ⌜ (self .count ≤ mostControllers) × (self .limit ≤ mostModules) × (every mostControllers (placeOkAt self) ≡ true) ⌝ }
+        requires { ⌜ (self .count ≤ mostControllers) × (self .limit ≤ mostPower) × (every mostControllers (placeOkAt self) ≡ true) ⌝ }
         ensures { λ r. ⌜ r ≡ sum (self .count) (reserved self) ⌝ }
     {
         let count = self.count;
@@ -171,13 +171,13 @@ impl Desk {
     }
 
     // The desk is one that an answered opening and later calls can leave.
-    fn ok(self) -> bool
+    pub fn ok(self) -> bool
         ensures { λ r. ⌜ r ≡ deskOk self ⌝ }
     {
         if !in_range(FEWEST_CONTROLLERS, MOST_CONTROLLERS, self.count as usize) {
             return false;
         }
-        if !in_range(1, MOST_MODULES as usize, self.limit as usize) {
+        if !in_range(1, MOST_POWER as usize, self.limit as usize) {
             return false;
         }
         if !self.places_ok() {
@@ -204,53 +204,53 @@ impl Desk {
     // ---- claims, hand-backs and looks
 
     // The number of the first of checks 14 to 17 that fails, 0 where none does.
-    fn claim_refusal(self, controller: u32, modules: u32) -> u32
-        ensures { λ r. ⌜ r ≡ claimRefusal self controller modules ⌝ }
+    fn claim_refusal(self, controller: u32, power: u32) -> u32
+        ensures { λ r. ⌜ r ≡ claimRefusal self controller power ⌝ }
     {
         if self.not_of_desk(controller) {
             return 14;
         }
-        if modules == 0 {
+        if power == 0 {
             return 15;
         }
-        if self.below_ceiling(controller) < modules {
+        if self.below_ceiling(controller) < power {
             return 16;
         }
         let limit = self.limit;
-        if limit < self.holding_at(controller) + modules + self.reserved_for_others(controller) {
+        if limit < self.holding_at(controller) + power + self.reserved_for_others(controller) {
             return 17;
         }
         0
     }
 
     // The number of the first of checks 14, 15 and 18 that fails, 0 where none does.
-    fn hand_back_refusal(self, controller: u32, modules: u32) -> u32
-        ensures { λ r. ⌜ r ≡ handBackRefusal self controller modules ⌝ }
+    fn hand_back_refusal(self, controller: u32, power: u32) -> u32
+        ensures { λ r. ⌜ r ≡ handBackRefusal self controller power ⌝ }
     {
         if self.not_of_desk(controller) {
             return 14;
         }
-        if modules == 0 {
+        if power == 0 {
             return 15;
         }
-        if self.holding_at(controller) < modules {
+        if self.holding_at(controller) < power {
             return 18;
         }
         0
     }
 
-    // Claims modules for the controller: checks 14 to 17. Granted, they are booked; refused, the desk is as before.
-    pub fn claim(mut self, controller: u32, modules: u32) -> Booked
-        ensures { λ r. ⌜ r ≡ claimed self controller modules ⌝ }
+    // Claims power for the controller: checks 14 to 17. Granted, it is booked; refused, the desk is as before.
+    pub fn claim(mut self, controller: u32, power: u32) -> Booked
+        ensures { λ r. ⌜ r ≡ claimed self controller power ⌝ }
     {
-        let refusal = self.claim_refusal(controller, modules);
+        let refusal = self.claim_refusal(controller, power);
         if refusal != 0 {
             return Booked {
                 refusal,
                 desk: self,
             };
         }
-        let held = self.holding_at(controller) + modules;
+        let held = self.holding_at(controller) + power;
         self = self.with_holding(controller, held);
         Booked {
             refusal: 0,
@@ -258,18 +258,18 @@ impl Desk {
         }
     }
 
-    // Hands the controller's modules back: checks 14, 15, 18.
-    pub fn hand_back(mut self, controller: u32, modules: u32) -> Booked
-        ensures { λ r. ⌜ r ≡ handedBack self controller modules ⌝ }
+    // Hands power of the controller back: checks 14, 15, 18.
+    pub fn hand_back(mut self, controller: u32, power: u32) -> Booked
+        ensures { λ r. ⌜ r ≡ handedBack self controller power ⌝ }
     {
-        let refusal = self.hand_back_refusal(controller, modules);
+        let refusal = self.hand_back_refusal(controller, power);
         if refusal != 0 {
             return Booked {
                 refusal,
                 desk: self,
             };
         }
-        let held = self.holding_at(controller) - modules;
+        let held = self.holding_at(controller) - power;
         self = self.with_holding(controller, held);
         Booked {
             refusal: 0,
@@ -285,7 +285,7 @@ impl Desk {
             return Looked {
                 refusal: 14,
                 desk: self,
-                modules: 0,
+                power: 0,
             };
         }
         let below_ceiling = self.below_ceiling(controller);
@@ -294,7 +294,7 @@ impl Desk {
         Looked {
             refusal: 0,
             desk: self,
-            modules: smaller(below_ceiling, beside_others),
+            power: smaller(below_ceiling, beside_others),
         }
     }
 }

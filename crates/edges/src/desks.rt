@@ -26,7 +26,7 @@ fn open(name: &[u8], limit: u32, shares: usize, share: u32, ceilings: usize, cei
     open_fronts(name, limit, &[share; 9], shares, &[ceiling; 9], ceilings);
 }
 
-// Opens a desk of 10 modules for two controllers.
+// Opens a desk of 1 kW for two controllers.
 fn open_two(name: &[u8], share: u32, other_share: u32, ceiling: u32, other_ceiling: u32) {
     let shares = [share, other_share];
     let ceilings = [ceiling, other_ceiling];
@@ -44,8 +44,8 @@ fn lists() {
 fn limits() {
     open(b"limit 0", 0, 2, 0, 2, 0);
     open(b"limit 1", 1, 2, 0, 2, 1);
-    open(b"limit 4096", 4096, 2, 0, 2, 1);
-    open(b"limit 4097", 4097, 2, 0, 2, 1);
+    open(b"limit 400000", 400000, 2, 0, 2, 1);
+    open(b"limit 400001", 400001, 2, 0, 2, 1);
 }
 
 fn pairs() {
@@ -57,7 +57,7 @@ fn pairs() {
     open_two(b"shares of one more", 6, 5, 10, 10);
 }
 
-// Two controllers with shares of 4 and 3 on a feeder of 12 modules.
+// Two controllers with shares of 4 and 3 on a feeder of 1.2 kW.
 fn small(ceiling: u32) -> Desk {
     opening::open(12, &[4u32, 3u32], &[ceiling; 2]).desk
 }
@@ -66,22 +66,22 @@ fn small(ceiling: u32) -> Desk {
 fn look(desk: Desk, controller: u32) {
     let looked = desk.look(controller);
     print_case(b"  a look", looked.refusal);
-    print_case(b"  modules left", looked.modules);
+    print_case(b"  power left", looked.power);
 }
 
 // Claims on a new desk.
-fn claim(name: &[u8], ceiling: u32, controller: u32, modules: u32) {
+fn claim(name: &[u8], ceiling: u32, controller: u32, power: u32) {
     let desk = small(ceiling);
-    let booked = desk.claim(controller, modules);
+    let booked = desk.claim(controller, power);
     print_case(name, booked.refusal);
     look(booked.desk, controller);
 }
 
 // Hands back where controller 1 holds 5.
-fn hand_back(name: &[u8], controller: u32, modules: u32) {
+fn hand_back(name: &[u8], controller: u32, power: u32) {
     let desk = small(12);
     let held = desk.claim(1, 5).desk;
-    let booked = held.hand_back(controller, modules);
+    let booked = held.hand_back(controller, power);
     print_case(name, booked.refusal);
     look(booked.desk, controller);
 }
@@ -103,10 +103,51 @@ fn hand_backs() {
     hand_back(b"a hand-back by controller 2 of 2", 2, 5);
 }
 
+// Gives a desk equal shares and equal ceilings for so many controllers.
+fn change_on(desk: Desk, name: &[u8], limit: u32, share: u32, ceiling: u32, count: usize) {
+    let assured = [share; 9];
+    let ceilings = [ceiling; 9];
+    if count <= 9 {
+        let booked = share_change::change(desk, limit, &assured[0..count], &ceilings[0..count]);
+        print_case(name, booked.refusal);
+        look(booked.desk, 1);
+    }
+}
+
+// The same where controller 1 of two holds 5.
+fn change(name: &[u8], limit: u32, share: u32, ceiling: u32, count: usize) {
+    let desk = small(12);
+    let held = desk.claim(1, 5).desk;
+    change_on(held, name, limit, share, ceiling, count);
+}
+
+fn changes() {
+    change(b"a change to the limit", 400000, 4, 12, 2);
+    change(b"a change to one more", 400001, 4, 12, 2);
+    change(b"a change to no limit", 0, 0, 0, 2);
+    change(b"a change to ceilings of what is held", 12, 4, 5, 2);
+    change(b"a change to ceilings of less", 12, 4, 4, 2);
+    change(b"a change to what is held and assured", 9, 4, 9, 2);
+    change(b"a change to less", 8, 4, 8, 2);
+    change(b"a change to shares of one more", 7, 4, 7, 2);
+    change(b"a change to 3 controllers", 12, 4, 12, 3);
+    change(b"a change to 1 controller", 12, 4, 12, 1);
+    let none = small(13);
+    change_on(
+        none,
+        b"a change of a desk that was not opened",
+        12,
+        4,
+        12,
+        3,
+    );
+}
+
 pub fn run() {
     lists();
     limits();
     pairs();
     claims();
     hand_backs();
+    changes();
 }

@@ -4,7 +4,10 @@ use super::lines::print;
 use super::lines::print_case;
 use super::lines::print_figure;
 use super::lines::print_number;
+use figures::MOST_JOBS;
 use sheet_format::Job;
+use sheet_format::layout::LONGEST_LABEL;
+use sheet_format::layout::LONGEST_SHEET;
 
 // The length of the sheet of one job with a label of one byte, and where its parts begin.
 const SMALL: usize = 19;
@@ -28,7 +31,7 @@ fn job(label_len: u8, minutes: u16, earlier: u32, departure: u16) -> Job {
 // The sheet of one job, labelled A, on a cabinet of two modules.
 fn small() -> [u8; SMALL] {
     let mut s = [0u8; SMALL];
-    sheet::write([job(1, 10, 0, 30); 20], 1, b"A", 2, &mut s);
+    sheet::write([job(1, 10, 0, 30); MOST_JOBS], 1, b"A", 2, &mut s);
     s
 }
 
@@ -62,8 +65,8 @@ fn read_range(name: &[u8], at: usize, wide: bool, least: u16, largest: u16)
 }
 
 fn read_records() {
-    // a label length of 12 is in range, but there is one label byte
-    read_range(b"label length", RECORD, false, 1, 12);
+    // a label length of 16 is in range, but there is one label byte
+    read_range(b"label length", RECORD, false, 1, 16);
     read_number(b"needed modules", RECORD + 1, false, 0);
     read_number(b"needed modules", RECORD + 1, false, 255);
     read_range(b"minutes", RECORD + 2, true, 1, 1440);
@@ -74,7 +77,9 @@ fn read_records() {
 }
 
 fn read_labels_and_trailer() {
-    read_range(b"label byte", LABEL, false, 33, 126);
+    // 32 is a label byte, but not alone
+    read_range(b"label byte", LABEL, false, 32, 126);
+    read_number(b"label byte", LABEL, false, 33);
     read_number(b"record offset", TRAILER, true, 0);
     read_number(b"record offset", TRAILER, true, 2);
     // an offset near 2 to the 32
@@ -95,23 +100,73 @@ fn read_three(name: &[u8], label_byte: u8, label_len: u8, minutes: u8) {
 
 // Check 5 before 6 before 7: minutes, label length and label byte are wrong at once, then one after another is put right.
 fn read_first() {
-    read_three(b"minutes, label length and label byte wrong", 32, 12, 0);
-    read_three(b"label length and label byte wrong", 32, 12, 10);
+    read_three(b"minutes, label length and label byte wrong", 32, 16, 0);
+    read_three(b"label length and label byte wrong", 32, 16, 10);
     read_three(b"label byte wrong", 32, 1, 10);
     read_three(b"nothing wrong", b'A', 1, 10);
 }
 
-// The longest sheet, of twenty jobs with labels of twelve bytes, and a byte more.
-fn long() -> [u8; 449] {
-    let mut s = [0u8; 449];
-    sheet::write([job(12, 10, 0, 30); 20], 20, &[b'B'; 240], 64, &mut s);
+// The length of the sheet of two jobs with labels of three bytes in all.
+const PAIR: usize = 31;
+
+// Reads the sheet of two jobs whose labels are so long and have another byte in their middle.
+fn read_pair(name: &[u8], first: u8, second: u8, label_byte: u8) {
+    let mut s = [0u8; PAIR];
+    let mut jobs = [job(1, 10, 0, 30); MOST_JOBS];
+    jobs[0] = job(2, 10, 0, 30);
+    sheet::write(jobs, 2, b"ABC", 2, &mut s);
+    s[1] = label_byte;
+    s[3] = first;
+    s[13] = second;
+    print_case(name, sheet::read(&s).refusal);
+}
+
+// The length of the sheet of one job with a label of three bytes.
+const SPACED: usize = 21;
+
+// The sheet of one job whose label has another byte at a place.
+fn spaced(at: usize, label_byte: u8) -> [u8; SPACED] {
+    let mut s = [0u8; SPACED];
+    sheet::write([job(3, 10, 0, 30); MOST_JOBS], 1, b"A1B", 2, &mut s);
+    if at < SPACED {
+        s[at] = label_byte;
+    }
+    s
+}
+
+fn read_spaced(name: &[u8], at: usize, label_byte: u8) {
+    let s = spaced(at, label_byte);
+    show_label(name, &s, 0);
+}
+
+// A space inside a label, and at its edges; where two labels stand one behind the other it is at the edge of one of them.
+fn read_spaces() {
+    read_spaced(b"a space inside", 1, 32);
+    read_spaced(b"a space first", 0, 32);
+    read_spaced(b"a space last", 2, 32);
+    read_spaced(b"byte 31 inside", 1, 31);
+    read_pair(b"two labels, a space at the end of the first", 2, 1, 32);
+    read_pair(b"two labels, a space at the front of the second", 1, 2, 32);
+    read_pair(b"two labels without a space", 2, 1, 33);
+}
+
+// The longest sheet, of twenty jobs with labels of sixteen bytes, and a byte more.
+fn long() -> [u8; LONGEST_SHEET + 1] {
+    let mut s = [0u8; LONGEST_SHEET + 1];
+    sheet::write(
+        [job(16, 10, 0, 30); MOST_JOBS],
+        MOST_JOBS,
+        &[b'B'; MOST_JOBS * LONGEST_LABEL],
+        64,
+        &mut s,
+    );
     s
 }
 
 // The shortest sheet: no jobs, one module.
 fn short() -> [u8; 8] {
     let mut s = [0u8; 8];
-    sheet::write([job(1, 10, 0, 30); 20], 0, b"", 1, &mut s);
+    sheet::write([job(1, 10, 0, 30); MOST_JOBS], 0, b"", 1, &mut s);
     s
 }
 
@@ -158,8 +213,12 @@ fn read_fronts() {
 
 fn read_lengths() {
     let long = long();
-    read_front(b"20 jobs, labels of 12 bytes, 448 bytes", &long, 448);
-    read_front(b"449 bytes", &long, 449);
+    read_front(
+        b"20 jobs, labels of 16 bytes, 528 bytes",
+        &long,
+        LONGEST_SHEET,
+    );
+    read_front(b"529 bytes", &long, LONGEST_SHEET + 1);
     let short = short();
     read_front(b"no jobs, 8 bytes", &short, 8);
     read_front(b"7 bytes", &short, 7);
@@ -173,7 +232,7 @@ fn write_one(name: &[u8], x: u16, job: Job, labels: &[u8]) {
         print_number(
             name,
             x,
-            sheet::write([job; 20], 1, &labels[0..count], 2, &mut out).refusal,
+            sheet::write([job; MOST_JOBS], 1, &labels[0..count], 2, &mut out).refusal,
         );
     }
 }
@@ -183,7 +242,7 @@ fn write_job(name: &[u8], x: u16, label_len: u8, minutes: u16, earlier: u32, dep
         name,
         x,
         job(label_len, minutes, earlier, departure),
-        &[b'A'; 16],
+        &[b'A'; 17],
     );
 }
 
@@ -199,8 +258,8 @@ fn write_label_byte(name: &[u8], label_byte: u8) {
 fn write_records() {
     write_job(b"writing, label length", 0, 0, 10, 0, 30);
     write_job(b"writing, label length", 1, 1, 10, 0, 30);
-    write_job(b"writing, label length", 12, 12, 10, 0, 30);
-    write_job(b"writing, label length", 13, 13, 10, 0, 30);
+    write_job(b"writing, label length", 16, 16, 10, 0, 30);
+    write_job(b"writing, label length", 17, 17, 10, 0, 30);
     write_job(b"writing, minutes", 1440, 1, 1440, 0, 30);
     write_job(b"writing, minutes", 1441, 1, 1441, 0, 30);
     write_job(b"writing, earlier jobs", 1, 1, 10, 1, 30);
@@ -210,19 +269,34 @@ fn write_records() {
 }
 
 fn write_label_bytes() {
+    write_label_byte(b"writing, label byte", 31);
     write_label_byte(b"writing, label byte", 32);
     write_label_byte(b"writing, label byte", 33);
     write_label_byte(b"writing, label byte", 126);
     write_label_byte(b"writing, label byte", 127);
 }
 
-// Writes jobs with labels of twelve bytes into the first bytes.
+// Writes one job with a label of three bytes.
+fn write_spaced(name: &[u8], label: &[u8]) {
+    let mut out = [0u8; 64];
+    let written = sheet::write([job(3, 10, 0, 30); MOST_JOBS], 1, label, 2, &mut out);
+    print_case(name, written.refusal);
+}
+
+fn write_spaces() {
+    write_spaced(b"writing, a space inside", b"A B");
+    write_spaced(b"writing, a space first", b" AB");
+    write_spaced(b"writing, a space last", b"AB ");
+    write_spaced(b"writing, byte 31 inside", b"A\x1fB");
+}
+
+// Writes jobs with labels of sixteen bytes into the first bytes.
 fn write_front(name: &[u8], jobs: usize, modules: u16, out: &mut [u8], room: usize) {
     if room <= out.len() {
         let written = sheet::write(
-            [job(12, 10, 0, 30); 20],
+            [job(16, 10, 0, 30); MOST_JOBS],
             jobs,
-            &[b'B'; 240],
+            &[b'B'; MOST_JOBS * LONGEST_LABEL],
             modules,
             &mut out[0..room],
         );
@@ -231,15 +305,20 @@ fn write_front(name: &[u8], jobs: usize, modules: u16, out: &mut [u8], room: usi
 }
 
 fn write_long(name: &[u8], jobs: usize, modules: u16, room: usize) {
-    write_front(name, jobs, modules, &mut [0u8; 448], room);
+    write_front(name, jobs, modules, &mut [0u8; LONGEST_SHEET], room);
 }
 
 fn write_sizes() {
-    write_long(b"writing, 20 jobs into 448 bytes", 20, 64, 448);
-    write_long(b"writing, 20 jobs into 447 bytes", 20, 64, 447);
-    write_long(b"writing, 21 jobs", 21, 64, 448);
-    write_long(b"writing, modules 0", 20, 0, 448);
-    write_long(b"writing, modules 65", 20, 65, 448);
+    write_long(b"writing, 20 jobs into 528 bytes", 20, 64, LONGEST_SHEET);
+    write_long(
+        b"writing, 20 jobs into 527 bytes",
+        20,
+        64,
+        LONGEST_SHEET - 1,
+    );
+    write_long(b"writing, 21 jobs", 21, 64, LONGEST_SHEET);
+    write_long(b"writing, modules 0", 20, 0, LONGEST_SHEET);
+    write_long(b"writing, modules 65", 20, 65, LONGEST_SHEET);
 }
 
 fn show_label(name: &[u8], s: &[u8], job: usize) {
@@ -260,10 +339,12 @@ pub fn run() {
     read_records();
     read_labels_and_trailer();
     read_first();
+    read_spaces();
     read_fronts();
     read_lengths();
     write_records();
     write_label_bytes();
+    write_spaces();
     write_sizes();
     show_labels();
 }

@@ -20,7 +20,7 @@ use Rattle.card.specs.Card as card
 use Rattle.words.specs.Words.{numberAt}
 use Rattle.sheet_format.specs.Format.{recordAt, recordBytes, trailerBytes, sheetBytes}
 use Rattle.sheet_format.specs.Format.{places as sheet-places}
-use Rattle.sheet_format.specs.Checks.{outside, faulty}
+use Rattle.sheet_format.specs.Checks.{outside, faulty, wrongLabel}
 use Rattle.sheet.specs.Read.{reading}
 use Rattle.planable.specs.Planable.{noOrder}
 use Rattle.planner.specs.Planning.{planRefusal, bestCard, cardAfter}
@@ -62,7 +62,7 @@ holds-right (desk limit assured ceilings n l) e =
 
 table-holds : every (length table) (λ k. holds (getD table k noRow)) ≡ true
 unfolding table sum largest every any joined overWide ready firstMinute startOf placeAll ordersAfter earliestOf answerOf
-    bit setOf numberAt recordAt recordBytes trailerBytes sheetBytes sheet-places outside faulty reading
+    bit setOf numberAt recordAt recordBytes trailerBytes sheetBytes sheet-places outside faulty wrongLabel reading
     card.rowBytes card.trailerBytes card.cardBytes noOrder planRefusal bestCard cardAfter
     firstFailing wrongLengths wrongFigures sharesExceed deskOk notOfDesk openRefusal opened claimRefusal claimed handBackRefusal handedBack
     lookRefusal looked

@@ -37,6 +37,17 @@ e9 =
     ∷ (claim 1 1, refused 17)
     ∷ []
 
+-- F-6: the same with modules of 30 kW, every figure times 300: looks give the old figure times 300, and numbers are as before
+abbrev pub e9In30kW : List (Call × Reply)
+e9In30kW =
+    (look 0, gives 2100)
+    ∷ (look 1, gives 1800)
+    ∷ (claim 0 2100, done)
+    ∷ (claim 0 300, refused 17)
+    ∷ (claim 1 900, done)
+    ∷ (claim 1 300, refused 17)
+    ∷ []
+
 unfoldable pub table : List Row
 table =
     -- E1: "plan 30 3 2", "Its order is 0, 2, 1", and each line's start and module set
@@ -92,4 +103,8 @@ table =
     -- E11: "L = 10, ceilings 10, assured 6 and 5: 13; 5 and 5 opens."
     ∷ desk 10 (6 ∷ 5 ∷ []) (10 ∷ 10 ∷ []) 13 []
     ∷ desk 10 (5 ∷ 5 ∷ []) (10 ∷ 10 ∷ []) 0 []
+    -- F-6: E9 and E10 with every figure times 300
+    ∷ desk 3000 (1200 ∷ 900 ∷ []) (3000 ∷ 3000 ∷ []) 0 e9In30kW
+    ∷ desk 3000 (1200 ∷ 900 ∷ []) (3000 ∷ 3000 ∷ []) 0
+    (e9In30kW ++ ((handBack 0 2400, refused 18) ∷ (handBack 0 2100, done) ∷ []))
     ∷ []

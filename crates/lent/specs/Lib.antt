@@ -1,2 +1,2 @@
--- What the thin calls leave in lent memory.
+-- What the thin calls answer and leave in lent memory.
 pub mod Lent

@@ -1,8 +1,16 @@
-// What opening and a look leave where a desk and a figure are kept: refused, they are as before.
+// What opening and a look answer where firmware keeps the desk. Refused, opening hands the kept desk back.
 use desk::Booked;
 use desk::Desk;
 ghost use mathlib.Core.Path.{_≡_};
-ghost use Rattle.lent.specs.Lent.{openedOver, shownOver};
+ghost use Rattle.lent.specs.Lent.{openedOver, lookedAt};
+
+// What a look answers beside the desk, which stays where it is kept: the refusal's number, or 0 and the largest claim that would be
+// granted now.
+#[repr(C)]
+pub struct Looked {
+    pub refusal: u32,
+    pub power: u32,
+}
 
 // Opening by value where a desk is kept: refused, the kept desk is handed back.
 pub fn opened_over(kept: Desk, limit: u32, assured: &[u32], ceilings: &[u32]) -> Booked
@@ -23,12 +31,13 @@ pub fn opened_over(kept: Desk, limit: u32, assured: &[u32], ceilings: &[u32]) ->
     }
 }
 
-// Shows a figure where the number is 0, and gives the number.
-pub fn show(refusal: u32, figure: u32, modules: &mut u32) -> u32
-    ensures { λ r. ⌜ (r ≡ refusal) × (now (modules .exit) ≡ shownOver (now (modules .entry)) refusal figure) ⌝ }
+// A look at a kept desk.
+pub fn look_at(kept: Desk, controller: u32) -> Looked
+    ensures { λ r. ⌜ r ≡ lookedAt kept controller ⌝ }
 {
-    if refusal == 0 {
-        *modules = figure;
+    let answer = kept.look(controller);
+    Looked {
+        refusal: answer.refusal,
+        power: answer.power,
     }
-    refusal
 }

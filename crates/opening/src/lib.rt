@@ -2,13 +2,13 @@
 use desk::Desk;
 use desk::FEWEST_CONTROLLERS;
 use desk::MOST_CONTROLLERS;
-use desk::MOST_MODULES;
+use desk::MOST_POWER;
 use desk::Opened;
 use desk::in_range;
 ghost use mathlib.Core.Path.{_≡_};
 ghost use Prim.Native.Nat.{ℕ, _≤_, _<_};
 ghost use lib.ListN.{length, getD};
-ghost use Rattle.desk.specs.Desk.{mostModules, mostControllers, padded, noDesk};
+ghost use Rattle.desk.specs.Desk.{mostPower, mostControllers, padded, noDesk};
 ghost use Rattle.desk.specs.Checks.{wrongPair, somePairWrong, sharesInAll};
 ghost use Rattle.desk.specs.Calls.{openRefusal, opened};
 
@@ -36,7 +36,7 @@ fn some_pair_wrong(limit: u32, assured: &[u32], ceilings: &[u32]) -> bool
 
 // The shares, of which each is within the largest limit, added up.
 fn shares_in_all(assured: &[u32]) -> u32
-    requires { ⌜ (length (now assured) ≤ mostControllers) × ((i : ℕ) → i < length (now assured) → getD (now assured) i 0 ≤ mostModules) ⌝ }
+    requires { ⌜ (length (now assured) ≤ mostControllers) × ((i : ℕ) → i < length (now assured) → getD (now assured) i 0 ≤ mostPower) ⌝ }
     ensures { λ r. ⌜ r ≡ sharesInAll (now (assured .entry)) ⌝ }
 {
     let mut total: u32 = 0;
@@ -58,7 +58,7 @@ fn open_refusal(limit: u32, assured: &[u32], ceilings: &[u32]) -> u32
     if !in_range(FEWEST_CONTROLLERS, MOST_CONTROLLERS, assured.len()) {
         return 11;
     }
-    if !in_range(1, MOST_MODULES as usize, limit as usize) {
+    if !in_range(1, MOST_POWER as usize, limit as usize) {
         return 12;
     }
     if some_pair_wrong(limit, assured, ceilings) {

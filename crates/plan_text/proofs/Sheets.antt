@@ -1,4 +1,4 @@
--- What printing reads of a sheet: at most 20 jobs, and labels of at most 12 bytes, whatever the bytes are.
+-- What printing reads of a sheet: at most 20 jobs, and labels of at most 16 bytes, whatever the bytes are.
 use mathlib.Core.Path.{_≡_, refl}
 use mathlib.Core.Bool.{Bool, true, false, cond}
 use mathlib.Core.List.{List, []}
@@ -23,12 +23,12 @@ few s = go (eqb (readRefusal s) 0) refl
     go true e = reads s (eqb-true (readRefusal s) 0 e) .trailer .few
     go false e = omega arith
 
-pub label-short : (s : List ℕ) (j : ℕ) → length (labelOf s j) ≤ 12
+pub label-short : (s : List ℕ) (j : ℕ) → length (labelOf s j) ≤ 16
 unfolding labelOf
 label-short s j = go (eqb (labelRefusal s j) 0) refl
   where
     go : (b : Bool) → eqb (labelRefusal s j) 0 ≡ b
-        → length (cond b (take (labelLength (jobOf s j)) (drop (labelStart s j) s)) []) ≤ 12
+        → length (cond b (take (labelLength (jobOf s j)) (drop (labelStart s j) s)) []) ≤ 16
     go true e =
         let t = there s j (labelRefusal s j) refl (eqb-true (labelRefusal s j) 0 e) in
         let l = legal (countOf s) (jobOf s j) (t .sheet .sound j (t .below)) in

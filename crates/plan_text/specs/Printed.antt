@@ -20,10 +20,10 @@ refusedWord = 114 ∷ 101 ∷ 102 ∷ 117 ∷ 115 ∷ 101 ∷ 100 ∷ []
 unfoldable pub planLine : ℕ → ℕ → ℕ → List ℕ
 planLine end n N = line planWord (decimal end ∷ decimal n ∷ decimal N ∷ [])
 
--- "label, start, end, lateness, module set as 16 upper-case hexadecimal digits"
+-- "start, end, lateness, the module set as 16 upper-case hexadecimal digits, and the label"
 unfoldable pub jobLine : List ℕ → ℕ → ℕ → ℕ → ℕ → List ℕ
 jobLine label start end departure modules =
-    line label (decimal start ∷ decimal end ∷ signed (latenessOf end departure) ∷ hexadecimal modules ∷ [])
+    line (decimal start) (decimal end ∷ signed (latenessOf end departure) ∷ hexadecimal modules ∷ label ∷ [])
 
 -- "A refused sheet prints one line, `refused` and the number."
 unfoldable pub refusedLine : ℕ → List ℕ

@@ -24,11 +24,11 @@ pub const LONGEST_CARD: usize = (ROW_SIZE + 1) * MOST_JOBS + TRAILER_SIZE;
 fn with_line(text: Text, label: &[u8], start: u16, end: u16, departure: u16, modules: u64) -> Text
     ensures { λ r. ⌜ r ≡ adding text (jobLine (now (label .entry)) start end departure modules) ⌝ }
 {
-    let mut next = text::with_field(text, label, b' ');
-    next = text::with_decimal(next, start as u32, b' ');
+    let mut next = text::with_decimal(text, start as u32, b' ');
     next = text::with_decimal(next, end as u32, b' ');
     next = text::with_signed(next, card::lateness(end, departure), b' ');
-    text::with_hexadecimal(next, modules, b'\n')
+    next = text::with_hexadecimal(next, modules, b' ');
+    text::with_field(next, label, b'\n')
 }
 
 // The text with the line of job j, whose row is on the card.

@@ -1,9 +1,10 @@
 // Reads a job sheet from standard input and prints its plan, or the refusal.
 use libc::STDIN_FILENO;
 use libc::STDOUT_FILENO;
+use sheet_format::layout::LONGEST_SHEET;
 
 // A byte more than the longest sheet: a longer input is then refused for its length.
-const INPUT: usize = 449;
+const INPUT: usize = LONGEST_SHEET + 1;
 
 fn main() {
     let mut input = [0u8; INPUT];

@@ -10,7 +10,7 @@ use Rattle.schedule.specs.TieRule.{ordersAfter, earliestOf}
 use Rattle.checking.specs.Checking.{firstFailing}
 use Rattle.words.specs.Words.{numberAt}
 use Rattle.sheet_format.specs.Format.{recordAt, noJobs, places}
-use Rattle.sheet_format.specs.Checks.{outside, faulty}
+use Rattle.sheet_format.specs.Checks.{outside, faulty, wrongLabel}
 use Rattle.sheet.specs.Read.{reading}
 use Rattle.sheet.specs.Label.{labelOf}
 use Rattle.sheet.proofs.Examples.{e1, labels}
@@ -21,21 +21,21 @@ use Rattle.text.specs.Lines.{line}
 use Rattle.plan_text.specs.Printed.{planLine, jobLine, refusedLine}
 use Rattle.report.specs.Report.{bestLines, reportOf}
 
--- fifteen zeros and a digit
-abbrev modules : ℕ → List ℕ
-modules d = 48 ∷ 48 ∷ 48 ∷ 48 ∷ 48 ∷ 48 ∷ 48 ∷ 48 ∷ 48 ∷ 48 ∷ 48 ∷ 48 ∷ 48 ∷ 48 ∷ 48 ∷ d ∷ 10 ∷ []
+-- fifteen zeros and a digit, the label, and the end of the line
+abbrev modules : ℕ → ℕ → List ℕ
+modules d label = 48 ∷ 48 ∷ 48 ∷ 48 ∷ 48 ∷ 48 ∷ 48 ∷ 48 ∷ 48 ∷ 48 ∷ 48 ∷ 48 ∷ 48 ∷ 48 ∷ 48 ∷ d ∷ 32 ∷ label ∷ 10 ∷ []
 
 -- plan 30 3 2
--- A 0 10 -20 0000000000000001
--- B 10 30 5 0000000000000003
--- C 0 10 -20 0000000000000002
+-- 0 10 -20 0000000000000001 A
+-- 10 30 5 0000000000000003 B
+-- 0 10 -20 0000000000000002 C
 pub e1-output : reportOf e1
     ≡ (112 ∷ 108 ∷ 97 ∷ 110 ∷ 32 ∷ 51 ∷ 48 ∷ 32 ∷ 51 ∷ 32 ∷ 50 ∷ 10 ∷ [])
-    ++ ((65 ∷ 32 ∷ 48 ∷ 32 ∷ 49 ∷ 48 ∷ 32 ∷ 45 ∷ 50 ∷ 48 ∷ 32 ∷ modules 49)
-    ++ ((66 ∷ 32 ∷ 49 ∷ 48 ∷ 32 ∷ 51 ∷ 48 ∷ 32 ∷ 53 ∷ 32 ∷ modules 51)
-    ++ (67 ∷ 32 ∷ 48 ∷ 32 ∷ 49 ∷ 48 ∷ 32 ∷ 45 ∷ 50 ∷ 48 ∷ 32 ∷ modules 50)))
+    ++ ((48 ∷ 32 ∷ 49 ∷ 48 ∷ 32 ∷ 45 ∷ 50 ∷ 48 ∷ 32 ∷ modules 49 65)
+    ++ ((49 ∷ 48 ∷ 32 ∷ 51 ∷ 48 ∷ 32 ∷ 53 ∷ 32 ∷ modules 51 66)
+    ++ (48 ∷ 32 ∷ 49 ∷ 48 ∷ 32 ∷ 45 ∷ 50 ∷ 48 ∷ 32 ∷ modules 50 67)))
 unfolding
-    e1 labels reading labelOf firstFailing outside faulty any sum places joined recordAt numberAt largest every bit setOf overWide
+    e1 labels reading labelOf firstFailing outside faulty wrongLabel any sum places joined recordAt numberAt largest every bit setOf overWide
     ready firstMinute startOf placeAll ordersAfter earliestOf noOrder planRefusal digit place decimal signed hexadecimal line planLine
     jobLine refusedLine bestLines reportOf
 e1-output = refl
@@ -43,7 +43,7 @@ e1-output = refl
 -- E2, no jobs and one module: plan 0 0 1
 pub e2-output : reportOf (0 ∷ 0 ∷ 0 ∷ 0 ∷ 0 ∷ 0 ∷ 1 ∷ 0 ∷ []) ≡ 112 ∷ 108 ∷ 97 ∷ 110 ∷ 32 ∷ 48 ∷ 32 ∷ 48 ∷ 32 ∷ 49 ∷ 10 ∷ []
 unfolding
-    reading firstFailing outside faulty any sum places joined recordAt numberAt largest every bit setOf overWide
+    reading firstFailing outside faulty wrongLabel any sum places joined recordAt numberAt largest every bit setOf overWide
     ready firstMinute startOf placeAll ordersAfter earliestOf noOrder planRefusal digit place decimal line planLine
     jobLine refusedLine bestLines reportOf
 e2-output = refl
@@ -55,7 +55,7 @@ refused d = 114 ∷ 101 ∷ 102 ∷ 117 ∷ 115 ∷ 101 ∷ 100 ∷ 32 ∷ d ∷
 -- no byte at all: refused 1
 pub none-output : reportOf [] ≡ refused 49
 unfolding
-    reading firstFailing outside faulty any sum places noJobs joined recordAt numberAt largest every bit setOf overWide
+    reading firstFailing outside faulty wrongLabel any sum places noJobs joined recordAt numberAt largest every bit setOf overWide
     ready firstMinute startOf placeAll ordersAfter earliestOf noOrder planRefusal digit place decimal line planLine
     jobLine refusedLine bestLines reportOf
 none-output = refl
@@ -75,7 +75,7 @@ two need =
 pub refused-outputs : (reportOf (one 2 0) ≡ refused 56) × (reportOf (two 1) ≡ refused 57) × (reportOf (one 1 1) ≡ refused 57)
     × (reportOf (two 2) ≡ refused 56)
 unfolding
-    reading labelOf firstFailing outside faulty any sum places joined recordAt numberAt largest every bit setOf overWide
+    reading labelOf firstFailing outside faulty wrongLabel any sum places joined recordAt numberAt largest every bit setOf overWide
     ready firstMinute startOf placeAll ordersAfter earliestOf noOrder planRefusal digit place decimal signed hexadecimal line planLine
     jobLine refusedLine bestLines reportOf
 refused-outputs = (refl, refl, refl, refl)

@@ -1,18 +1,22 @@
--- Every figure that a report shows is below 100000, where `decimal-value` reads it back from its digits.
+-- Every figure that a report shows is below 100000, where `decimal-is` and `signed-is` say that its digits are printed, and every set of
+-- modules below 2 ^ 64, where `hexadecimal-is` does.
 use mathlib.Core.Path.{_≡_, subst}
 use mathlib.Core.Bool.{Bool, true, false, cond}
 use mathlib.Core.List.{List, [], _∷_}
 use mathlib.Core.Option.{some}
 use Prim.Native.Nat.{ℕ, suc, _≤_, _<_}
+use native.Mathlib.Nat.{le-trans}
 use native.Mathlib.Omega.{arith}
 use lib.Dec.{T, leb, leb→le}
 use lib.IntN.{natAbs}
 use lib.ListN.{replicate}
+use lib.Pow.{pow-mono}
 use lib.Signed.{natAbs-le}
-use Rattle.figures.specs.Figures.{lastEnd}
 use Rattle.counting.proofs.Ranges.{largest-le}
+use Rattle.figures.specs.Figures.{mostModules, lastEnd}
+use Rattle.bits.proofs.Sets.{setOf-lt}
 use Rattle.checking.specs.Checking.{Check, firstFailing}
-use Rattle.schedule.specs.Plan.{Sheet, Plan, finish, planEnd}
+use Rattle.schedule.specs.Plan.{Sheet, Plan, finish}
 use Rattle.schedule.specs.ListPlan.{listPlan}
 use Rattle.schedule.specs.TieRule.{bestOrder}
 use Rattle.card.specs.Card.{latenessOf}
@@ -82,6 +86,8 @@ module _ (s : List ℕ) (z : planRefusal s longestCard ≡ 0) where
     starts = λ j l. omega (arith, ends j l);
     finishes = λ j l. omega (arith, ends j l);
     late = λ j l. omega (arith, late-small j l);
+    sets = λ j l.
+        le-trans (setOf-lt (S .modules) (P .uses j)) (pow-mono {i = S .modules} {j = mostModules} (most-read s reads-well));
   }
 
   -- Of the tie rule's plan every figure is small.

@@ -1,5 +1,5 @@
 -- No card is longer than the longest, and no report is longer than the room of a text: the first line has at most 4 + 3 * 6 + 1 = 23 bytes,
--- each of at most 20 job lines 12 + 6 + 6 + 7 + 17 + 1 = 49, together 1003.
+-- each of at most 20 job lines 6 + 6 + 7 + 17 + 16 + 1 = 53, together 1083.
 use mathlib.Core.Path.{_≡_, refl}
 use mathlib.Core.Bool.{Bool, true, false, cond}
 use mathlib.Core.List.{List}
@@ -36,8 +36,8 @@ plan-short : (end n N : ℕ) → length (planLine end n N) ≤ 23
 unfolding planLine line
 plan-short end n N = simp length-append (omega (arith, decimal-short end, decimal-short n, decimal-short N))
 
-job-short : (label : List ℕ) (start end departure modules : ℕ) → length label ≤ 12
-    → length (jobLine label start end departure modules) ≤ 49
+job-short : (label : List ℕ) (start end departure modules : ℕ) → length label ≤ 16
+    → length (jobLine label start end departure modules) ≤ 53
 unfolding jobLine line
 job-short label start end departure modules l =
     simp length-append
@@ -51,7 +51,7 @@ joined-short (suc n) w f h = simp length-append (omega (arith, joined-short n w 
 
 plan-lines-short : (s : List ℕ) (S : Sheet) (P : Plan) → S .jobs ≤ 20 → length (planLines s S P) ≤ room
 plan-lines-short s S P l =
-    let rows = joined-short (S .jobs) 49 (lineOfJob s S P) (λ j. job-short (labelOf s j) _ _ _ _ (label-short s j)) in
+    let rows = joined-short (S .jobs) 53 (lineOfJob s S P) (λ j. job-short (labelOf s j) _ _ _ _ (label-short s j)) in
     simp length-append (omega (arith, plan-short (planEnd S P) (S .jobs) (S .modules)))
 
 best-short : (s : List ℕ) (S : Sheet) → S .jobs ≤ 20 → length (bestLines s S) ≤ room

@@ -7,7 +7,7 @@ ghost use Rattle.report.specs.Report.{reportOf};
 use plan_text::LONGEST_CARD;
 use text::Text;
 
-// What is printed of a sheet: its plan's lines, at most 1003 bytes, or the refusal. Working memory is lent as for planning.
+// What is printed of a sheet: its plan's lines, at most 1083 bytes, or the refusal. Working memory is lent as for planning.
 pub fn report(sheet: &[u8], work: &mut [u8]) -> Text
     ensures text { λ r. ⌜ r ≡ textOf (reportOf (now (sheet .entry))) ⌝ }
     ensures work { λ _. ⌜ now (work .exit) ≡ memoryAfter (now (sheet .entry)) longestCard (now (work .entry)) ⌝ }

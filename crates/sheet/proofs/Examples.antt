@@ -16,7 +16,7 @@ use Rattle.sheet_format.specs.declared.Job.{Job}
 use Rattle.words.specs.Words.{byteAt, numberAt}
 use Rattle.sheet_format.specs.Format.{recordAt, recordBytes, trailerBytes, sheetBytes, jobsIn}
 use Rattle.sheet_format.specs.Format.{places}
-use Rattle.sheet_format.specs.Checks.{outside, faulty}
+use Rattle.sheet_format.specs.Checks.{outside, faulty, wrongLabel}
 use Rattle.sheet.specs.declared.Reading.{Reading}
 use Rattle.sheet.specs.Read.{answered, reading}
 use Rattle.sheet.specs.Label.{labelRefusal, labelOf}
@@ -46,25 +46,25 @@ e1 =
     ++ (3 ∷ 0 ∷ 0 ∷ 0 ∷ 3 ∷ 0 ∷ 2 ∷ 0 ∷ [])
 
 pub e1-reads : reading e1 ≡ answered 3 (jobsIn jobs) 2
-unfolding e1 labels jobs job reading firstFailing outside faulty any sum places joined recordAt numberAt
+unfolding e1 labels jobs job reading firstFailing outside faulty wrongLabel any sum places joined recordAt numberAt
 e1-reads = refl
 
 pub e1-label : labelOf e1 1 ≡ 66 ∷ []
-unfolding e1 labels labelOf firstFailing outside faulty any sum recordAt numberAt
+unfolding e1 labels labelOf firstFailing outside faulty wrongLabel any sum recordAt numberAt
 e1-label = refl
 
 pub e1-no-label : labelRefusal e1 3 ≡ 14
-unfolding e1 labels firstFailing outside faulty any sum recordAt numberAt
+unfolding e1 labels firstFailing outside faulty wrongLabel any sum recordAt numberAt
 e1-no-label = refl
 
 -- into a buffer that is longer than the sheet
 pub e1-written : writeLeaves (jobsIn jobs) 3 labels 2 (replicate 45 7) ≡ e1 ++ (7 ∷ 7 ∷ 7 ∷ 7 ∷ [])
-unfolding e1 labels jobs job writeLeaves firstFailing outside faulty any sum sheetBytes recordBytes trailerBytes joined
+unfolding e1 labels jobs job writeLeaves firstFailing outside faulty wrongLabel any sum sheetBytes recordBytes trailerBytes joined
 e1-written = refl
 
 -- the round trip's premise holds of it
 e1-answered : writeAnswer (jobsIn jobs) 3 labels 2 (replicate 45 7) .refusal ≡ 0
-unfolding labels jobs job writeAnswer firstFailing outside faulty any sum sheetBytes
+unfolding labels jobs job writeAnswer firstFailing outside faulty wrongLabel any sum sheetBytes
 e1-answered = refl
 
 pub e1-back : reading (writtenSheet (jobsIn jobs) 3 labels 2 (replicate 45 7)) ≡ answered 3 (jobsIn jobs) 2
@@ -72,26 +72,37 @@ e1-back = written-reads (jobsIn jobs) 3 labels 2 (replicate 45 7) e1-answered
 
 -- ---- 5 before 6 before 7
 
--- one job: a label byte, a label length, minutes
-pub one : ℕ → ℕ → ℕ → List ℕ
-one byte len minutes =
-    byte ∷ len ∷ 1 ∷ minutes ∷ 0 ∷ 0 ∷ 0 ∷ 0 ∷ 0 ∷ 0 ∷ 0 ∷ 1 ∷ 0 ∷ 0 ∷ 0 ∷ 1 ∷ 0 ∷ 1 ∷ 0 ∷ []
+-- one job: the label's bytes, a label length, minutes
+pub one : List ℕ → ℕ → ℕ → List ℕ
+one label len minutes =
+    label ++ (len ∷ 1 ∷ minutes ∷ 0 ∷ 0 ∷ 0 ∷ 0 ∷ 0 ∷ 0 ∷ 0 ∷ length label ∷ 0 ∷ 0 ∷ 0 ∷ 1 ∷ 0 ∷ 1 ∷ 0 ∷ [])
 
-pub all-wrong : reading (one 32 2 0) .refusal ≡ 5
-unfolding one reading firstFailing outside faulty any sum places joined recordAt numberAt
+pub all-wrong : reading (one (32 ∷ []) 2 0) .refusal ≡ 5
+unfolding one reading firstFailing outside faulty wrongLabel any sum places joined recordAt numberAt
 all-wrong = refl
 
-pub lengths-wrong : reading (one 32 2 1) .refusal ≡ 6
-unfolding one reading firstFailing outside faulty any sum places joined recordAt numberAt
+pub lengths-wrong : reading (one (32 ∷ []) 2 1) .refusal ≡ 6
+unfolding one reading firstFailing outside faulty wrongLabel any sum places joined recordAt numberAt
 lengths-wrong = refl
 
-pub byte-wrong : reading (one 32 1 1) .refusal ≡ 7
-unfolding one reading firstFailing outside faulty any sum places joined recordAt numberAt
-byte-wrong = refl
+pub byte-wrong : (reading (one (31 ∷ []) 1 1) .refusal ≡ 7) × (reading (one (127 ∷ []) 1 1) .refusal ≡ 7)
+unfolding one reading firstFailing outside faulty wrongLabel any sum places joined recordAt numberAt
+byte-wrong = (refl, refl)
 
-pub none-wrong : reading (one 33 1 1) .refusal ≡ 0
-unfolding one reading firstFailing outside faulty any sum places joined recordAt numberAt
-none-wrong = refl
+pub none-wrong : (reading (one (33 ∷ []) 1 1) .refusal ≡ 0) × (reading (one (126 ∷ []) 1 1) .refusal ≡ 0)
+unfolding one reading firstFailing outside faulty wrongLabel any sum places joined recordAt numberAt
+none-wrong = (refl, refl)
+
+-- a space alone, first, last, and inside
+pub spaces : (reading (one (32 ∷ []) 1 1) .refusal ≡ 7) × (reading (one (32 ∷ 65 ∷ []) 2 1) .refusal ≡ 7)
+    × (reading (one (65 ∷ 32 ∷ []) 2 1) .refusal ≡ 7) × (reading (one (65 ∷ 32 ∷ 65 ∷ []) 3 1) .refusal ≡ 0)
+unfolding one reading firstFailing outside faulty wrongLabel any sum places joined recordAt numberAt
+spaces = (refl, refl, refl, refl)
+
+-- a label of 16 bytes, and one of 17
+pub lengths-edge : (reading (one (replicate 16 65) 16 1) .refusal ≡ 0) × (reading (one (replicate 17 65) 17 1) .refusal ≡ 5)
+unfolding one reading firstFailing outside faulty wrongLabel any sum places joined recordAt numberAt
+lengths-edge = (refl, refl)
 
 -- ---- E1 read and written again
 

@@ -6,6 +6,7 @@ pub mod Refusals
 pub mod Layouts
 pub mod WrittenReads
 pub mod ReadIsWritten
+pub mod LabelRule
 pub mod Examples
 pub mod Rows
 pub mod Samples

@@ -8,7 +8,6 @@ use lib.ListN.{length, take, drop, length-drop, take-append-drop}
 use lib.Seq.{take-add, take-all, drop-drop, length-take-le}
 use borrow.Author.Tests.{le-ltb, eq-eqb}
 use Rattle.counting.specs.Counting.{sum, joined}
-use Rattle.counting.proofs.Sums.{sum-same}
 use Rattle.counting.proofs.Ranges.{none-any}
 use Rattle.counting.proofs.Joins.{joined-same}
 use Rattle.checking.proofs.Order.{none-failing}
@@ -20,6 +19,7 @@ use Rattle.sheet_format.specs.Format.{jobsIn, places, trailerAt, offsetOf, coun
 use Rattle.sheet_format.specs.Checks.{faulty}
 use Rattle.sheet_format.proofs.Bounds.{not-outside}
 use Rattle.sheet_format.proofs.Lists.{job-in-place}
+use Rattle.sheet_format.proofs.Cuts.{lengths-same, labels-same}
 use Rattle.sheet_format.proofs.Digits.{record-back, trailer-back}
 use Rattle.sheet.specs.declared.Reading.{Reading}
 use Rattle.sheet.specs.Read.{readRefusal, reading}
@@ -97,8 +97,7 @@ module _ (s : List ℕ) (e : readRefusal s ≡ 0) where
           let whole = t .whole in
           let size : length (labelsOf s) ≡ o = length-take-le o s (omega arith) in
           let total : labelLengths n jobs ≡ length (labelsOf s) =
-          sum-same n (λ i. labelLength (jobs i)) (λ i. labelLength (jobOf s i)) (λ i l. ap (λ (j : Job). labelLength j) (same i l))
-          ∙ r .lengths ∙ sym size in
+          lengths-same n jobs (jobOf s) same n (omega arith) ∙ r .lengths ∙ sym size in
           none-failing (writeChecks jobs n (labelsOf s) (modulesOf s) (length out)) (
             le-ltb mostJobs n (omega arith),
             (
@@ -108,7 +107,7 @@ module _ (s : List ℕ) (e : readRefusal s ≡ 0) where
                 (
                   ap not (eq-eqb (labelLengths n jobs) (length (labelsOf s)) total),
                   (
-                    r .printable,
+                    labels-same n jobs (jobOf s) same (labelsOf s) ∙ r .printable,
                     (le-ltb (length out) (length (labelsOf s) + recordSize * n + trailerSize) (omega arith), tt),
                   ),
                 ),

@@ -1,10 +1,9 @@
 -- What writing answers in each case, what an answer says of the jobs, and how the parts make up the sheet.
 use mathlib.Core.Path.{_≡_, refl, sym, ap, ap₂, _∙_}
-use mathlib.Core.Bool.{Bool, true, false, not, cond}
+use mathlib.Core.Bool.{true, false, cond}
 use mathlib.Core.List.{List, [], _∷_, _++_, append-assoc}
 use Prim.Native.Nat.{ℕ, _+_, _-_, _*_, _≤_, _<_}
 use native.Mathlib.Omega.{arith}
-use lib.Dec.{eqb}
 use lib.ListN.{length, drop, length-append}
 use borrow.Author.Tests.{ltb-false, lt-ltb, le-ltb, eqb-true, ne-eqb, not-false}
 use borrow.Rule.Slice.PartMut.{putMid}
@@ -17,7 +16,7 @@ use Rattle.sheet_format.specs.declared.Job.{Job}
 use Rattle.sheet.specs.declared.Written.{Written}
 use Rattle.sheet_format.specs.Figures.{mostJobs, mostModules, recordSize, trailerSize, longestLabel}
 use Rattle.sheet_format.specs.Format.{recordBytes, trailerBytes, sheetBytes, labelLength, labelLengths}
-use Rattle.sheet_format.specs.Checks.{faulty, someFaulty, wrongModules, wrongBytes, tooShort, contentChecks}
+use Rattle.sheet_format.specs.Checks.{faulty, wrongModules, wrongLabels, tooShort, contentChecks}
 use Rattle.sheet.specs.Write.{over, writeChecks, writeRefusal, writeAnswer, writeLeaves}
 use Rattle.sheet_format.proofs.Bounds.{inside, legal}
 use Rattle.words.proofs.Parts.{next-part}
@@ -36,14 +35,6 @@ length-sheet jobs n labels N =
 -- ---- the cases of the answer
 
 module _ (jobs : ℕ → Job) (n : ℕ) (labels : List ℕ) (N : ℕ) where
-  -- the checks 5 to 7, from what the pass over the jobs found
-  pub found-is : (total k : ℕ) (found : Bool) → found ≡ someFaulty n jobs → total ≡ labelLengths n jobs
-      → k ≡ firstFailing ((5, found) ∷ (6, not (eqb total (length labels))) ∷ (7, wrongBytes labels) ∷ [])
-      → k ≡ firstFailing (contentChecks n jobs labels)
-  found-is total k found ef et ek =
-      ek
-      ∙ ap₂ (λ (b : Bool) (x : ℕ). firstFailing ((5, b) ∷ (6, not (eqb x (length labels))) ∷ (7, wrongBytes labels) ∷ [])) ef et
-
   module _ (room : ℕ) where
     pub refused-count : mostJobs < n → 2 ≡ writeRefusal jobs n labels N room
     unfolding firstFailing
@@ -88,7 +79,7 @@ pub record Writes (jobs : ℕ → Job) (n : ℕ) (labels : List ℕ) (N room : �
   pub most : N ≤ mostModules
   pub sound : (i : ℕ) → i < n → faulty n (jobs i) ≡ false
   pub lengths : labelLengths n jobs ≡ length labels
-  pub printable : wrongBytes labels ≡ false
+  pub printable : wrongLabels n jobs labels ≡ false
   pub short : length labels ≤ n * longestLabel
   pub fits : length labels + recordSize * n + trailerSize ≤ room
 

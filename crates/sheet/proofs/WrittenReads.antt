@@ -8,20 +8,21 @@ use lib.ListN.{length, take, drop, length-drop}
 use lib.Seq.{take-append-seam, take-append-le, drop-append-le}
 use borrow.Author.Tests.{le-ltb, eq-eqb}
 use Rattle.counting.specs.Counting.{sum, joined}
-use Rattle.counting.proofs.Sums.{sum-same, sum-up}
+use Rattle.counting.proofs.Sums.{sum-up}
 use Rattle.counting.proofs.Ranges.{none-any}
 use Rattle.checking.proofs.Order.{none-failing}
 use Rattle.sheet_format.specs.declared.Job.{Job}
 use Rattle.sheet_format.specs.Figures.{mostJobs, mostModules, longestSheet, recordSize, trailerSize}
 use Rattle.sheet_format.specs.Format.{recordBytes, trailerBytes, labelLength, labelLengths, sheetBytes}
-use Rattle.sheet_format.specs.Format.{offsetOf, countOf, jobOf, labelsOf}
-use Rattle.sheet_format.specs.Checks.{outside, faulty, wrongBytes}
+use Rattle.sheet_format.specs.Format.{offsetOf, countOf, jobOf, labelsOf, labelIn}
+use Rattle.sheet_format.specs.Checks.{outside, faulty, wrongLabels}
 use Rattle.sheet_format.proofs.Bounds.{not-outside}
 use Rattle.sheet_format.proofs.Lists.{places-same}
+use Rattle.sheet_format.proofs.Cuts.{lengths-same, labels-same}
 use Rattle.sheet.specs.Read.{readChecks, readRefusal, answered, reading}
 use Rattle.sheet.specs.Label.{labelRefusal, labelOf}
 use Rattle.sheet.specs.Write.{writeRefusal, writeAnswer, writeLeaves}
-use Rattle.sheet.specs.RoundTrip.{writtenSheet, labelIn}
+use Rattle.sheet.specs.RoundTrip.{writtenSheet}
 use Rattle.sheet.proofs.Answers.{read-answer}
 use Rattle.sheet.proofs.Labels.{label-there}
 use Rattle.sheet.proofs.Writes.{length-sheet, Writes, writes}
@@ -33,9 +34,12 @@ module _ (jobs : ℕ → Job) (n : ℕ) (labels : List ℕ) (N room : ℕ) (w : 
   sheet = sheetBytes jobs n labels N
 
   lengths-is : (i : ℕ) → i ≤ n → labelLengths i (jobOf sheet) ≡ labelLengths i jobs
-  lengths-is i l =
-      sum-same i (λ k. labelLength (jobOf sheet k)) (λ k. labelLength (jobs k))
-      (λ k m. ap (λ (j : Job). labelLength j) (job-is jobs n labels N room w k (omega arith)))
+  lengths-is = lengths-same n (jobOf sheet) jobs (job-is jobs n labels N room w)
+
+  printable-back : wrongLabels (countOf sheet) (jobOf sheet) (labelsOf sheet) ≡ wrongLabels n jobs labels
+  printable-back =
+      ap₂ (λ (m : ℕ) (ls : List ℕ). wrongLabels m (jobOf sheet) ls) (count-is jobs n labels N room w) (labels-is jobs n labels N room w)
+      ∙ labels-same n (jobOf sheet) jobs (job-is jobs n labels N room w) labels
 
   reads-back : readRefusal sheet ≡ 0
   reads-back =
@@ -60,7 +64,7 @@ module _ (jobs : ℕ → Job) (n : ℕ) (labels : List ℕ) (N room : ℕ) (w : 
                     (λ i l. ap₂ faulty c (job-is jobs n labels N room w i (omega arith)) ∙ w .sound i (omega arith)),
                 (
                   ap not (eq-eqb (labelLengths (countOf sheet) (jobOf sheet)) (length (labelsOf sheet)) total),
-                  (ap wrongBytes ls ∙ w .printable, tt),
+                  (printable-back ∙ w .printable, tt),
                 ),
               ),
             ),

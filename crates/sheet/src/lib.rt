@@ -59,7 +59,10 @@ pub fn read(sheet: &[u8]) -> Reading
     let offset = sheet_format::trailer::offset(sheet) as usize;
     let count = sheet_format::trailer::count(sheet) as usize;
     let found = sheet_format::records::read_all(sheet, offset, count);
+    let jobs = found.jobs;
     let refusal = sheet_format::checks::content_refusal(
+        jobs,
+        count,
         found.faulty,
         found.total,
         &sheet[..offset],
@@ -67,7 +70,6 @@ pub fn read(sheet: &[u8]) -> Reading
     if refusal != 0 {
         return refused(refusal);
     }
-    let jobs = found.jobs;
     Reading {
         refusal: 0,
         jobs,
@@ -93,7 +95,13 @@ fn write_refusal(
         return 3;
     }
     let found = sheet_format::records::survey(jobs, count);
-    let refusal = sheet_format::checks::content_refusal(found.faulty, found.total, labels);
+    let refusal = sheet_format::checks::content_refusal(
+        jobs,
+        count,
+        found.faulty,
+        found.total,
+        labels,
+    );
     if refusal != 0 {
         return refusal;
     }

@@ -2,4 +2,6 @@
 pub mod Bounds
 pub mod Lists
 pub mod Parts
+pub mod Cuts
+pub mod LabelRule
 pub mod Digits

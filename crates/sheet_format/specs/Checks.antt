@@ -1,22 +1,24 @@
 -- The checks of reading, labels and writing (requirements, C), each a test that is true where the check fails.
+use mathlib.Core.Path.{_≡_}
+use mathlib.Core.Logic.{_⊎_, _≢_}
 use mathlib.Core.Bool.{Bool, not, _||_}
 use mathlib.Core.List.{List, [], _∷_}
-use Prim.Native.Nat.{ℕ, _+_, _*_, _^_}
+use Prim.Native.Nat.{ℕ, _+_, _-_, _*_, _^_, _≤_, _<_}
 use lib.Dec.{ltb, leb, eqb}
 use lib.ListN.{length}
 use Rattle.counting.specs.Counting.{any}
 use Rattle.checking.specs.Checking.{Check}
 use Rattle.sheet_format.specs.declared.Job.{Job}
 use Rattle.sheet_format.specs.Figures.{mostJobs, mostModules, longestSheet, recordSize, trailerSize, longestLabel}
-use Rattle.sheet_format.specs.Figures.{firstLabelByte, lastLabelByte, widestJob, mostMinutes, lastDeparture}
+use Rattle.sheet_format.specs.Figures.{firstLabelByte, lastLabelByte, space, widestJob, mostMinutes, lastDeparture}
 use Rattle.words.specs.Words.{byteAt}
-use Rattle.sheet_format.specs.Format.{labelLength, labelLengths, offsetOf, countOf, modulesOf}
+use Rattle.sheet_format.specs.Format.{labelLength, labelLengths, labelIn, offsetOf, countOf, modulesOf}
 
 -- x is not one of low to high
 unfoldable pub outside : ℕ → ℕ → ℕ → Bool
 outside low high x = ltb x low || ltb high x
 
--- 1. The sheet has fewer than 8 or more than 448 bytes.
+-- 1. The sheet has fewer than 8 or more than 528 bytes.
 abbrev pub wrongLength : List ℕ → Bool
 wrongLength s = outside trailerSize longestSheet (length s)
 
@@ -49,9 +51,31 @@ someFaulty n jobs = any n (λ i. faulty n (jobs i))
 abbrev pub wrongLengths : ℕ → (ℕ → Job) → List ℕ → Bool
 wrongLengths n jobs labels = not (eqb (labelLengths n jobs) (length labels))
 
--- 7. Some label byte is below 33 or above 126.
+-- some byte is below 32 or above 126
 abbrev pub wrongBytes : List ℕ → Bool
-wrongBytes labels = any (length labels) (λ i. outside firstLabelByte lastLabelByte (byteAt labels i))
+wrongBytes bytes = any (length bytes) (λ i. outside firstLabelByte lastLabelByte (byteAt bytes i))
+
+-- a label has such a byte, or its first or its last byte is a space
+unfoldable pub wrongLabel : List ℕ → Bool
+wrongLabel label = wrongBytes label || (eqb (byteAt label 0) space || eqb (byteAt label (length label - 1)) space)
+
+-- the same as a statement (`wrong-when`)
+abbrev pub WrongLabel : List ℕ → Type 0
+WrongLabel label =
+    ((k : ℕ) × (k < length label) × ((byteAt label k < firstLabelByte) ⊎ (lastLabelByte < byteAt label k)))
+    ⊎ ((byteAt label 0 ≡ space) ⊎ (byteAt label (length label - 1) ≡ space))
+
+-- a label as it must be
+pub record LegalLabel (label : List ℕ) : Type 0 where
+  pub some : 1 ≤ length label
+  pub most : length label ≤ longestLabel
+  pub bytes : (k : ℕ) → k < length label → (firstLabelByte ≤ byteAt label k) × (byteAt label k ≤ lastLabelByte)
+  pub first : byteAt label 0 ≢ space
+  pub last : byteAt label (length label - 1) ≢ space
+
+-- 7. Some label has a byte below 32 or above 126, or begins or ends with a space.
+abbrev pub wrongLabels : ℕ → (ℕ → Job) → List ℕ → Bool
+wrongLabels n jobs labels = any n (λ i. wrongLabel (labelIn jobs labels i))
 
 -- 10. The lent buffer for the written sheet is too short.
 abbrev pub tooShort : ℕ → List ℕ → ℕ → Bool
@@ -70,4 +94,4 @@ trailerChecks s =
 
 -- 5 to 7, of n jobs and the label bytes there are
 abbrev pub contentChecks : ℕ → (ℕ → Job) → List ℕ → List Check
-contentChecks n jobs labels = (5, someFaulty n jobs) ∷ (6, wrongLengths n jobs labels) ∷ (7, wrongBytes labels) ∷ []
+contentChecks n jobs labels = (5, someFaulty n jobs) ∷ (6, wrongLengths n jobs labels) ∷ (7, wrongLabels n jobs labels) ∷ []

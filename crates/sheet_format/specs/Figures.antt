@@ -4,9 +4,9 @@ use Prim.Native.Nat.{ℕ}
 -- n is 0 to 20, N is 1 to 64, a job takes 1 to 1440 minutes
 pub use Rattle.figures.specs.Figures.{mostJobs, mostModules, mostMinutes}
 
--- the longest sheet has 448 bytes
+-- the longest sheet has 528 bytes
 abbrev pub longestSheet : ℕ
-longestSheet = 448
+longestSheet = 528
 
 -- a record has 10 bytes
 abbrev pub recordSize : ℕ
@@ -16,16 +16,20 @@ recordSize = 10
 abbrev pub trailerSize : ℕ
 trailerSize = 8
 
--- a label has 1 to 12 bytes
+-- a label has 1 to 16 bytes
 abbrev pub longestLabel : ℕ
-longestLabel = 12
+longestLabel = 16
 
--- a label byte is 33 to 126
+-- a label byte is 32 to 126
 abbrev pub firstLabelByte : ℕ
-firstLabelByte = 33
+firstLabelByte = 32
 
 abbrev pub lastLabelByte : ℕ
 lastLabelByte = 126
+
+-- a label neither begins nor ends with a space
+abbrev pub space : ℕ
+space = 32
 
 -- a job needs 1 to 255 modules
 abbrev pub widestJob : ℕ

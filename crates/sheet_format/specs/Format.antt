@@ -1,7 +1,7 @@
 -- The bytes of a job sheet: the labels, the records, the trailer (requirements, S).
 use mathlib.Core.List.{List, [], _∷_, _++_}
 use Prim.Native.Nat.{ℕ, _+_, _-_, _*_}
-use lib.ListN.{length, getD, take, replicate}
+use lib.ListN.{length, getD, take, drop, replicate}
 use Rattle.counting.specs.Counting.{sum, joined}
 use Rattle.words.specs.Words.{byteAt, u16At, u32At, bytesOf}
 use Rattle.sheet_format.specs.declared.Job.{Job}
@@ -51,6 +51,10 @@ trailerBytes offset n N = bytesOf 4 offset ++ (bytesOf 2 n ++ bytesOf 2 N)
 -- the sum of the label lengths of the first n jobs
 abbrev pub labelLengths : ℕ → (ℕ → Job) → ℕ
 labelLengths n jobs = sum n (λ i. labelLength (jobs i))
+
+-- the label of job i, cut from the labels run together
+abbrev pub labelIn : (ℕ → Job) → List ℕ → ℕ → List ℕ
+labelIn jobs labels i = take (labelLength (jobs i)) (drop (labelLengths i jobs) labels)
 
 -- the job of record i, where the records begin at offset
 abbrev pub jobFrom : List ℕ → ℕ → ℕ → Job

@@ -1,19 +1,17 @@
 // The tests that reading and writing share.
 ghost use mathlib.Core.Path.{_≡_};
-ghost use mathlib.Core.Bool.{not, _||_};
-ghost use mathlib.Core.List.{[], _∷_};
+ghost use mathlib.Core.Bool.{_||_};
 ghost use Prim.Native.Nat.{_≤_};
-ghost use lib.Dec.{eqb};
-ghost use lib.ListN.{length};
 ghost use Rattle.checking.specs.Checking.{firstFailing};
 ghost use Rattle.sheet_format.specs.Figures.{mostJobs};
-ghost use Rattle.sheet_format.specs.Checks.{outside, faulty, wrongBytes};
+ghost use Rattle.sheet_format.specs.Format.{jobsIn, labelLengths};
+ghost use Rattle.sheet_format.specs.Checks.{outside, faulty, someFaulty, contentChecks};
 use super::Job;
-use super::layout::FIRST_LABEL_BYTE;
+use super::labels::wrong_labels;
 use super::layout::LAST_DEPARTURE;
-use super::layout::LAST_LABEL_BYTE;
 use super::layout::LONGEST_LABEL;
 use super::layout::WIDEST_JOB;
+use figures::MOST_JOBS;
 use figures::MOST_MINUTES;
 
 pub fn outside(low: usize, high: usize, x: usize) -> bool
@@ -50,27 +48,16 @@ pub fn faulty(count: usize, job: Job) -> bool
     )
 }
 
-// Whether some label byte is no label byte.
-pub fn wrong_bytes(labels: &[u8]) -> bool
-    ensures { λ r. ⌜ r ≡ wrongBytes (now (labels .entry)) ⌝ }
-{
-    let mut found = false;
-    let mut i = 0;
-    while i < labels.len() {
-        found = either(
-            found,
-            outside(FIRST_LABEL_BYTE, LAST_LABEL_BYTE, labels[i] as usize),
-        );
-        i += 1;
-    }
-    found
-}
-
-// The first of 5 to 7 that fails, from what the pass over the records found.
-pub fn content_refusal(faulty: bool, total: usize, labels: &[u8]) -> u32
-    ensures { λ r. ⌜ r ≡ firstFailing (
-        (5, faulty) ∷ (6, not (eqb total (length (now (labels .entry))))) ∷ (7, wrongBytes (now (labels .entry))) ∷ []
-        ) ⌝ }
+// The first of 5 to 7 that fails, from what the pass over the jobs found.
+pub fn content_refusal(
+    jobs: [Job; MOST_JOBS],
+    count: usize,
+    faulty: bool,
+    total: usize,
+    labels: &[u8],
+) -> u32
+    requires { ⌜ (count ≤ mostJobs) × (faulty ≡ someFaulty count (jobsIn jobs)) × (total ≡ labelLengths count (jobsIn jobs)) ⌝ }
+    ensures { λ r. ⌜ r ≡ firstFailing (contentChecks count (jobsIn jobs) (now (labels .entry))) ⌝ }
 {
     if faulty {
         return 5;
@@ -78,7 +65,7 @@ pub fn content_refusal(faulty: bool, total: usize, labels: &[u8]) -> u32
     if total != labels.len() {
         return 6;
     }
-    if wrong_bytes(labels) {
+    if wrong_labels(jobs, count, labels) {
         return 7;
     }
     0

@@ -1,5 +1,6 @@
 // The parts of a job sheet: records, the trailer, and the checks on them. The calls on whole sheets are in `sheet`.
 pub mod checks;
+pub mod labels;
 pub mod layout;
 pub mod records;
 pub mod trailer;

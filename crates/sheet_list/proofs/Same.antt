@@ -1,22 +1,21 @@
 -- Writing depends on its first n jobs alone, so the gathered list is written as the lent one.
 use mathlib.Core.Path.{_≡_, sym, ap, ap₂, _∙_}
 use mathlib.Core.Logic.{⊎-elim}
-use mathlib.Core.Bool.{Bool, cond, not}
+use mathlib.Core.Bool.{cond}
 use mathlib.Core.List.{List, [], _∷_, _++_}
 use Prim.Native.Nat.{ℕ, _≤_, _<_, min}
 use native.Mathlib.Omega.{arith}
 use lib.Dec.{eqb}
 use lib.ListN.{length}
 use Rattle.counting.proofs.Tests.{less-or-not}
-use Rattle.counting.proofs.Sums.{sum-same}
-use Rattle.counting.proofs.Ranges.{any-same}
 use Rattle.counting.proofs.Joins.{joined-same}
-use Rattle.checking.specs.Checking.{firstFailing}
+use Rattle.checking.specs.Checking.{Check, firstFailing}
 use Rattle.sheet_format.specs.declared.Job.{Job}
 use Rattle.sheet_format.specs.Figures.{mostJobs}
-use Rattle.sheet_format.specs.Format.{recordBytes, trailerBytes, sheetBytes, labelLength, jobsIn, places}
-use Rattle.sheet_format.specs.Checks.{faulty, tooManyJobs, wrongModules, wrongBytes, tooShort}
+use Rattle.sheet_format.specs.Format.{recordBytes, trailerBytes, sheetBytes, jobsIn, places}
+use Rattle.sheet_format.specs.Checks.{tooManyJobs, wrongModules, tooShort}
 use Rattle.sheet_format.proofs.Lists.{job-in-place}
+use Rattle.sheet_format.proofs.Cuts.{content-same}
 use Rattle.sheet.specs.declared.Written.{Written}
 use Rattle.sheet.specs.Write.{over, writeRefusal, writeAnswer, writeLeaves}
 use Rattle.sheet.proofs.Writes.{refused-count, refused-answer, refused-leaves}
@@ -31,13 +30,9 @@ module _ (f g : ℕ → Job) (n : ℕ) (same : (i : ℕ) → i < n → f i ≡ g
 
   refusal-same : (room : ℕ) → writeRefusal f n labels N room ≡ writeRefusal g n labels N room
   refusal-same room =
-      ap₂
-      (λ (b : Bool) (t : ℕ). firstFailing (
-      (2, tooManyJobs n) ∷ (3, wrongModules N) ∷ (5, b) ∷ (6, not (eqb t (length labels))) ∷ (7, wrongBytes labels)
-      ∷ (10, tooShort n labels room) ∷ []
-      ))
-      (any-same n (λ i. faulty n (f i)) (λ i. faulty n (g i)) (λ i l. ap (faulty n) (same i l)))
-      (sum-same n (λ i. labelLength (f i)) (λ i. labelLength (g i)) (λ i l. ap (λ (j : Job). labelLength j) (same i l)))
+      ap
+      (λ (c : List Check). firstFailing ((2, tooManyJobs n) ∷ (3, wrongModules N) ∷ (c ++ ((10, tooShort n labels room) ∷ []))))
+      (content-same n f g same labels)
 
   -- the places past the first n are ignored
   pub answer-same : (out : List ℕ) → writeAnswer f n labels N out ≡ writeAnswer g n labels N out

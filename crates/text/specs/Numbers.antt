@@ -14,7 +14,7 @@ digit d = cond (ltb d 10) (48 + d) (55 + d)
 unfoldable pub place : ℕ → ℕ → List ℕ
 place p x = cond (leb p x) (digit (x / p % 10) ∷ []) []
 
--- a number below 100000 in decimal: `decimal-value` says that its digits stand for it
+-- a number below 100000 in decimal: `decimal-is` says that these are its digits
 unfoldable pub decimal : ℕ → List ℕ
 decimal x = place 10000 x ++ (place 1000 x ++ (place 100 x ++ (place 10 x ++ (digit (x % 10) ∷ []))))
 

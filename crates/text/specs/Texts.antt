@@ -8,7 +8,7 @@ use Rattle.text.specs.declared.Text.{Text}
 
 -- how many bytes there is room for
 abbrev pub room : ℕ
-room = 1024
+room = 1088
 
 -- the text of these bytes: the places behind them are 0
 unfoldable pub textOf : List ℕ → Text

@@ -6,7 +6,7 @@ ghost use lib.IntN.{natAbs};
 ghost use Rattle.text.specs.Numbers.{digit, place, decimal, signed, hexadecimal};
 ghost use Rattle.text.specs.Texts.{empty, adding};
 
-pub const ROOM: usize = 1024;
+pub const ROOM: usize = 1088;
 
 // The first `length` of the bytes; those behind them are 0.
 pub struct Text {

@@ -1,16 +1,22 @@
 //! The planning call against a reading of the requirements that tries every order: answers, cards, working memory, and no other byte.
 use super::sheets;
 use crate::guarded::{Against, Guarded};
+use crate::plain_search::{mislead, GROUP};
 use crate::random::Random;
 use crate::{card_length, plan, reference, Refusal, MOST_JOBS};
 
 /// Every so many sheets are planned with the largest working memory too.
 const LARGEST_EVERY: usize = 2;
-const WORK_LENGTHS: [usize; 5] = [0, 1, 47, 4096, 1 << 20];
-const LARGEST: usize = WORK_LENGTHS[4];
+/// Working memory without a group of part-plans, with one, with two, with some, and with many.
+const WORK_LENGTHS: [usize; 9] = [0, 1, GROUP - 1, GROUP, GROUP + 1, 2 * GROUP - 1, 2 * GROUP, 4096, 1 << 20];
+const LARGEST: usize = WORK_LENGTHS[WORK_LENGTHS.len() - 1];
+
+/// A planning call: a sheet, a card and working memory.
+pub type Planner = fn(&[u8], &mut [u8], &mut [u8]) -> Result<(), Refusal>;
 
 /// Lent memory between guard pages, and noise to fill it with.
 pub struct Planning {
+    planner: Planner,
     random: Random,
     noise: Vec<u8>,
     sheet: Guarded,
@@ -22,11 +28,18 @@ pub struct Planning {
 }
 
 impl Planning {
+    /// Compares the library's planning call.
     pub fn new(seed: u64) -> Planning {
+        Planning::of(plan, seed)
+    }
+
+    /// Compares another planning call: what is compared must find fault with a wrong one.
+    pub fn of(planner: Planner, seed: u64) -> Planning {
         let mut random = Random::new(seed);
         let mut noise = vec![0; 2 * LARGEST];
         random.fill(&mut noise);
         Planning {
+            planner,
             random,
             noise,
             sheet: Guarded::new(1024),
@@ -47,7 +60,7 @@ impl Planning {
         let expected = reference::planning::plan(sheet, room);
         self.answers[expected.as_ref().err().copied().unwrap_or(0) as usize] += 1;
         let with_largest = self.compared.is_multiple_of(LARGEST_EVERY);
-        let works = if with_largest { 5 } else { 4 };
+        let works = WORK_LENGTHS.len() - usize::from(!with_largest);
         for work in 0..works {
             self.call(sheet, room, work, Against::End, &expected);
         }
@@ -60,12 +73,13 @@ impl Planning {
         let card_before = self.noise(room);
         let mut work_before = self.noise(WORK_LENGTHS[work]);
         if self.random.percent(50) {
-            remember_all(&mut work_before);
+            let jobs = reference::reading::read(sheet).map_or(0, |sheet| sheet.jobs.len());
+            mislead(&mut work_before, jobs);
         }
         let lent_sheet = self.sheet.lend(against, sheet);
         let lent_card = self.card.lend(against, &card_before);
         let lent_work = self.work[work].lend(against, &work_before);
-        let answer = plan(lent_sheet, lent_card, lent_work);
+        let answer = (self.planner)(lent_sheet, lent_card, lent_work);
 
         let about = || format!("sheet {sheet:02x?}, card {room}, work {}, {against:?}", WORK_LENGTHS[work]);
         let card_left = self.card.left();
@@ -150,18 +164,5 @@ impl Planning {
     /// Room for the card of so many jobs, or more.
     fn enough(&mut self, jobs: usize) -> usize {
         card_length(jobs) + self.random.pick(&[0, 0, 1, 30, 500])
-    }
-}
-
-/// Puts part-plans into working memory, laid out as the search lays them out, that would cut every other: one for each set of up
-/// to 7 jobs, all of them ended at minute 0.
-fn remember_all(work: &mut [u8]) {
-    const ENTRY: usize = 46;
-    const WAYS: usize = 16;
-    let groups = work.len() / (WAYS * ENTRY);
-    for set in (1..128).take_while(|_| groups > 0) {
-        let at = (set % groups * WAYS + set / groups % WAYS) * ENTRY;
-        work[at..at + ENTRY].fill(0);
-        work[at] = set as u8;
     }
 }

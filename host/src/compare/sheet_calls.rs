@@ -3,7 +3,7 @@ use super::sheets;
 use crate::guarded::{Against, Guarded};
 use crate::random::Random;
 use crate::reference::{reading, writing};
-use crate::{ffi, label, read, Job, Reading, MOST_JOBS};
+use crate::{ffi, label, read, Job, Reading, LONGEST_SHEET, MOST_JOBS};
 
 /// The checks that writing makes.
 pub const WRITING: [u32; 6] = [2, 3, 5, 6, 7, 10];
@@ -32,7 +32,7 @@ impl Sheets {
     pub fn new(seed: u64) -> Sheets {
         Sheets {
             random: Random::new(seed),
-            sheet: Guarded::new(1024),
+            sheet: Guarded::new(2048),
             jobs: Guarded::new(1024),
             labels: Guarded::new(1024),
             answers: [0; 15],
@@ -161,7 +161,7 @@ impl Sheets {
     pub fn good_writing(&mut self, times: usize) {
         for i in 0..times {
             let sheet = sheets::of_size(&mut self.random, i % (MOST_JOBS + 1));
-            let room = sheet.bytes().len() + self.random.pick(&[0, 0, 1, 100, 448]);
+            let room = sheet.bytes().len() + self.random.pick(&[0, 0, 1, 100, LONGEST_SHEET]);
             self.compare_writing(&sheet.jobs, &sheet.labels, sheet.modules, room);
         }
     }
@@ -171,7 +171,7 @@ impl Sheets {
         for _ in 0..times {
             let n = 1 + self.random.place(MOST_JOBS);
             let mut sheet = sheets::of_size(&mut self.random, n);
-            let mut room = 600;
+            let mut room = 700;
             let mut checks = vec![check];
             if self.random.percent(40) {
                 checks.push(self.random.pick(&WRITING));

@@ -17,7 +17,7 @@ pub fn of_size(random: &mut Random, n: usize) -> Sheet {
     let longest = if long { 1440 } else { random.pick(&[1, 2, 5, 12, 30]) };
     let mut jobs: Vec<Job> = (0..n)
         .map(|_| Job {
-            label_len: random.between(1, 12) as u8,
+            label_len: random.pick(&[1, 2, 3, 8, 15, 16]),
             modules: random.between(1, modules) as u8,
             minutes: random.between(1, longest) as u16,
             earlier: 0,
@@ -26,9 +26,22 @@ pub fn of_size(random: &mut Random, n: usize) -> Sheet {
         .collect();
     let percent = random.pick(&[0, 0, 10, 30, 60, 100]);
     mark_earlier(random, &mut jobs, percent);
-    let length = jobs.iter().map(|job| usize::from(job.label_len)).sum();
-    let labels: Vec<u8> = (0..length).map(|_| random.between(33, 126) as u8).collect();
-    Sheet { offset: length as u32, count: n as u16, modules: modules as u16, labels, jobs }
+    let labels: Vec<u8> = jobs.iter().flat_map(|job| label(random, job.label_len.into())).collect();
+    Sheet { offset: labels.len() as u32, count: n as u16, modules: modules as u16, labels, jobs }
+}
+
+/// A label of so many bytes, with spaces inside alone.
+fn label(random: &mut Random, length: usize) -> Vec<u8> {
+    let mut byte = |place: usize| {
+        let edge = place == 0 || place == length - 1;
+        let space = !edge && random.percent(25);
+        if space {
+            b' '
+        } else {
+            random.between(if edge { 33 } else { 32 }, 126) as u8
+        }
+    };
+    (0..length).map(&mut byte).collect()
 }
 
 /// The sheet's bytes with a fault for each of the checks, 1 to 9; a sheet without jobs cannot have all of them.
@@ -39,7 +52,7 @@ pub fn damaged(random: &mut Random, mut sheet: Sheet, checks: &[u32]) -> Vec<u8>
         if random.percent(50) {
             bytes.truncate(random.place(8));
         } else {
-            let longer = random.pick(&[449, 450, 600]) - bytes.len();
+            let longer = random.pick(&[529, 530, 700]) - bytes.len();
             bytes.splice(0..0, vec![b'z'; longer]);
         }
     }
@@ -55,10 +68,7 @@ pub fn put_fault(random: &mut Random, sheet: &mut Sheet, check: u32) {
         4 => misplace(random, sheet),
         5 if !sheet.jobs.is_empty() => wrong_field(random, &mut sheet.jobs[job], sheet.count),
         6 => wrong_lengths(random, sheet, job),
-        7 if !sheet.labels.is_empty() => {
-            let place = random.place(sheet.labels.len());
-            sheet.labels[place] = random.pick(&[0, 10, 32, 127, 128, 255]);
-        }
+        7 if !sheet.labels.is_empty() => wrong_label(random, sheet, job),
         8 if !sheet.jobs.is_empty() => {
             let too_wide = u32::from(sheet.modules) + 1;
             sheet.jobs[job].modules = random.between(too_wide.min(255), 255) as u8;
@@ -99,7 +109,7 @@ fn misplace(random: &mut Random, sheet: &mut Sheet) {
 fn wrong_field(random: &mut Random, job: &mut Job, n: u16) {
     match random.place(6) {
         0 => job.label_len = 0,
-        1 => job.label_len = outside(random, 13).min(255) as u8,
+        1 => job.label_len = outside(random, 17).min(255) as u8,
         2 => job.modules = 0,
         3 => job.minutes = if random.percent(30) { 0 } else { outside(random, 1441) },
         4 => job.earlier |= 1 << random.between(u32::from(n).min(31), 31),
@@ -114,7 +124,21 @@ fn wrong_lengths(random: &mut Random, sheet: &mut Sheet, job: usize) {
         sheet.offset += 1;
     } else {
         let length = &mut sheet.jobs[job].label_len;
-        *length = 1 + *length % 12;
+        *length = 1 + *length % 16;
+    }
+}
+
+/// A byte that is none of a label, or a space at an edge of the job's label.
+fn wrong_label(random: &mut Random, sheet: &mut Sheet, job: usize) {
+    let lengths: Vec<usize> = sheet.jobs.iter().map(|job| job.label_len.into()).collect();
+    let start: usize = lengths.iter().take(job).sum();
+    let length = lengths.get(job).copied().unwrap_or(0);
+    let edge = if random.percent(50) { start } else { start + length.saturating_sub(1) };
+    if random.percent(50) && edge < sheet.labels.len() {
+        sheet.labels[edge] = b' ';
+    } else {
+        let place = random.place(sheet.labels.len());
+        sheet.labels[place] = random.pick(&[0, 10, 31, 127, 128, 255]);
     }
 }
 

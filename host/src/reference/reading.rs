@@ -28,7 +28,7 @@ fn number(bytes: &[u8]) -> u64 {
 /// The sheet's jobs and N, or the number of the first check that fails.
 pub fn read(bytes: &[u8]) -> Result<Sheet, u32> {
     let length = bytes.len() as u64;
-    if !(8..=448).contains(&length) {
+    if !(8..=528).contains(&length) {
         return Err(1);
     }
     let (front, trailer) = bytes.split_at(bytes.len() - 8);
@@ -52,11 +52,22 @@ pub fn read(bytes: &[u8]) -> Result<Sheet, u32> {
     if records.iter().map(|record| u64::from(record[0])).sum::<u64>() != labels.len() as u64 {
         return Err(6);
     }
-    if labels.iter().any(|byte| *byte < 33 || *byte > 126) {
+    let lengths = records.iter().map(|record| usize::from(record[0]));
+    if some_label_wrong(labels, lengths) {
         return Err(7);
     }
     let jobs = records.iter().map(|record| job(record)).collect();
     Ok(Sheet { jobs, modules: modules as usize })
+}
+
+/// Whether one of the labels, of these lengths one behind another, has a byte outside 32 to 126 or a space at an edge.
+pub(super) fn some_label_wrong(labels: &[u8], lengths: impl Iterator<Item = usize>) -> bool {
+    let mut rest = labels;
+    lengths.into_iter().any(|length| {
+        let (label, behind) = rest.split_at(length);
+        rest = behind;
+        label[0] == b' ' || label[length - 1] == b' ' || label.iter().any(|byte| *byte < 32 || *byte > 126)
+    })
 }
 
 /// Where the label of a job lies in the sheet, or the number of the first check that fails.
@@ -76,7 +87,7 @@ pub(super) fn outside(record: &[u8], n: u64) -> bool {
     let minutes = number(&record[2..4]);
     let earlier = number(&record[4..8]);
     let departure = number(&record[8..10]);
-    !(1..=12).contains(&label_length)
+    !(1..=16).contains(&label_length)
         || !(1..=255).contains(&modules)
         || !(1..=1440).contains(&minutes)
         || departure > 2880

@@ -1,5 +1,5 @@
 //! Writing a job sheet: checks 2, 3, 5, 6, 7 and 10, one after another.
-use super::reading::outside;
+use super::reading::{outside, some_label_wrong};
 use crate::Job;
 
 /// The bytes of the sheet, or the number of the first check that fails; `room` is the lent buffer's length.
@@ -17,7 +17,7 @@ pub fn write(jobs: &[Job], labels: &[u8], modules: u16, room: usize) -> Result<V
     if jobs.iter().map(|job| usize::from(job.label_len)).sum::<usize>() != labels.len() {
         return Err(6);
     }
-    if labels.iter().any(|byte| *byte < 33 || *byte > 126) {
+    if some_label_wrong(labels, jobs.iter().map(|job| usize::from(job.label_len))) {
         return Err(7);
     }
     let trailer = [little_endian(labels.len() as u32, 4), little_endian(jobs.len() as u32, 2), little_endian(modules.into(), 2)];

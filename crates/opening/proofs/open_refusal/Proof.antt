@@ -7,7 +7,7 @@ use borrow.Author.Needs.{needs}
 use borrow.Author.Tests.{lt-ltb, le-ltb, eq-eqb, ne-eqb, not-true, not-false}
 use lib.ListN.{length}
 use Rattle.checking.specs.Checking.{firstFailing}
-use Rattle.desk.specs.Desk.{mostModules, fewestControllers, mostControllers}
+use Rattle.desk.specs.Desk.{mostPower, fewestControllers, mostControllers}
 use Rattle.desk.specs.Checks.{inRange, somePairWrong, wrongLengths, wrongFigures, sharesExceed}
 use Rattle.desk.specs.Calls.{openRefusal}
 use Rattle.desk.proofs.Sound.{range-says}
@@ -21,7 +21,7 @@ controllers : (c : tie.After-in-range) (b : Bool) → c .in-range .result ≡ b
 controllers c b e = sym (c .in-range .ensures) ∙ e
 
 limit : (c : tie.After-in-range2) (b : Bool) → c .in-range2 .result ≡ b
-    → inRange 1 mostModules (c .before .before .before .before .before .before .args .limit) ≡ b
+    → inRange 1 mostPower (c .before .before .before .before .before .before .args .limit) ≡ b
 limit c b e = sym (c .in-range2 .ensures) ∙ e
 
 pair : (c : tie.After-some-pair-wrong) (b : Bool) → c .some-pair-wrong .result ≡ b
@@ -78,7 +78,7 @@ shares-in-all-requires c κs =
     let two = three .before .before in
     let a = two .before .before .before .before .before .args in
     let small = limit (three .before) true (not-false _ (three .if3 .left)) in
-    let most : a .limit ≤ mostModules = range-says 1 mostModules (a .limit) small .most in
+    let most : a .limit ≤ mostPower = range-says 1 mostPower (a .limit) small .most in
     let right = pairs-say (a .limit) (a .assured .now) (a .ceilings .now) (pair (c .before) false (c .if4 .left)) in (
       range-says _ _ _ (controllers (two .before) true (not-false _ (two .if2 .left))) .most,
       λ i l. omega (arith, right i l .share, right i l .top),

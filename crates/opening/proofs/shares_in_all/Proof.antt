@@ -6,7 +6,7 @@ use borrow.Author.Needs.{needs}
 use lib.ListN.{length, getD}
 use Rattle.counting.specs.Counting.{sum}
 use Rattle.counting.proofs.Sums.{sum-most}
-use Rattle.desk.specs.Desk.{mostModules}
+use Rattle.desk.specs.Desk.{mostPower}
 use Rattle.counting.proofs.Loops.{sum-more}
 use Rattle.opening.proofs.shares_in_all.Statement.{statement}
 use Rattle.opening.proofs.shares_in_all.Tie as tie
@@ -36,7 +36,7 @@ add-total c =
     let l = c .before .before in
     let small = l .before .pre .1 in
     let t = l .loop .inv .1 in
-    let s = sum-most (l .loop .i) (share l) mostModules (λ k h. small k (omega arith)) in
+    let s = sum-most (l .loop .i) (share l) mostPower (λ k h. small k (omega arith)) in
     omega (arith, small (l .loop .i) (c .before .loop-test .taken))
 
 add-i : tie.Need-add-i Inv-loop μ-loop

@@ -10,9 +10,6 @@ use borrow.Author.Needs.{needs}
 use Rattle.plan_text.proofs.with_line.Statement.{statement}
 use Rattle.plan_text.proofs.with_line.Tie as tie
 
-with-field-requires : tie.Need-with-field-requires
-with-field-requires c κs = search needs
-
 with-decimal-requires : tie.Need-with-decimal-requires
 with-decimal-requires c κs = search needs
 
@@ -28,32 +25,36 @@ with-signed-requires c κs = search needs
 with-hexadecimal-requires : tie.Need-with-hexadecimal-requires
 with-hexadecimal-requires c κs = search needs
 
+with-field-requires : tie.Need-with-field-requires
+with-field-requires c κs = search needs
+
 returns : tie.Need-returns
 unfolding jobLine
 returns c =
-    let late = c .before .before in
+    let modules = c .before in
+    let late = modules .before .before in
     let ends = late .before in
-    let a = ends .before .before .before .before .args in
+    let a = ends .before .before .before .args in
     rw (
-      c .with-hexadecimal .ensures,
-      c .before .with-signed .ensures,
+      c .with-field .ensures,
+      modules .with-hexadecimal .ensures,
+      modules .before .with-signed .ensures,
       toZ-ofZ w32 (late .lateness .result) (record { sfits = late .lateness .ok }),
       late .lateness .ensures,
       ends .with-decimal2 .ensures,
       ends .before .with-decimal .ensures,
-      ends .before .before .with-field .ensures,
     )
-    (fields-line (a .text) (a .label .now)
-    (decimal (a .start) ∷ decimal (a .end) ∷ signed (latenessOf (a .end) (a .departure)) ∷ hexadecimal (a .modules) ∷ []))
+    (fields-line (a .text) (decimal (a .start))
+    (decimal (a .end) ∷ signed (latenessOf (a .end) (a .departure)) ∷ hexadecimal (a .modules) ∷ a .label .now ∷ []))
 
 pub with-line-spec : {M : Type 1} → statement M
 with-line-spec =
     tie.close
     (tie.spec
-    with-field-requires
     with-decimal-requires
     with-decimal-requires-2
     lateness-requires
     with-signed-requires
     with-hexadecimal-requires
+    with-field-requires
     returns)

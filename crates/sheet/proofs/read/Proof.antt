@@ -3,7 +3,7 @@ use mathlib.Core.Path.{sym, _∙_}
 use native.Mathlib.Omega.{arith}
 use lib.Seq.{length-take-le}
 use borrow.Author.Needs.{needs}
-use Rattle.sheet.proofs.Answers.{trailer, content-is, answer-is, refused-early, refused-late, read-whole}
+use Rattle.sheet.proofs.Answers.{trailer, found-faulty, found-total, content-is, answer-is, refused-early, refused-late, read-whole}
 use Rattle.sheet.proofs.read.Statement.{statement}
 use Rattle.sheet.proofs.read.Tie as tie
 
@@ -42,58 +42,72 @@ read-all-requires c κs =
 
 slice-aggregate-content-refusal : tie.Need-slice-aggregate-content-refusal
 slice-aggregate-content-refusal c =
-    let t = trailer (c .before .before .before .before .before .before .before .args .sheet .now)
-    (c .before .before .before .before .before .refusal .result) (c .before .before .before .before .before .refusal .ensures)
-    (c .before .before .before .before .if1 .left) in
-    sym (length-take-le (c .before .before .before .offset .result)
-    (c .before .before .before .before .before .before .before .args .sheet .now) (omega (
-      arith,
-      c .before .before .before .offset .ensures,
-    )))
+    let all = c .before .before in
+    let count = all .before in
+    let offset = count .before in
+    let passed = offset .before in
+    let early = passed .before in
+    let s = early .before .before .args .sheet .now in
+    let t = trailer s (early .refusal .result) (early .refusal .ensures) (passed .if1 .left) in
+    sym (length-take-le (offset .offset .result) s (omega (arith, offset .offset .ensures)))
 
 content-refusal-requires : tie.Need-content-refusal-requires
-content-refusal-requires c κs = search needs
+content-refusal-requires c κs =
+    let all = c .before .before in
+    let count = all .before in
+    let offset = count .before in
+    let passed = offset .before in
+    let early = passed .before in
+    let s = early .before .before .args .sheet .now in
+    let t = trailer s (early .refusal .result) (early .refusal .ensures) (passed .if1 .left) in
+    let r = all .read-all in (
+      omega (arith, count .count .ensures),
+      found-faulty s (count .count .result) (offset .offset .result) (r .result .jobs) (r .ensures .0) (r .result .faulty) (r .ensures .2),
+      found-total s (count .count .result) (offset .offset .result) (r .result .jobs) (r .ensures .0) (r .result .total) (r .ensures .1),
+    )
 
 refused-requires-2 : tie.Need-refused-requires-2
 refused-requires-2 c κs = search needs
 
 returns-2 : tie.Need-returns-2
 returns-2 c =
-    let past = c .before .before .before .before .before .before .before .before in
-    let s = past .before .before .args .sheet .now in
-    let n = c .before .before .before .before .before .count in
-    let o = c .before .before .before .before .before .before .offset in
-    let r = c .before .before .before .before .read-all in
-    let d = c .before .before .content-refusal in
-    let k = content-is s (n .result) (o .result) (r .result .total) (d .result) (r .result .faulty)
-    (n .ensures) (o .ensures) (r .ensures .2) (r .ensures .1) (d .ensures) in
-    c .refused2 .ensures ∙ refused-late s (c .before .before .before .before .before .before .before .before .refusal .result)
-    (c .before .before .before .before .before .before .before .before .refusal .ensures)
-    (c .before .before .before .before .before .before .before .if1 .left) (d .result) k (c .before .if2 .taken)
+    let late = c .before .before in
+    let all = late .before .before .before in
+    let count = all .before in
+    let offset = count .before in
+    let passed = offset .before in
+    let early = passed .before in
+    let s = early .before .before .args .sheet .now in
+    let k = content-is s (count .count .result) (offset .offset .result) (all .read-all .result .jobs) (all .read-all .ensures .0)
+    (late .content-refusal .result) (count .count .ensures) (offset .offset .ensures) (late .content-refusal .ensures) in
+    c .refused2 .ensures
+    ∙ refused-late s (early .refusal .result) (early .refusal .ensures) (passed .if1 .left) (late .content-refusal .result) k (c .before .if2 .taken)
 
 modules-requires : tie.Need-modules-requires
 modules-requires c κs =
-    let past = c .before .before .before .before .before .before .before .before in
-    trailer (past .before .before .args .sheet .now)
-    (c .before .before .before .before .before .before .before .before .refusal .result)
-    (c .before .before .before .before .before .before .before .before .refusal .ensures)
-    (c .before .before .before .before .before .before .before .if1 .left) .long
+    let late = c .before in
+    let all = late .before .before .before in
+    let count = all .before in
+    let offset = count .before in
+    let passed = offset .before in
+    let early = passed .before in
+    let s = early .before .before .args .sheet .now in
+    trailer s (early .refusal .result) (early .refusal .ensures) (passed .if1 .left) .long
 
 returns-3 : tie.Need-returns-3
 returns-3 c =
-    let past = c .before .before .before .before .before .before .before .before in
-    let s = past .before .before .before .args .sheet .now in
-    let n = c .before .before .before .before .before .before .count in
-    let o = c .before .before .before .before .before .before .before .offset in
-    let r = c .before .before .before .before .before .read-all in
-    let d = c .before .before .before .content-refusal in
-    let k = content-is s (n .result) (o .result) (r .result .total) (d .result) (r .result .faulty)
-    (n .ensures) (o .ensures) (r .ensures .2) (r .ensures .1) (d .ensures) in
-    answer-is s (n .result) (o .result) (c .modules .result) (r .result .jobs) (n .ensures) (o .ensures) (c .modules .ensures)
-    (r .ensures .0)
-    ∙ read-whole s (past .before .refusal .result)
-    (past .before .refusal .ensures)
-    (c .before .before .before .before .before .before .before .before .if1 .left) (d .result) k (c .before .before .if2 .left)
+    let late = c .before .before in
+    let all = late .before .before .before in
+    let count = all .before in
+    let offset = count .before in
+    let passed = offset .before in
+    let early = passed .before in
+    let s = early .before .before .args .sheet .now in
+    let k = content-is s (count .count .result) (offset .offset .result) (all .read-all .result .jobs) (all .read-all .ensures .0)
+    (late .content-refusal .result) (count .count .ensures) (offset .offset .ensures) (late .content-refusal .ensures) in
+    answer-is s (count .count .result) (offset .offset .result) (c .modules .result) (all .read-all .result .jobs)
+    (count .count .ensures) (offset .offset .ensures) (c .modules .ensures) (all .read-all .ensures .0)
+    ∙ read-whole s (early .refusal .result) (early .refusal .ensures) (passed .if1 .left) (late .content-refusal .result) k (c .before .if2 .left)
 
 pub read-spec : {M : Type 1} → statement M
 read-spec =

@@ -2,7 +2,7 @@
 use mathlib.Core.Path.{sym, _∙_}
 use borrow.Author.Needs.{needs}
 use Rattle.sheet_format.specs.Format.{jobsIn}
-use Rattle.sheet.proofs.Writes.{found-is, refused-count, refused-modules, refused-content, refused-room, not-refused}
+use Rattle.sheet.proofs.Writes.{refused-count, refused-modules, refused-content, refused-room, not-refused}
 use Rattle.sheet.proofs.write_refusal.Statement.{statement}
 use Rattle.sheet.proofs.write_refusal.Tie as tie
 
@@ -29,14 +29,11 @@ content-refusal-requires c κs = search needs
 returns-3 : tie.Need-returns-3
 returns-3 c =
     let a = c .before .before .before .before .before .before .before .args in
-    let s = c .before .before .survey in
     let d = c .before .content-refusal in
-    let k = found-is (jobsIn (a .jobs)) (a .count) (a .labels .now) (a .modules) (s .result .total) (d .result)
-    (s .result .faulty) (s .ensures .1) (s .ensures .0) (d .ensures) in
     let m = sym (c .before .before .before .before .outside .ensures) ∙ c .before .before .before .if2 .left in
     refused-content (jobsIn (a .jobs)) (a .count) (a .labels .now) (a .modules) (a .room)
     (c .before .before .before .before .before .if1 .left) m
-    (d .result) k (c .if3 .taken)
+    (d .result) (d .ensures) (c .if3 .taken)
 
 mul-if4 : tie.Need-mul-if4
 mul-if4 c = search needs
@@ -50,26 +47,20 @@ add-if4-2 c = search needs
 returns-4 : tie.Need-returns-4
 returns-4 c =
     let a = c .before .before .before .before .before .before .before .before .args in
-    let s = c .before .before .before .survey in
     let d = c .before .before .content-refusal in
-    let k = found-is (jobsIn (a .jobs)) (a .count) (a .labels .now) (a .modules) (s .result .total) (d .result)
-    (s .result .faulty) (s .ensures .1) (s .ensures .0) (d .ensures) in
     let m = sym (c .before .before .before .before .before .outside .ensures) ∙ c .before .before .before .before .if2 .left in
     refused-room (jobsIn (a .jobs)) (a .count) (a .labels .now) (a .modules) (a .room)
     (c .before .before .before .before .before .before .if1 .left) m
-    (sym k ∙ c .before .if3 .left) (c .if4 .taken)
+    (sym (d .ensures) ∙ c .before .if3 .left) (c .if4 .taken)
 
 returns-5 : tie.Need-returns-5
 returns-5 c =
     let a = c .before .before .before .before .before .before .before .before .args in
-    let s = c .before .before .before .survey in
     let d = c .before .before .content-refusal in
-    let k = found-is (jobsIn (a .jobs)) (a .count) (a .labels .now) (a .modules) (s .result .total) (d .result)
-    (s .result .faulty) (s .ensures .1) (s .ensures .0) (d .ensures) in
     let m = sym (c .before .before .before .before .before .outside .ensures) ∙ c .before .before .before .before .if2 .left in
     not-refused (jobsIn (a .jobs)) (a .count) (a .labels .now) (a .modules) (a .room)
     (c .before .before .before .before .before .before .if1 .left) m
-    (sym k ∙ c .before .if3 .left) (c .if4 .left)
+    (sym (d .ensures) ∙ c .before .if3 .left) (c .if4 .left)
 
 pub write-refusal-spec : {M : Type 1} → statement M
 write-refusal-spec =

@@ -12,71 +12,88 @@ const READING: &str = "reading, labels, planning";
 const READING_AND_WRITING: &str = "reading, labels, planning, writing";
 
 /// Which calls refuse with each number, and what to do, in the order of the numbers.
-const TO_DO: [(&str, &str); 18] = [
-    (READING, "The file is no job sheet, or it was cut off or joined with another. Make it again: 'depot sheet LIST.csv -o FILE'."),
-    (READING_AND_WRITING, "Split the list: a cabinet plans up to 20 charges at a time."),
-    (READING_AND_WRITING, "Put the number of the cabinet's modules, 1 to 64, into the line 'cabinet,N' of the list."),
-    (READING, "The file was damaged, or is no job sheet. Make it again from the list."),
+const TO_DO: [(Refusal, &str, &str); 20] = [
+    (Refusal::SheetLength, READING, "The file is no job sheet, or it was cut off or joined with another. Make it again: 'depot sheet LIST.csv -o FILE'."),
+    (Refusal::TooManyJobs, READING_AND_WRITING, "Split the list: a cabinet plans up to 20 charges at a time."),
+    (Refusal::CabinetSize, READING_AND_WRITING, "Put the number of the cabinet's modules, 1 to 64, into the line 'cabinet,N' of the list."),
+    (Refusal::RecordOffset, READING, "The file was damaged, or is no job sheet. Make it again from the list."),
     (
+        Refusal::RecordField,
         READING_AND_WRITING,
-        "Correct the job: label of 1 to 12 characters, modules 1 to 255, minutes 1 to 1440, departure 0 to 2880, and only jobs of the \
+        "Correct the job: label of 1 to 16 characters, modules 1 to 255, minutes 1 to 1440, departure 0 to 2880, and only jobs of the \
          same list in 'after'. 'depot sheet' names the line and the column.",
     ),
-    (READING_AND_WRITING, "The file was damaged, or a program wrote wrong label lengths. Make it again from the list."),
-    (READING_AND_WRITING, "Write labels in plain letters, digits and signs, without spaces or accents."),
-    ("planning", "Give the job fewer modules, or plan it on a larger cabinet: as it stands it has no plan. 'depot plan' names the job."),
-    ("planning", "Take one 'after' out of the circle: as it stands no job of it can start. 'depot plan' names a circle."),
-    ("planning, writing", "A fault of the calling program: lend 13 bytes for each job and 8 for a card, 448 for every sheet."),
-    ("opening", "Give 2 to 8 controllers, each with a share and a ceiling."),
-    ("opening", "Choose a limit of 1 to 4096 modules, ceilings within it, and for each controller a share within its ceiling."),
-    ("opening", "Lower the shares until they add up to the limit or less: what is assured must fit on the feeder at once."),
+    (Refusal::LabelLengths, READING_AND_WRITING, "The file was damaged, or a program wrote wrong label lengths. Make it again from the list."),
+    (Refusal::LabelByte, READING_AND_WRITING, "Write labels in plain letters, digits and signs, without accents, and with spaces inside alone."),
+    (Refusal::OverWide, "planning", "Give the job fewer modules, or plan it on a larger cabinet: as it stands it has no plan. 'depot plan' names the job."),
+    (Refusal::Circular, "planning", "Take one 'after' out of the circle: as it stands no job of it can start. 'depot plan' names a circle."),
+    (Refusal::BufferTooShort, "planning, writing", "A fault of the calling program: lend 13 bytes for each job and 8 for a card, 528 for every sheet."),
+    (Refusal::ListLengths, "opening, changes", "Give 2 to 8 controllers, each with a share and a ceiling; in a change as many as the desk has."),
+    (Refusal::DeskFigures, "opening, changes", "Choose a limit of 0.1 to 40,000 kW, ceilings within it, and for each controller a share within its ceiling."),
+    (Refusal::SharesExceedLimit, "opening, changes", "Lower the shares until they add up to the limit or less: what is assured must fit on the feeder at once."),
     (
-        "labels, claims, hand-backs, looks",
+        Refusal::NoSuchNumber,
+        "labels, claims, hand-backs, looks, changes",
         "Use a number below the count: the first job or controller is 0. If the number is right, the desk's figures were altered by \
-         something other than its calls: open it anew once nobody holds a module.",
+         something other than its calls: open it anew once nobody holds anything.",
     ),
-    ("claims, hand-backs", "Name 1 module or more."),
-    ("claims", "Claim less, or hand back first: the ceiling is this controller's own bound, whatever the others hold. Look for the figure."),
+    (Refusal::ForNothing, "claims, hand-backs", "Name 0.1 kW or more: the desk counts in hundreds of watts."),
+    (Refusal::PassesCeiling, "claims", "Claim less, or hand back first: the ceiling is this controller's own bound, whatever the others hold. Look for the figure."),
     (
+        Refusal::DoesNotFit,
         "claims",
         "Claim less, or wait until another controller hands back: what others hold, and what is assured to them, is not given away. \
          Look for the figure.",
     ),
-    ("hand-backs", "Hand back no more than the controller holds: 'show' has the figure."),
+    (Refusal::ExceedsHolding, "hand-backs", "Hand back no more than the controller holds: 'show' has the figure."),
+    (
+        Refusal::HoldingAboveCeiling,
+        "changes",
+        "Choose a ceiling that covers what the controller holds, or have it hand back first: a change takes nothing from anybody.",
+    ),
+    (
+        Refusal::HoldingsExceedLimit,
+        "changes",
+        "Choose a larger limit or smaller shares, or have controllers hand back first: what is held, and what is newly assured beyond it, \
+         must fit under the new limit at once.",
+    ),
 ];
 
 pub fn run(words: &[String]) -> Result<Outcome, Trouble> {
     let arguments = Arguments::read(&TAKES, words)?;
     let as_json = arguments.has("--json");
     let Some(word) = arguments.plain(0) else {
-        return say(&if as_json { json::list(all().map(in_json)) + "\n" } else { overview() });
+        return say(&if as_json { json::list(Refusal::all().map(in_json)) + "\n" } else { overview() });
     };
     let found = whole(word).and_then(Refusal::of_number);
-    let refusal =
-        found.ok_or_else(|| Trouble::usage(format!("there is no refusal '{word}': they have the numbers 1 to 18"), "explain"))?;
+    let refusal = found.ok_or_else(|| {
+        Trouble::usage(format!("there is no refusal '{word}': they have the numbers {}", Refusal::NUMBERS), "explain")
+    })?;
     say(&if as_json { in_json(refusal) + "\n" } else { words_of(refusal) })
+}
+
+/// Which calls refuse with it, and what to do.
+fn to_do(refusal: Refusal) -> (&'static str, &'static str) {
+    let found = TO_DO.iter().find(|(of, ..)| *of == refusal);
+    found.map(|(_, calls, to_do)| (*calls, *to_do)).expect("every refusal is explained")
 }
 
 /// What a refusal means and what to do, in words.
 pub fn words_of(refusal: Refusal) -> String {
-    let (calls, to_do) = TO_DO[refusal.number() as usize - 1];
+    let (calls, to_do) = to_do(refusal);
     format!("Refusal {}: {refusal}.\nCalls that refuse with it: {calls}.\nWhat to do: {to_do}\n", refusal.number())
-}
-
-fn all() -> impl Iterator<Item = Refusal> {
-    (1..).map_while(Refusal::of_number)
 }
 
 fn overview() -> String {
     let mut text = String::new();
-    for refusal in all() {
+    for refusal in Refusal::all() {
         writeln!(text, "{:>2}  {refusal}", refusal.number()).unwrap();
     }
     text + "\n'depot explain N' says what to do.\n"
 }
 
 fn in_json(refusal: Refusal) -> String {
-    let (calls, to_do) = TO_DO[refusal.number() as usize - 1];
+    let (calls, to_do) = to_do(refusal);
     json::object(&[
         ("refusal", refusal.number().to_string()),
         ("means", json::text(&refusal.to_string())),

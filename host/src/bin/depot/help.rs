@@ -11,7 +11,7 @@ usage: depot VERB ..
   depot plan LIST.csv --svg OUT  and as a picture; --html OUT for a page
   depot sheet LIST.csv -o FILE   a list to a job sheet, the bytes that a cabinet takes
   depot list FILE                a job sheet back to a list
-  depot desk                     an interactive share desk: open, claim, back, look, show
+  depot desk                     an interactive share desk: open, change, claim, back, look, show
   depot explain N                what refusal N means and what to do
   depot VERB --help              the options of a verb, and the list's format
 
@@ -27,11 +27,11 @@ A list is a text with a line for each job:
   B101,4,120,,05:30                       a job
   B102,2,90,B101 #3,510                   a job that waits for the job B101 and for job 3
 
-  label      1 to 12 letters, digits or signs without spaces; two jobs may bear one label
+  label      1 to 16 letters, digits, signs or spaces, neither first nor last a space; two jobs may bear one label
   modules    that the job needs, 1 to 255
   minutes    that it takes, 1 to 1440
   after      labels of jobs that must have ended first, or their numbers (#0 is the first job), with a space between them;
-             the column may be left out
+             a label with a space in it stands in double quotes: \"N 417 B\" B101; the column may be left out
   departure  a minute counted from the start, 0 to 2880; with a line 'start' also a time: 05:30 is the first from the start on,
              05:30+1 the one on the day after the start's
 
@@ -78,16 +78,18 @@ usage: depot desk [SCRIPT] [--json]
 A share desk that takes a command from each line of standard input, or of a script file:
 
   open LIMIT SHARE/CEILING ..   opens a desk for 2 to 8 controllers; NAME=SHARE/CEILING gives one a name
-  claim CONTROLLER MODULES      claims modules
-  back CONTROLLER MODULES       hands modules back
+  change LIMIT SHARE/CEILING .. gives the desk new figures; what is held stays; NAME=SHARE/CEILING for the controller of that name
+  claim CONTROLLER KW           claims power
+  back CONTROLLER KW            hands power back
   look [CONTROLLER]             the largest claim that would be granted now
   show                          a bar for each controller
   explain N                     what refusal N means
   help, quit
 
+LIMIT, SHARE, CEILING and KW are kilowatts in whole hundreds of watts: 30, 12.5; or so many modules of a size: 3x30 is three of 30 kW.
 A controller is named by its number, from 0, or by its name. Lines that begin with # are remarks.
 
-  --json           an object for each command, for programs
+  --json           an object for each command, for programs; figures in kW too
 
 Exit status: 0 every call was answered; 1 some call was refused; 2 some line is no command.
 ";
@@ -95,7 +97,7 @@ Exit status: 0 every call was answered; 1 some call was refused; 2 some line is 
 const EXPLAIN: &str = "\
 usage: depot explain [N] [--json]
 
-What refusal N, 1 to 18, means, which calls refuse with it, and what to do. Without N, all of them in a line each.
+What refusal N, 1 to 18, 21 or 22, means, which calls refuse with it, and what to do. Without N, all of them in a line each.
 ";
 
 /// Whether help is asked for among these words.

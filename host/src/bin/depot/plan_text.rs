@@ -8,7 +8,7 @@ pub fn raw(plan: &Planned) -> String {
     let mut text = format!("plan {} {} {}\n", plan.end, plan.jobs.len(), plan.modules);
     for job in &plan.jobs {
         let row = &job.row;
-        writeln!(text, "{} {} {} {} {:016X}", job.label, row.start, row.end, job.lateness(), row.modules).unwrap();
+        writeln!(text, "{} {} {} {:016X} {}", row.start, row.end, job.lateness(), row.modules, job.label).unwrap();
     }
     text
 }

@@ -10,10 +10,10 @@ use Rattle.desk.proofs.Desk.claim.Statement.{statement}
 use Rattle.desk.proofs.Desk.claim.Tie as tie
 
 -- no check fails
-granted : (c : tie.Else1) → let a = c .before .before .args in claimRefusal (a .self) (a .controller) (a .modules) ≡ 0
+granted : (c : tie.Else1) → let a = c .before .before .args in claimRefusal (a .self) (a .controller) (a .power) ≡ 0
 granted c = sym (c .before .claim-refusal .ensures) ∙ c .if1 .left
 
-at : (c : tie.Else1) → let a = c .before .before .args in Here (a .self) (a .controller) × Fits (a .self) (a .controller) (a .modules)
+at : (c : tie.Else1) → let a = c .before .before .args in Here (a .self) (a .controller) × Fits (a .self) (a .controller) (a .power)
 at c = claim-says _ _ _ (granted c)
 
 claim-refusal-requires : tie.Need-claim-refusal-requires

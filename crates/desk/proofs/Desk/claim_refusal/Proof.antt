@@ -22,7 +22,7 @@ at c = of-desk-says _ _ (passed c)
 
 -- the claim is within the ceiling
 under : (c : tie.Else3) → let a = c .before .before .before .before .before .args in
-    holding (a .self) (a .controller) + a .modules ≤ ceilingOf (a .self) (a .controller)
+    holding (a .self) (a .controller) + a .power ≤ ceilingOf (a .self) (a .controller)
 under c =
     let h = at (c .before .before .before) in
     let b = c .before .below-ceiling .ensures in
@@ -51,7 +51,7 @@ returns-3 c =
     let h = at (two .before) in
     let b = c .before .below-ceiling .ensures in
     let t = c .if3 .taken in
-    let over : ceilingOf (a .self) (a .controller) < holding (a .self) (a .controller) + a .modules = omega arith in
+    let over : ceilingOf (a .self) (a .controller) < holding (a .self) (a .controller) + a .power = omega arith in
     rw (passed (two .before), ne-eqb _ _ (two .if2 .left), lt-ltb _ _ over) refl
 
 holding-at-requires : tie.Need-holding-at-requires
@@ -82,7 +82,7 @@ returns-4 c =
     let g = c .before .before .holding-at .ensures in
     let r = c .before .reserved-for-others .ensures in
     let t = c .if4 .taken in
-    let full : a .self .limit < holding (a .self) (a .controller) + a .modules + reservedForOthers (a .self) (a .controller) =
+    let full : a .self .limit < holding (a .self) (a .controller) + a .power + reservedForOthers (a .self) (a .controller) =
     omega arith in
     rw (passed (two .before), ne-eqb _ _ (two .if2 .left), le-ltb _ _ (under three), lt-ltb _ _ full) refl
 
@@ -95,7 +95,7 @@ returns-5 c =
     let g = c .before .before .holding-at .ensures in
     let r = c .before .reserved-for-others .ensures in
     let t = c .if4 .left in
-    let fits : holding (a .self) (a .controller) + a .modules + reservedForOthers (a .self) (a .controller) ≤ a .self .limit =
+    let fits : holding (a .self) (a .controller) + a .power + reservedForOthers (a .self) (a .controller) ≤ a .self .limit =
     omega arith in
     rw (passed (two .before), ne-eqb _ _ (two .if2 .left), le-ltb _ _ (under three), le-ltb _ _ fits) refl
 

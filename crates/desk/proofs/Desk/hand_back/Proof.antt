@@ -10,10 +10,10 @@ use Rattle.desk.proofs.Desk.hand_back.Statement.{statement}
 use Rattle.desk.proofs.Desk.hand_back.Tie as tie
 
 -- no check fails
-granted : (c : tie.Else1) → let a = c .before .before .args in handBackRefusal (a .self) (a .controller) (a .modules) ≡ 0
+granted : (c : tie.Else1) → let a = c .before .before .args in handBackRefusal (a .self) (a .controller) (a .power) ≡ 0
 granted c = sym (c .before .hand-back-refusal .ensures) ∙ c .if1 .left
 
-at : (c : tie.Else1) → let a = c .before .before .args in Here (a .self) (a .controller) × Holds (a .self) (a .controller) (a .modules)
+at : (c : tie.Else1) → let a = c .before .before .args in Here (a .self) (a .controller) × Holds (a .self) (a .controller) (a .power)
 at c = hand-back-says _ _ _ (granted c)
 
 hand-back-refusal-requires : tie.Need-hand-back-refusal-requires

@@ -38,7 +38,7 @@ returns-3 c =
     let a = two .before .before .before .args in
     let h = c .before .holding-at .ensures in
     let t = c .if3 .taken in
-    let less : holding (a .self) (a .controller) < a .modules = omega arith in
+    let less : holding (a .self) (a .controller) < a .power = omega arith in
     rw (passed (two .before), ne-eqb _ _ (two .if2 .left), lt-ltb _ _ less) refl
 
 returns-4 : tie.Need-returns-4
@@ -48,7 +48,7 @@ returns-4 c =
     let a = two .before .before .before .args in
     let h = c .before .holding-at .ensures in
     let t = c .if3 .left in
-    let within : a .modules ≤ holding (a .self) (a .controller) = omega arith in
+    let within : a .power ≤ holding (a .self) (a .controller) = omega arith in
     rw (passed (two .before), ne-eqb _ _ (two .if2 .left), le-ltb _ _ within) refl
 
 pub hand-back-refusal-spec : {M : Type 1} → statement M

@@ -6,7 +6,7 @@ use borrow.Author.Needs.{needs}
 use borrow.Author.Tests.{not-true, not-false}
 use lib.Dec.{leb}
 use Rattle.counting.specs.Counting.{every}
-use Rattle.desk.specs.Desk.{mostModules, fewestControllers, mostControllers}
+use Rattle.desk.specs.Desk.{mostPower, fewestControllers, mostControllers}
 use Rattle.desk.specs.Checks.{inRange, fullLists, placeOkAt, deskOk}
 use Rattle.desk.proofs.Sound.{full, range-says}
 use Rattle.desk.proofs.Desk.ok.Statement.{statement}
@@ -21,7 +21,7 @@ controllers : (c : tie.After-in-range) (b : Bool) → c .in-range .result ≡ b
 controllers c b e = sym (c .in-range .ensures) ∙ e
 
 limit : (c : tie.After-in-range2) (b : Bool) → c .in-range2 .result ≡ b
-    → inRange 1 mostModules (c .before .before .before .before .before .args .self .limit) ≡ b
+    → inRange 1 mostPower (c .before .before .before .before .before .args .self .limit) ≡ b
 limit c b e = sym (c .in-range2 .ensures) ∙ e
 
 all : (c : tie.After-places-ok) (b : Bool) → c .places-ok .result ≡ b

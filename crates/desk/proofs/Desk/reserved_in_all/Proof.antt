@@ -6,7 +6,7 @@ use Rattle.counting.specs.Counting.{sum}
 use Rattle.counting.proofs.Sums.{sum-most}
 use Rattle.counting.proofs.Ranges.{every-at}
 use Rattle.desk.specs.declared.Desk.{Desk}
-use Rattle.desk.specs.Desk.{mostModules, mostControllers, reserved}
+use Rattle.desk.specs.Desk.{mostPower, mostControllers, reserved}
 use Rattle.desk.specs.Checks.{placeOkAt}
 use Rattle.desk.proofs.Sound.{place-says, place-small}
 use Rattle.counting.proofs.Loops.{sum-more}
@@ -27,7 +27,7 @@ lent c = c .before .args .self
 inside : (c : tie.In-loop Inv-loop μ-loop) → c .before .loop .i < mostControllers
 inside c = omega (arith, c .before .before .pre .0)
 
-small : (c : tie.At-loop Inv-loop μ-loop) (i : ℕ) → i < lent c .count → reserved (lent c) i ≤ mostModules
+small : (c : tie.At-loop Inv-loop μ-loop) (i : ℕ) → i < lent c .count → reserved (lent c) i ≤ mostPower
 small c i l =
     let p = c .before .pre in
     let d = lent c in
@@ -45,7 +45,7 @@ add-total : tie.Need-add-total Inv-loop μ-loop
 add-total c =
     let l = c .before .before in
     let t = l .loop .inv .1 in
-    let s = sum-most (l .loop .i) (reserved (lent l)) mostModules (λ k h. small l k (omega arith)) in
+    let s = sum-most (l .loop .i) (reserved (lent l)) mostPower (λ k h. small l k (omega arith)) in
     let i = inside (c .before) in
     let r = c .reserved-at .ensures in
     omega (arith, small l (l .loop .i) (c .before .loop-test .taken))

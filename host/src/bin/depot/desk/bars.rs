@@ -1,4 +1,5 @@
 //! The desk as bars: one for the feeder and one for each controller.
+use depot_host::units::in_kw;
 use depot_host::Desk;
 use std::fmt::Write;
 
@@ -23,7 +24,8 @@ pub fn text(desk: &Desk, names: &[String]) -> String {
     let free = desk.limit - held - unused;
     let mut text = String::new();
     let bar = bar(desk.limit, [held, unused, free], desk.limit);
-    writeln!(text, "{:<wide$} [{bar}] {held} held, {unused} reserved, {free} free of {}", "feeder", desk.limit).unwrap();
+    let [held, unused, free, limit] = [held, unused, free, desk.limit].map(in_kw);
+    writeln!(text, "{:<wide$} [{bar}] {held} held, {unused} reserved, {free} free of {limit} kW", "feeder").unwrap();
     for (i, name) in names.iter().enumerate() {
         text += &controller(desk, i, name, wide);
     }
@@ -33,7 +35,8 @@ pub fn text(desk: &Desk, names: &[String]) -> String {
 fn controller(desk: &Desk, i: usize, name: &str, wide: usize) -> String {
     let (held, unused, may) = (desk.held[i], unused_share(desk, i), may_claim(desk, i));
     let bar = bar(desk.limit, [held, unused, may - unused], desk.ceiling[i]);
-    let figures = format!("holds {held}, assured {}, ceiling {}, may claim {may}", desk.assured[i], desk.ceiling[i]);
+    let [held, assured, ceiling, may] = [held, desk.assured[i], desk.ceiling[i], may].map(in_kw);
+    let figures = format!("holds {held}, assured {assured}, ceiling {ceiling}, may claim {may} kW");
     format!("{name:<wide$} [{bar}] {figures}\n")
 }
 
@@ -60,7 +63,7 @@ mod tests {
     fn bars_of_small_and_large_limits() {
         assert_eq!(bar(4, [1, 1, 1], 4).len(), 49);
         assert_eq!(bar(48, [2, 1, 3], 10), format!("##=...    |{}", " ".repeat(38)));
-        assert_eq!(bar(4096, [4096, 0, 0], 4096), format!("{}|", "#".repeat(48)));
-        assert_eq!(bar(4096, [0, 0, 0], 0), format!("|{}", " ".repeat(48)));
+        assert_eq!(bar(400_000, [400_000, 0, 0], 400_000), format!("{}|", "#".repeat(48)));
+        assert_eq!(bar(400_000, [0, 0, 0], 0), format!("|{}", " ".repeat(48)));
     }
 }

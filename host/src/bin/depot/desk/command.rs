@@ -1,17 +1,26 @@
 //! A line's command.
 use crate::clock::whole;
+use depot_host::units::power;
+use depot_host::Refusal;
 
-/// A controller's figures in an opening.
+/// A controller's figures in an opening or a change, in hundreds of watts.
 pub struct Place {
     pub name: String,
     pub assured: u32,
     pub ceiling: u32,
 }
 
+/// What an opening may look like.
+pub const OPENING: &str = "open 500 yard=240/420 workshop=100/200";
+
+/// What a change may look like.
+const CHANGE: &str = "change 400 yard=180/360 workshop=100/200";
+
 pub enum Command {
     Open { limit: u32, places: Vec<Place> },
-    Claim { controller: u32, modules: u32 },
-    Back { controller: u32, modules: u32 },
+    Change { limit: u32, places: Vec<Place> },
+    Claim { controller: u32, power: u32 },
+    Back { controller: u32, power: u32 },
     Look(Option<u32>),
     Show,
     Explain(u32),
@@ -24,25 +33,24 @@ pub fn read(line: &str, names: &[String]) -> Result<Command, String> {
     let words: Vec<&str> = line.split_whitespace().collect();
     match &words[..] {
         ["open", limit, places @ ..] => open(limit, places),
-        ["open"] => Err("found 'open' alone; allowed: open LIMIT SHARE/CEILING .., as 'open 10 yard=4/10 workshop=3/10'".into()),
-        ["claim", who, modules] => {
-            Ok(Command::Claim { controller: controller(who, names)?, modules: number(modules, "modules")? })
-        }
-        ["back", who, modules] => Ok(Command::Back { controller: controller(who, names)?, modules: number(modules, "modules")? }),
-        ["claim" | "back", ..] => Err(format!("found '{line}'; allowed: {} CONTROLLER MODULES, as '{0} 0 4'", words[0])),
+        ["open"] => Err(format!("found 'open' alone; allowed: open LIMIT SHARE/CEILING .., as '{OPENING}'")),
+        ["change", limit, places @ ..] => change(limit, places, names),
+        ["change"] => Err(format!("found 'change' alone; allowed: change LIMIT SHARE/CEILING .., as '{CHANGE}'")),
+        ["claim", who, kw] => Ok(Command::Claim { controller: controller(who, names)?, power: power(kw)? }),
+        ["back", who, kw] => Ok(Command::Back { controller: controller(who, names)?, power: power(kw)? }),
+        ["claim" | "back", ..] => Err(format!("found '{line}'; allowed: {} CONTROLLER KW, as '{0} 0 12.5'", words[0])),
         ["look"] => Ok(Command::Look(None)),
         ["look", who] => Ok(Command::Look(Some(controller(who, names)?))),
         ["look", ..] => Err(format!("found '{line}'; allowed: look, or look CONTROLLER")),
         ["show"] => Ok(Command::Show),
-        ["explain", word] => Ok(Command::Explain(number(word, "refusals, 1 to 18")?)),
+        ["explain", word] => {
+            let number = whole(word).ok_or(format!("found '{word}'; allowed: a refusal's number, {}", Refusal::NUMBERS))?;
+            Ok(Command::Explain(number))
+        }
         ["help"] => Ok(Command::Help),
         ["quit" | "exit"] => Ok(Command::Quit),
-        _ => Err(format!("found '{line}'; allowed: open, claim, back, look, show, explain, help, quit")),
+        _ => Err(format!("found '{line}'; allowed: open, change, claim, back, look, show, explain, help, quit")),
     }
-}
-
-fn number(word: &str, what: &str) -> Result<u32, String> {
-    whole(word).ok_or(format!("found '{word}'; allowed: a whole number of {what}"))
 }
 
 fn controller(word: &str, names: &[String]) -> Result<u32, String> {
@@ -60,7 +68,7 @@ pub fn given_names(names: &[String]) -> impl Iterator<Item = &str> {
 }
 
 fn open(limit: &str, words: &[&str]) -> Result<Command, String> {
-    let limit = number(limit, "modules as the limit")?;
+    let limit = power(limit)?;
     let mut places: Vec<Place> = Vec::new();
     for (number, word) in words.iter().enumerate() {
         let place = place(number, word)?;
@@ -72,14 +80,46 @@ fn open(limit: &str, words: &[&str]) -> Result<Command, String> {
     Ok(Command::Open { limit, places })
 }
 
+/// New figures in the controllers' order; where a name or a number stands before them, they are that controller's.
+fn change(limit: &str, words: &[&str], names: &[String]) -> Result<Command, String> {
+    let limit = power(limit)?;
+    let mut places: Vec<(usize, Place)> = Vec::new();
+    for (number, word) in words.iter().enumerate() {
+        let (number, figures) = match word.split_once('=') {
+            Some((name, figures)) => (controller(name, names)? as usize, figures),
+            None => (number, *word),
+        };
+        if places.iter().any(|(other, _)| *other == number) {
+            return Err(format!("found '{word}'; allowed: new figures for each controller once"));
+        }
+        let name = names.get(number).cloned().unwrap_or(format!("controller {number}"));
+        let (assured, ceiling) = pair(word, figures)?;
+        places.push((number, Place { name, assured, ceiling }));
+    }
+    places.sort_by_key(|(number, _)| *number);
+    if let Some(missing) = places.iter().enumerate().position(|(place, (number, _))| place != *number) {
+        return Err(format!("found no figures for controller {missing}; allowed: new figures for each controller"));
+    }
+    Ok(Command::Change { limit, places: places.into_iter().map(|(_, place)| place).collect() })
+}
+
 /// `SHARE/CEILING` or `NAME=SHARE/CEILING`
 fn place(number: usize, word: &str) -> Result<Place, String> {
-    let wrong = || format!("found '{word}'; allowed: SHARE/CEILING or NAME=SHARE/CEILING, as 4/10 or yard=4/10");
     let (name, figures) = match word.split_once('=') {
-        Some((name, _)) if name.is_empty() || whole(name).is_some() => return Err(wrong()),
+        Some((name, _)) if name.is_empty() || whole(name).is_some() => return Err(no_pair(word)),
         Some((name, figures)) => (name.to_string(), figures),
         None => (format!("controller {number}"), word),
     };
-    let (assured, ceiling) = figures.split_once('/').ok_or_else(wrong)?;
-    Ok(Place { name, assured: whole(assured).ok_or_else(wrong)?, ceiling: whole(ceiling).ok_or_else(wrong)? })
+    let (assured, ceiling) = pair(word, figures)?;
+    Ok(Place { name, assured, ceiling })
+}
+
+/// The two figures of `SHARE/CEILING`, which stands in this word.
+fn pair(word: &str, figures: &str) -> Result<(u32, u32), String> {
+    let (assured, ceiling) = figures.split_once('/').ok_or_else(|| no_pair(word))?;
+    Ok((power(assured)?, power(ceiling)?))
+}
+
+fn no_pair(word: &str) -> String {
+    format!("found '{word}'; allowed: SHARE/CEILING or NAME=SHARE/CEILING, as 240/420 or yard=240/420")
 }

@@ -13,7 +13,7 @@ use std::io::{self, BufRead, IsTerminal};
 const TAKES: Takes = Takes { verb: "desk", flags: &["--json"], values: &[], plain: &["a script"], needed: 0 };
 
 const WELCOME: &str = "\
-A share desk. 'open 10 yard=4/10 workshop=3/10' opens one for two controllers on a feeder of 10 modules; 'help' names the commands.
+A share desk. 'open 500 yard=240/420 workshop=100/200' opens one for two controllers on a feeder of 500 kW; 'help' names the commands.
 ";
 
 /// How the lines went.

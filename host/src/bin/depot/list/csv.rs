@@ -9,32 +9,55 @@ pub fn separator(line: &str) -> char {
     ','
 }
 
-/// The fields of a line, or the number of the field, from 1, that is wrong and how.
-pub fn fields(line: &str, separator: char) -> Result<Vec<String>, (usize, &'static str)> {
+/// A field, and whether it stood in double quotes.
+#[derive(Debug, PartialEq, Eq)]
+pub struct Field {
+    pub text: String,
+    pub quoted: bool,
+}
+
+/// The fields of a line, or the number of the field, from 1, that is wrong and how. The field at the place `names` may have double quotes
+/// around some of its words.
+pub fn fields(line: &str, separator: char, names: Option<usize>) -> Result<Vec<Field>, (usize, &'static str)> {
     let mut fields = Vec::new();
-    let mut rest = line;
+    let mut rest = line.trim_start();
     loop {
-        let (field, behind) = field(rest, separator).map_err(|why| (fields.len() + 1, why))?;
+        let whole = field(rest, separator);
+        let read = if names == Some(fields.len()) { whole.or_else(|_| parts(rest, separator)) } else { whole };
+        let (field, behind) = read.map_err(|why| (fields.len() + 1, why))?;
         fields.push(field);
         match behind.strip_prefix(separator) {
-            Some(next) => rest = next,
+            Some(next) => rest = next.trim_start(),
             None => return Ok(fields),
         }
     }
 }
 
 /// The first field, and what stands behind it: nothing, or a separator and more.
-fn field(text: &str, separator: char) -> Result<(String, &str), &'static str> {
-    let text = text.trim_start();
+fn field(text: &str, separator: char) -> Result<(Field, &str), &'static str> {
     if let Some(quoted) = text.strip_prefix('"') {
-        return closed(quoted, separator);
+        return closed(quoted, separator).map(|(text, behind)| (Field { text, quoted: true }, behind));
     }
     let end = text.find(separator).unwrap_or(text.len());
     let field = text[..end].trim_end();
     if field.contains('"') {
         return Err("a double quote inside a field that does not begin with one");
     }
-    Ok((field.into(), &text[end..]))
+    Ok((Field { text: field.into(), quoted: false }, &text[end..]))
+}
+
+/// The first field as it stands, up to a separator that is not in double quotes.
+fn parts(text: &str, separator: char) -> Result<(Field, &str), &'static str> {
+    let mut open = false;
+    let end = text.find(|c| {
+        open ^= c == '"';
+        c == separator && !open
+    });
+    let end = end.unwrap_or(text.len());
+    if text[..end].matches('"').count() % 2 == 1 {
+        return Err("a double quote that nothing closes");
+    }
+    Ok((Field { text: text[..end].trim_end().into(), quoted: false }, &text[end..]))
 }
 
 /// The rest of a quoted field.
@@ -62,7 +85,7 @@ fn closed(text: &str, separator: char) -> Result<(String, &str), &'static str> {
 
 /// A field as it is written: in quotes where it would be read otherwise without them.
 pub fn written(field: &str) -> String {
-    if field.contains([',', '"']) {
+    if field.contains([',', '"']) || is_remark(field) {
         return format!("\"{}\"", field.replace('"', "\"\""));
     }
     field.into()
@@ -77,21 +100,35 @@ pub fn is_remark(line: &str) -> bool {
 mod tests {
     use super::*;
 
+    fn texts(line: &str, separator: char) -> Vec<String> {
+        fields(line, separator, None).unwrap().into_iter().map(|field| field.text).collect()
+    }
+
     #[test]
     fn fields_of_lines() {
-        let of = |line| fields(line, ',').unwrap();
+        let of = |line| texts(line, ',');
         assert_eq!(of(""), [""]);
         assert_eq!(of(" a , b,,c "), ["a", "b", "", "c"]);
         assert_eq!(of(r#""a,b" , """" ,"#), ["a,b", "\"", ""]);
-        assert_eq!(fields("a,\"b", ','), Err((2, "a double quote that nothing closes")));
-        assert_eq!(fields("\"b\"x", ','), Err((1, "text behind a closing double quote")));
-        assert_eq!(fields("a,b,c\"d", ','), Err((3, "a double quote inside a field that does not begin with one")));
+        assert_eq!(fields("a,\"b", ',', None), Err((2, "a double quote that nothing closes")));
+        assert_eq!(fields("\"b\"x", ',', None), Err((1, "text behind a closing double quote")));
+        assert_eq!(fields("a,b,c\"d", ',', None), Err((3, "a double quote inside a field that does not begin with one")));
+    }
+
+    #[test]
+    fn names() {
+        let of = |line| fields(line, ',', Some(1)).map(|fields| (fields[1].text.clone(), fields[1].quoted, fields.len()));
+        assert_eq!(of(r#"a,"N 417 B" A301 ,c"#), Ok((r#""N 417 B" A301"#.into(), false, 3)));
+        assert_eq!(of(r#"a,A301 "x, y",c"#), Ok((r#"A301 "x, y""#.into(), false, 3)));
+        assert_eq!(of(r#"a,"N 417 B",c"#), Ok(("N 417 B".into(), true, 3)));
+        assert_eq!(of(r#"a,"""N 417 B"" A301",c"#), Ok((r#""N 417 B" A301"#.into(), true, 3)));
+        assert_eq!(of(r#"a,"N 417 B,c"#), Err((2, "a double quote that nothing closes")));
     }
 
     #[test]
     fn semicolons() {
         assert_eq!(["cabinet;16", "cabinet,16", "a;b,c", "label"].map(separator), [';', ',', ',', ',']);
-        assert_eq!(fields("a,b;\"c;d\" ;", ';').unwrap(), ["a,b", "c;d", ""]);
+        assert_eq!(texts("a,b;\"c;d\" ;", ';'), ["a,b", "c;d", ""]);
     }
 
     #[test]
@@ -102,9 +139,9 @@ mod tests {
 
     #[test]
     fn every_field_is_read_as_it_was_written() {
-        for field in ["", "a", "#", "#1", "a,b", "\"", "\"\"", "a b", "'", ";", "x\"", ","] {
+        for field in ["", "a", "#", "#1", "# 1", "N 417 B", "a,b", "\"", "\"\"", "a b", "'", ";", "x\"", ","] {
             let line = format!("{},{}", written(field), written(field));
-            assert_eq!(fields(&line, ',').unwrap(), [field, field]);
+            assert_eq!(texts(&line, ','), [field, field]);
             assert!(!is_remark(&line));
         }
     }

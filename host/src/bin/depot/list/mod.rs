@@ -1,4 +1,5 @@
 //! A yard list: a text that people write, a line for each job, and the job sheet that the library writes of it.
+mod after;
 mod csv;
 mod fault;
 mod reader;

@@ -1,13 +1,17 @@
 //! Reading a list: every fault is found, with its line and its column.
-use super::csv;
+use super::csv::Field;
 use super::fault::Faults;
-use super::words::{label_fault, number_of, shown};
+use super::words::{label_fault, shown};
+use super::{after, csv};
 use super::{List, COLUMNS};
 use crate::clock::{whole, Clock, START_ALLOWED};
 use crate::outcome::Trouble;
 use depot_host::{Job, MOST_JOBS};
 
 const OPTIONAL: &str = "after";
+
+/// The place of that column among all.
+const AFTER: usize = 3;
 
 /// The column of each field, and where each column stands.
 struct Header {
@@ -20,7 +24,7 @@ struct Entry {
     line: usize,
     label: String,
     job: Job,
-    after: String,
+    after: Field,
 }
 
 struct Reader {
@@ -65,7 +69,8 @@ impl Reader {
             return;
         }
         let separator = *self.separator.get_or_insert_with(|| csv::separator(line));
-        let mut fields = match csv::fields(line, separator) {
+        let names = self.header.as_ref().and_then(|header| header.columns[AFTER]);
+        let read = match csv::fields(line, separator, names) {
             Ok(fields) => fields,
             Err((column, why)) => {
                 let name = self.name_of(column).unwrap_or("text");
@@ -73,6 +78,8 @@ impl Reader {
                 return self.faults.put(number, Some((column, name)), why, allowed);
             }
         };
+        let quoted: Vec<bool> = read.iter().map(|field| field.quoted).collect();
+        let mut fields: Vec<String> = read.into_iter().map(|field| field.text).collect();
         while fields.len() > 1 && fields.last().is_some_and(String::is_empty) {
             fields.pop();
         }
@@ -83,7 +90,7 @@ impl Reader {
             ("cabinet", None) => self.cabinet(number, &fields[1..]),
             ("start", None) => self.start(number, &fields[1..]),
             (_, None) => self.header(number, &fields),
-            (_, Some(_)) => self.row(number, &fields),
+            (_, Some(_)) => self.row(number, &fields, &quoted),
         }
     }
 
@@ -143,7 +150,7 @@ impl Reader {
         self.header = Some(Header { columns, line });
     }
 
-    fn row(&mut self, line: usize, fields: &[String]) {
+    fn row(&mut self, line: usize, fields: &[String], quoted: &[bool]) {
         let header = self.header.as_ref().expect("a row stands behind the header");
         let columns = header.columns.clone();
         let width = columns.iter().flatten().max().map_or(0, |last| last + 1);
@@ -170,7 +177,8 @@ impl Reader {
             earlier: 0,
             departure: departure as u16,
         };
-        self.entries.push(Entry { line, label: label.into(), job, after: field(3).into() });
+        let quoted = columns[AFTER].is_some_and(|place| quoted.get(place) == Some(&true));
+        self.entries.push(Entry { line, label: label.into(), job, after: Field { text: field(AFTER).into(), quoted } });
     }
 
     /// The number in a field; where it is out of range, a fault and the least number.
@@ -211,14 +219,12 @@ impl Reader {
             self.faults.put(entry.line, None, format!("job {} of {}", MOST_JOBS + 1, self.entries.len()), "up to 20 jobs");
             return Err(self.faults.told(file));
         }
-        let column = self.header.as_ref().and_then(|header| header.columns[3]).map(|place| (place + 1, COLUMNS[3]));
+        let column = self.header.as_ref().and_then(|header| header.columns[AFTER]).map(|place| (place + 1, COLUMNS[AFTER]));
         let labels: Vec<String> = self.entries.iter().map(|entry| entry.label.clone()).collect();
         for entry in &mut self.entries {
-            for word in entry.after.split_whitespace() {
-                match number_of(word, &labels) {
-                    Ok(number) => entry.job.earlier |= 1 << number,
-                    Err((found, allowed)) => self.faults.put(entry.line, column, found, allowed),
-                }
+            match after::jobs(&entry.after.text, entry.after.quoted, &labels) {
+                Ok(jobs) => jobs.iter().for_each(|job| entry.job.earlier |= 1 << job),
+                Err(wrong) => wrong.into_iter().for_each(|(found, allowed)| self.faults.put(entry.line, column, found, allowed)),
             }
         }
         let list = List {

@@ -1,21 +1,28 @@
 //! The words of a list: labels, names of jobs, and how a message shows them.
 use super::is_number;
 use crate::clock::whole;
+use depot_host::LONGEST_LABEL;
+
+/// What was found, and what is allowed there.
+pub type Found = (String, String);
 
 /// What is wrong with a label.
 pub fn label_fault(label: &str) -> Option<(String, &'static str)> {
     if label.is_empty() {
-        return Some(("no label".into(), "1 to 12 letters, digits or signs, without spaces"));
+        return Some(("no label".into(), "1 to 16 letters, digits, signs or spaces"));
     }
-    if let Some(wrong) = label.chars().find(|c| !('!'..='~').contains(c)) {
+    if let Some(wrong) = label.chars().find(|c| !(' '..='~').contains(c)) {
         let found = format!("{} with {wrong:?} in it", shown(label));
-        return Some((found, "plain letters, digits and signs (bytes 33 to 126), without spaces"));
+        return Some((found, "plain letters, digits, signs and spaces (bytes 32 to 126)"));
     }
-    (label.len() > 12).then(|| (format!("{}, {} characters", shown(label), label.len()), "1 to 12 characters"))
+    if label.starts_with(' ') || label.ends_with(' ') {
+        return Some((shown(label), "a label that neither begins nor ends with a space"));
+    }
+    (label.len() > LONGEST_LABEL).then(|| (format!("{}, {} characters", shown(label), label.len()), "1 to 16 characters"))
 }
 
 /// The job that a word of the column `after` names.
-pub fn number_of(word: &str, labels: &[String]) -> Result<usize, (String, String)> {
+pub fn number_of(word: &str, labels: &[String]) -> Result<usize, Found> {
     let n = labels.len();
     if is_number(word) {
         let number = word[1..].parse().ok().filter(|number| *number < n);

@@ -1,4 +1,4 @@
--- `sheet_format::checks::wrong_bytes` meets its contract: after i bytes it is known whether one of them is wrong.
+-- `sheet_format::labels::wrong_bytes` meets its contract: after i bytes it is known whether one of them is wrong.
 use mathlib.Core.Path.{_≡_, refl, ap, ap₂, _∙_}
 use mathlib.Core.Bool.{Bool, _||_}
 use mathlib.Core.List.{List}
@@ -10,18 +10,18 @@ use borrow.Author.Needs.{needs}
 use Rattle.counting.specs.Counting.{any}
 use Rattle.sheet_format.specs.Figures.{firstLabelByte, lastLabelByte}
 use Rattle.sheet_format.specs.Checks.{outside}
-use Rattle.sheet_format.proofs.checks.wrong_bytes.Statement.{statement}
-use Rattle.sheet_format.proofs.checks.wrong_bytes.Tie as tie
+use Rattle.sheet_format.proofs.labels.wrong_bytes.Statement.{statement}
+use Rattle.sheet_format.proofs.labels.wrong_bytes.Tie as tie
 
 -- the test of byte k
 abbrev wrong : List ℕ → ℕ → Bool
-wrong labels k = outside firstLabelByte lastLabelByte (getD labels k 0)
+wrong bytes k = outside firstLabelByte lastLabelByte (getD bytes k 0)
 
 abbrev Inv-loop : tie.InvT-loop
-Inv-loop labels found₀ i₀ found i = (i ≤ length labels) × (found ≡ any i (wrong labels))
+Inv-loop bytes found₀ i₀ found i = (i ≤ length bytes) × (found ≡ any i (wrong bytes))
 
 abbrev μ-loop : tie.MeasureT-loop
-μ-loop labels found₀ i₀ found i = length labels - i
+μ-loop bytes found₀ i₀ found i = length bytes - i
 
 loop-holds : tie.Need-loop-holds Inv-loop μ-loop
 unfolding any
@@ -54,8 +54,8 @@ loop-again c =
 returns : tie.Need-returns Inv-loop μ-loop
 returns c =
     let v = c .before .loop in
-    let e : v .i ≡ length (c .before .before .before .args .labels .now) = omega arith in
-    v .inv .1 ∙ ap (λ k. any k (wrong (c .before .before .before .args .labels .now))) e
+    let e : v .i ≡ length (c .before .before .before .args .bytes .now) = omega arith in
+    v .inv .1 ∙ ap (λ k. any k (wrong (c .before .before .before .args .bytes .now))) e
 
 pub wrong-bytes-spec : {M : Type 1} → statement M
 wrong-bytes-spec =

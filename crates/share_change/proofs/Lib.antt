@@ -1,0 +1,2 @@
+-- What a change answers, test by test.
+pub mod Cases

@@ -1,0 +1,2 @@
+-- What a change hands back.
+pub mod Change
