@@ -18,7 +18,7 @@ use Rattle.sums.specs.Serving.{Unserved}
 abbrev pub mostLeft : ℕ
 mostLeft = 2000000
 
--- more than what 20 jobs of 64 modules hold up to minute 28800
+-- more than what 20 jobs of 64 modules hold up to the last end
 abbrev pub mostHeld : ℕ
 mostHeld = 40000000
 

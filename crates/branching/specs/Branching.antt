@@ -9,9 +9,10 @@ use lib.Bits.{bitAnd, bitOr}
 use lib.ListN.{getD}
 use Rattle.figures.specs.Figures.{mostJobs, noMinute}
 use Rattle.bits.specs.Bits.{bit}
-use Rattle.tables.specs.Tables.{minutesAt, earlierAt, countOf}
+use Rattle.tables.specs.Tables.{minutesAt, arrivalAt, earlierAt, countOf}
 use Rattle.tables.specs.Part.{Part}
 use Rattle.relations.specs.Relations.{rowAt}
+use Rattle.branching.specs.declared.Behind.{Behind}
 
 -- ---- jobs that were settled
 
@@ -42,24 +43,31 @@ Swapped related p settled start n j = (i : ℕ) × (i < n) × (bit (rowAt relate
 abbrev pub AllAwaited : List ℕ → ℕ → ℕ → Type 0
 AllAwaited t set r = (x : ℕ) → x < countOf t → bit set x ≡ true → (k : ℕ) → bit (earlierAt t x) k ≡ true → bit r k ≡ true
 
--- of the first m placed jobs those from the `at`-th on are a block: what was placed before it has ended when it begins, job j was settled
--- when its first job was chosen, and none of the awaited jobs is in it
-pub record BlockFrom (t : List ℕ) (p : Part) (settled : List ℕ) (awaited m j at : ℕ) : Type 0 where
+-- every job of the set has arrived by minute r
+abbrev pub AllArrived : List ℕ → ℕ → ℕ → Type 0
+AllArrived t set r = (x : ℕ) → x < countOf t → bit set x ≡ true → arrivalAt t x ≤ r
+
+-- of the first m placed jobs those from the `at`-th on are a block: what was placed before it has ended when it begins, all have arrived
+-- then, job j was settled when its first job was chosen, and none of the awaited jobs is in it
+pub record BlockFrom (t : List ℕ) (p : Part) (settled : List ℕ) (behind : Behind) (m j at : ℕ) : Type 0 where
   pub inside : at < m
+  pub here : behind .arrived + minutesAt t (getD (p .order) at 0) ≤ getD (p .ends) (getD (p .order) at 0) 0
   pub before : (k : ℕ) → k < at
       → getD (p .ends) (getD (p .order) k 0) 0 + minutesAt t (getD (p .order) at 0) ≤ getD (p .ends) (getD (p .order) at 0) 0
   pub settled-then : bit (getD settled (getD (p .order) at 0) 0) j ≡ true
-  pub unawaited : (k : ℕ) → at ≤ k → k < m → bit awaited (getD (p .order) k 0) ≡ false
+  pub unawaited : (k : ℕ) → at ≤ k → k < m → bit (behind .awaited) (getD (p .order) k 0) ≡ false
 
 -- the last of the placed jobs are such a block, and all have ended by minute `start`
-pub record EndsInBlock (t : List ℕ) (p : Part) (settled : List ℕ) (awaited start j : ℕ) : Type 0 where
+pub record EndsInBlock (t : List ℕ) (p : Part) (settled : List ℕ) (behind : Behind) (start j : ℕ) : Type 0 where
   pub at : ℕ
-  pub block : BlockFrom t p settled awaited (p .placed) j at
+  pub block : BlockFrom t p settled behind (p .placed) j at
   pub ended : (k : ℕ) → k < p .placed → getD (p .ends) (getD (p .order) k 0) 0 ≤ start
 
--- the same where job j would start, and the awaited jobs are those for which some unplaced job waits
+-- the same where job j would start; the awaited jobs are those for which some unplaced job waits, and all unplaced jobs have arrived
 abbrev pub Blocked : List ℕ → Part → List ℕ → ℕ → ℕ → Type 0
-Blocked t p settled start j = (awaited : ℕ) × AllAwaited t (p .unplaced) awaited × EndsInBlock t p settled awaited start j
+Blocked t p settled start j =
+    (behind : Behind) × AllAwaited t (p .unplaced) (behind .awaited) × AllArrived t (p .unplaced) (behind .arrived)
+    × EndsInBlock t p settled behind start j
 
 -- a job that is alike was tried, or j was settled at the last start, where it would start, or it is swapped, or it is behind a block
 abbrev pub PassedOver : List ℕ → List ℕ → Part → List ℕ → ℕ → ℕ → ℕ → ℕ → Type 0

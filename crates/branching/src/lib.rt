@@ -11,7 +11,7 @@ ghost use Rattle.tables.specs.Tables.{countOf};
 ghost use Rattle.tables.specs.Part.{partIn};
 ghost use Rattle.tables.specs.Prepared.{relatedIn};
 ghost use Rattle.relations.specs.Relations.{rowAt};
-ghost use Rattle.branching.specs.Branching.{settledNow, Passing, AlikeTried, Swapped, AllAwaited, EndsInBlock, Blocked, PassedOver};
+ghost use Rattle.branching.specs.Branching.{settledNow, Passing, AlikeTried, Swapped, AllAwaited, AllArrived, EndsInBlock, Blocked, PassedOver};
 ghost use Rattle.branching.specs.Branching.{Alone, ToTry, Trying, EndOfOne, AllEarly};
 use figures::MOST_JOBS;
 use figures::NO_MINUTE;
@@ -92,23 +92,31 @@ fn swapped(
     false
 }
 
-// The jobs that some unplaced job waits for.
-fn awaited(jobs: &Jobs, part: &Part) -> u32
+// What a block must leave to the unplaced jobs: the jobs that some of them wait for, and the last of their arrivals.
+pub struct Behind {
+    pub awaited: u32,
+    pub arrived: u16,
+}
+
+fn left_behind(jobs: &Jobs, part: &Part) -> Behind
     requires { ⌜ countOf (now jobs) ≤ mostJobs ⌝ }
-    ensures { λ r. ⌜ AllAwaited (now (jobs .entry)) (partIn (now (part .entry)) .unplaced) r ⌝ }
+    ensures { λ r. ⌜ (AllAwaited (now (jobs .entry)) (partIn (now (part .entry)) .unplaced) (r .awaited))
+        × (AllArrived (now (jobs .entry)) (partIn (now (part .entry)) .unplaced) (r .arrived)) ⌝ }
 {
-    let mut r: u32 = 0;
+    let mut awaited: u32 = 0;
+    let mut arrived: u16 = 0;
     let mut todo = bits::below32(tables::unplaced(part), tables::count(jobs));
     while todo != 0 {
         let x = bits::lowest32(todo);
-        r = r | tables::earlier(jobs, x);
+        awaited = awaited | tables::earlier(jobs, x);
+        arrived = counting::larger(arrived, tables::arrival(jobs, x));
         todo = bits::without_lowest32(todo);
     }
-    r
+    Behind { awaited, arrived }
 }
 
-// Whether a block goes on with a job, or begins with it: it is not awaited, and for a first job all others have ended by its start and it
-// was chosen when another was settled.
+// Whether a block goes on with a job, or begins with it: it is not awaited, and for a first job all others have ended and all unplaced jobs
+// have arrived by its start and it was chosen when another was settled.
 fn block_with(found: bool, waited: bool, settled: bool, latest: u16, end: u16, minutes: u16) -> bool
     ensures { λ r. ⌜ (r ≡ true
         → (waited ≡ false) × ((found ≡ true) ⊎ ((settled ≡ true) × (latest + minutes ≤ end)))) ⌝ }
@@ -130,21 +138,21 @@ fn ends_in_block(
     jobs: &Jobs,
     part: &Part,
     settled: &[u32; MOST_JOBS],
-    set: u32,
+    behind: Behind,
     start: u16,
     j: usize,
 ) -> bool
     requires { ⌜ Passing (now jobs) (partIn (now part)) j ⌝ }
-    ensures { λ r. ⌜ (r ≡ true → EndsInBlock (now (jobs .entry)) (partIn (now (part .entry))) (now (settled .entry)) set start j) ⌝ }
+    ensures { λ r. ⌜ (r ≡ true → EndsInBlock (now (jobs .entry)) (partIn (now (part .entry))) (now (settled .entry)) behind start j) ⌝ }
 {
     let placed = tables::placed(part);
     let mut found = false;
-    let mut latest: u16 = 0;
+    let mut latest = behind.arrived;
     let mut m: usize = 0;
     while m < placed {
         let a = tables::job_at(part, m);
         let end = tables::end(part, a);
-        let waited = bits::test32(set, a);
+        let waited = bits::test32(behind.awaited, a);
         let j_settled = bits::test32(settled[a], j);
         found = block_with(
             found,
@@ -175,7 +183,7 @@ fn blocked(jobs: &Jobs, part: &Part, settled: &[u32; MOST_JOBS], start: u16, j: 
     if start < tables::until(part, placed - 1) {
         return false;
     }
-    ends_in_block(jobs, part, settled, awaited(jobs, part), start, j)
+    ends_in_block(jobs, part, settled, left_behind(jobs, part), start, j)
 }
 
 // Whether job j, which would start at `start`, need not be tried.

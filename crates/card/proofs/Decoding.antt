@@ -1,7 +1,7 @@
 -- The card's length, and that its plan can be read back from it.
 use mathlib.Core.Path.{_≡_, sym, ap, _∙_}
 use mathlib.Core.List.{List, _++_, append-assoc}
-use Prim.Native.Nat.{ℕ, _+_, _*_, _^_, _≤_, _<_, zero-le}
+use Prim.Native.Nat.{ℕ, _+_, _*_, _^_, _≤_, _<_}
 use native.Mathlib.Omega.{arith}
 use native.Mathlib.Nat.{add-zero, le-trans}
 use lib.Dec.{lit≤}
@@ -9,18 +9,16 @@ use lib.ListN.{length, getD, length-append, List·getD-append}
 use lib.Pow.{pow-mono}
 use lib.Seq.{getD-append-add}
 use Rattle.counting.specs.Counting.{joined}
-use Rattle.counting.proofs.Sums.{sum-same}
 use Rattle.counting.proofs.Ranges.{largest-le}
 use Rattle.counting.proofs.Joins.{joined-length}
-use Rattle.figures.specs.Figures.{mostModules}
+use Rattle.figures.specs.Figures.{mostModules, lastEnd}
 use Rattle.bits.proofs.Sets.{setOf-lt}
 use Rattle.schedule.specs.Plan.{Sheet, finish}
 use Rattle.schedule.specs.ListPlan.{Order, emptyPart, listPlan}
 use Rattle.schedule.specs.TieRule.{endOf}
 use Rattle.schedule.proofs.Sound.{completes-all, order-completes}
-use Rattle.schedule.proofs.Horizon.{ends-within}
-use Rattle.tables.specs.Tables.{sheetOf, minutesAt, countOf, modulesOf, Fit}
-use Rattle.tables.proofs.Laws.{all-minutes}
+use Rattle.tables.proofs.Ends.{ends-short}
+use Rattle.tables.specs.Tables.{sheetOf, countOf, modulesOf, Fit}
 use Rattle.card.specs.Card.{rowSize, rowEnd, rowModules, trailerSize, trailerEnd, trailerCount, orderAt, trailerAt, cardSize}
 use Rattle.card.specs.Card.{rowBytes, trailerBytes, cardBytes, rowOf, cardOf}
 use Rattle.card.specs.Decoding.{Decodes}
@@ -79,13 +77,8 @@ module _ (t : List ℕ) (fit : Fit t) (o : List ℕ) (h : Order (sheetOf t) o) (
   abbrev jobs : ℕ
   jobs = countOf t
 
-  -- no minute of a plan reaches 28,801
-  pub end-short : (j : ℕ) → j < jobs → finish S (listPlan S o) j ≤ 28800
-  end-short j l =
-      let placed = completes-all S emptyPart o (order-completes S o h) j l in
-      let within = ends-within S (fit .narrow) 0 (λ i k. zero-le) o (h .follows) j l placed in
-      let flat = sum-same jobs (λ i. minutesAt t i + 0) (λ i. minutesAt t i) (λ i k. add-zero (minutesAt t i)) in
-      omega (arith, all-minutes t fit)
+  pub end-short : (j : ℕ) → j < jobs → finish S (listPlan S o) j ≤ lastEnd
+  end-short j l = ends-short t fit o (h .follows) j l (completes-all S emptyPart o (order-completes S o h) j l)
 
   abbrev tail : List ℕ
   tail = trailerBytes jobs (endOf S o) ++ rest
@@ -135,6 +128,6 @@ module _ (t : List ℕ) (fit : Fit t) (o : List ℕ) (h : Order (sheetOf t) o) (
         ∙ trailer-offset jobs (endOf S o) (omega (arith, fit .few));
     last =
         in-trailer trailerEnd 2 (lit≤ tt)
-        ∙ trailer-end jobs (endOf S o) (omega (arith, largest-le jobs (finish S (listPlan S o)) 28800 end-short));
+        ∙ trailer-end jobs (endOf S o) (omega (arith, largest-le jobs (finish S (listPlan S o)) lastEnd end-short));
     count = in-trailer trailerCount 2 (lit≤ tt) ∙ trailer-count jobs (endOf S o) (omega (arith, fit .few));
   }

@@ -8,11 +8,11 @@ use lib.ListN.{replicate}
 use borrow.Author.Tests.{ltb-true, leb-true}
 use Rattle.counting.specs.Counting.{sum, largest, every, any, joined}
 use Rattle.counting.proofs.Ranges.{every-at}
-use Rattle.figures.specs.Figures.{mostMinutes}
+use Rattle.figures.specs.Figures.{mostMinutes, lastArrival}
 use Rattle.bits.specs.Bits.{bit, setOf}
 use Rattle.schedule.specs.Plan.{Sheet}
 use Rattle.schedule.specs.ListPlan.{Order, ready, firstMinute, startOf, placeAll}
-use Rattle.tables.specs.Tables.{sheetOf, needAt, minutesAt, earlierAt, Fit}
+use Rattle.tables.specs.Tables.{sheetOf, needAt, minutesAt, arrivalAt, earlierAt, Fit}
 use Rattle.card.specs.Card.{rowBytes, trailerBytes, cardBytes, cardOf, latenessOf}
 use Rattle.card.specs.Decoding.{Decodes}
 use Rattle.card.proofs.Decoding.{card-decodes}
@@ -61,6 +61,7 @@ e1-fit = record {
   narrow = λ j l. leb-true (needAt table j) 2 (every-at 3 (λ j. leb (needAt table j) 2) refl j l);
   lasting = λ j l. ltb-true 0 (minutesAt table j) (every-at 3 (λ j. ltb 0 (minutesAt table j)) refl j l);
   short = λ j l. leb-true (minutesAt table j) mostMinutes (every-at 3 (λ j. leb (minutesAt table j) mostMinutes) refl j l);
+  arrived = λ j l. leb-true (arrivalAt table j) lastArrival (every-at 3 (λ j. leb (arrivalAt table j) lastArrival) refl j l);
 }
 
 e1-order : Order e1 order

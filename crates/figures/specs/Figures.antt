@@ -1,5 +1,5 @@
 -- Figures that several crates share. Each stands here once; src/lib.rt has a constant for each.
-use Prim.Native.Nat.{ℕ}
+use Prim.Native.Nat.{ℕ, _+_, _*_}
 
 -- jobs on a sheet, at most
 abbrev pub mostJobs : ℕ
@@ -12,6 +12,14 @@ mostModules = 64
 -- minutes of a job, at most
 abbrev pub mostMinutes : ℕ
 mostMinutes = 1440
+
+-- the minute by which every bus has arrived
+abbrev pub lastArrival : ℕ
+lastArrival = 1440
+
+-- the minute by which every list plan has ended: the last arrival, and then every job one after another
+abbrev pub lastEnd : ℕ
+lastEnd = lastArrival + mostJobs * mostMinutes
 
 -- no minute: no start, no end, no target
 abbrev pub noMinute : ℕ

@@ -9,5 +9,11 @@ pub const MOST_MODULES: usize = 64;
 // Minutes of a job, at most.
 pub const MOST_MINUTES: usize = 1440;
 
+// The minute by which every bus has arrived.
+pub const LAST_ARRIVAL: u16 = 1440;
+
+// The minute by which every list plan has ended: the last arrival, and then every job one after another.
+pub const LAST_END: u16 = 30240;
+
 // No minute: no start, no end, no target.
 pub const NO_MINUTE: u16 = 65535;

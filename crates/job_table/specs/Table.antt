@@ -4,14 +4,15 @@ use mathlib.Core.List.{List}
 use Prim.Native.Nat.{ℕ, _+_, _*_, _/_, _%_, _<_}
 use lib.ListN.{set}
 use Rattle.figures.specs.Figures.{mostJobs}
-use Rattle.tables.specs.Tables.{needAt, minutesAt, earlierAt, countOf, modulesOf}
+use Rattle.tables.specs.Tables.{needAt, minutesAt, arrivalAt, earlierAt, countOf, modulesOf}
 use Rattle.sheet_format.specs.Format.{jobsIn}
 use Rattle.sheet.specs.declared.Reading.{Reading}
 
 -- the table with the figures of job j
-unfoldable pub withJob : List ℕ → ℕ → ℕ → ℕ → ℕ → List ℕ
-withJob t j modules minutes earlier =
-    set (set (set (set t j modules) (20 + j) minutes) (60 + 2 * j) (earlier % 65536)) (60 + 2 * j + 1) (earlier / 65536)
+unfoldable pub withJob : List ℕ → ℕ → ℕ → ℕ → ℕ → ℕ → List ℕ
+withJob t j modules minutes arrival earlier =
+    set (set (set (set (set t j modules) (20 + j) minutes) (40 + j) arrival) (60 + 2 * j) (earlier % 65536)) (60 + 2 * j + 1)
+    (earlier / 65536)
 
 -- The table says of the jobs what the reading says.
 pub record TableOf (r : Reading) (t : List ℕ) : Type 0 where
@@ -19,4 +20,5 @@ pub record TableOf (r : Reading) (t : List ℕ) : Type 0 where
   pub modules : modulesOf t ≡ r .modules
   pub need : (j : ℕ) → j < mostJobs → needAt t j ≡ jobsIn (r .jobs) j .modules
   pub minutes : (j : ℕ) → j < mostJobs → minutesAt t j ≡ jobsIn (r .jobs) j .minutes
+  pub arrival : (j : ℕ) → j < mostJobs → arrivalAt t j ≡ 0
   pub earlier : (j : ℕ) → j < mostJobs → earlierAt t j ≡ jobsIn (r .jobs) j .earlier

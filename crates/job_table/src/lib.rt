@@ -12,12 +12,13 @@ use tables::JOB_PLACES;
 use tables::Jobs;
 
 // Puts the figures of job j into the table.
-fn put_job(table: &mut Jobs, j: usize, modules: u8, minutes: u16, earlier: u32)
+fn put_job(table: &mut Jobs, j: usize, modules: u8, minutes: u16, arrival: u16, earlier: u32)
     requires { ⌜ j < mostJobs ⌝ }
-    ensures { λ _. ⌜ now (table .exit) ≡ withJob (now (table .entry)) j modules minutes earlier ⌝ }
+    ensures { λ _. ⌜ now (table .exit) ≡ withJob (now (table .entry)) j modules minutes arrival earlier ⌝ }
 {
     table[j] = modules as u16;
     table[tables::MINUTES + j] = minutes;
+    table[tables::ARRIVALS + j] = arrival;
     table[tables::EARLIER + 2 * j] = (earlier % 65536) as u16;
     table[tables::EARLIER + 2 * j + 1] = (earlier / 65536) as u16;
 }
@@ -33,7 +34,7 @@ pub fn table_of(found: Reading) -> Jobs
     let mut j: usize = 0;
     while j < MOST_JOBS {
         let job = found.jobs[j];
-        put_job(&mut table, j, job.modules, job.minutes, job.earlier);
+        put_job(&mut table, j, job.modules, job.minutes, 0, job.earlier);
         j += 1;
     }
     table

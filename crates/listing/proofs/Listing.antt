@@ -9,6 +9,7 @@ use lib.Count.{ones}
 use lib.ListN.{length, getD, take, set, replicate, length-set, length-replicate}
 use lib.Seq.{getD-set-same, getD-set-other, getD-take, length-take-le, ext-getD}
 use borrow.Author.Tests.{not-true}
+use Rattle.figures.specs.Figures.{lastEnd}
 use Rattle.counting.specs.Counting.{only, largest}
 use Rattle.counting.proofs.Tests.{true-or-false, less-or-not}
 use Rattle.counting.proofs.Ranges.{largest-le, largest-same, find}
@@ -86,8 +87,8 @@ module _ {t : List ℕ} {part : Part} (known : Known t part) where
             let small = word-within known k in-word in
             getD-take jobs r k 0 l ∙ omega (arith, h .each k l, word-at known k in-word, known .fit .few)
 
-    short : largest jobs (λ i. getD (part .ends) i 0) ≤ 28800
-    short = largest-le jobs (λ i. getD (part .ends) i 0) 28800 (λ i l.
+    short : largest jobs (λ i. getD (part .ends) i 0) ≤ lastEnd
+    short = largest-le jobs (λ i. getD (part .ends) i 0) lastEnd (λ i l.
         let q = known .is .figures .ends i l in
         let r : getD (part .ends) i 0 ≡ finish S (P .plan) i = rw (placed i l) at q in
         omega (arith, end-short t (known .fit) part w (known .is) i l (placed i l)))

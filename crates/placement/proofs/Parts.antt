@@ -3,7 +3,7 @@ use mathlib.Core.Path.{_≡_, refl, sym, ap, _∙_, subst}
 use mathlib.Core.Logic.{_⊎_, inl, inr}
 use mathlib.Core.Bool.{Bool, true, false, not, _&&_, _||_}
 use mathlib.Core.List.{List, [], _∷_, _++_}
-use Prim.Native.Nat.{ℕ, suc, _+_, _-_, _*_, _≤_, _<_, zero-le}
+use Prim.Native.Nat.{ℕ, suc, _+_, _-_, _*_, _≤_, _<_, max, zero-le}
 use native.Mathlib.Omega.{arith}
 use native.Mathlib.Nat.{le-trans, mul-le-mul-left, mul-le-mul-right, mul-one, add-zero, not-suc-le-zero}
 use lib.Dec.{ltb, eqb}
@@ -12,6 +12,7 @@ use lib.Count.{ones}
 use lib.ListN.{length, getD}
 use lib.Pow.{pow-pos}
 use borrow.Author.Tests.{eqb-true, eqb-false, eq-eqb, not-true, not-false}
+use Rattle.figures.specs.Figures.{lastEnd}
 use Rattle.counting.specs.Counting.{only, sum, count}
 use Rattle.counting.proofs.Tests.{true-or-false, clash, only-le, only-within, mul-only, same-test, and-left, and-right, and-both}
 use Rattle.counting.proofs.Sums.{sum-same, sum-zero, sum-add, sum-single, sum-most, le-sum}
@@ -28,9 +29,9 @@ use Rattle.schedule.proofs.Starts.{Ready, ready-says, ready-when, start-may, no
 use Rattle.schedule.proofs.Sound.{part-sound}
 use Rattle.schedule.proofs.Occupied.{room-sum}
 use Rattle.schedule.proofs.Jumps.{start-here}
-use Rattle.schedule.proofs.Horizon.{ends-within}
+use Rattle.tables.proofs.Ends.{ends-short}
 use Rattle.schedule.proofs.Prefixes.{part-count, part-more, follows-more}
-use Rattle.tables.specs.Tables.{sheetOf, needAt, minutesAt, earlierAt, countOf, modulesOf, Fit}
+use Rattle.tables.specs.Tables.{sheetOf, needAt, minutesAt, arrivalAt, earlierAt, countOf, modulesOf, Fit}
 use Rattle.tables.specs.Part.{Part}
 use Rattle.tables.proofs.Laws.{job-area, all-minutes}
 use Rattle.placement.specs.Profile.{heldAt, heldAfter, heldFrom, heldOf, heldSince}
@@ -112,30 +113,26 @@ module _ (t : List ℕ) (fit : Fit t) where
 
     -- ---- how large the figures are
 
-    -- no minute of a plan reaches 28,801
-    pub end-short : (i : ℕ) → i < jobs → P .placed i ≡ true → finish S (P .plan) i ≤ 28800
-    end-short i l e =
-        let h = ends-within S (fit .narrow) 0 (λ i l. zero-le) w (is .follows) i l e in
-        let flat = sum-same jobs (λ i. minutesAt t i + 0) (λ i. minutesAt t i) (λ i l. add-zero (minutesAt t i)) in
-        omega (arith, all-minutes t fit)
+    pub end-short : (i : ℕ) → i < jobs → P .placed i ≡ true → finish S (P .plan) i ≤ lastEnd
+    end-short = ends-short t fit w (is .follows)
 
-    pub last-short : p .last ≤ 28800
+    pub last-short : p .last ≤ lastEnd
     last-short =
-        let ends = largest-le jobs (λ i. only (P .placed i) (finish S (P .plan) i)) 28800
-        (λ i l. only-within (P .placed i) _ 28800 (end-short i l)) in
+        let ends = largest-le jobs (λ i. only (P .placed i) (finish S (P .plan) i)) lastEnd
+        (λ i l. only-within (P .placed i) _ lastEnd (end-short i l)) in
         omega (arith, F .last, sound .ended)
 
     pub after-small : (u : ℕ) → heldSince p u ≤ 40000000
     after-small u =
-        let most = sum-most jobs (λ i. only (P .placed i) (S .need i * (finish S (P .plan) i - u))) (64 * 28800)
-        (λ i l. only-within (P .placed i) _ (64 * 28800) (one i l)) in
-        let all : jobs * (64 * 28800) ≤ 20 * (64 * 28800) = mul-le-mul-right (64 * 28800) (fit .few) in
+        let most = sum-most jobs (λ i. only (P .placed i) (S .need i * (finish S (P .plan) i - u))) (64 * lastEnd)
+        (λ i l. only-within (P .placed i) _ (64 * lastEnd) (one i l)) in
+        let all : jobs * (64 * lastEnd) ≤ 20 * (64 * lastEnd) = mul-le-mul-right (64 * lastEnd) (fit .few) in
         omega (arith, after-is u)
       where
-        one : (i : ℕ) → i < jobs → P .placed i ≡ true → S .need i * (finish S (P .plan) i - u) ≤ 64 * 28800
+        one : (i : ℕ) → i < jobs → P .placed i ≡ true → S .need i * (finish S (P .plan) i - u) ≤ 64 * lastEnd
         one i l e =
             let w : needAt t i ≤ 64 = omega (arith, fit .narrow i l, fit .most) in
-            le-trans (mul-le-mul-left (needAt t i) (omega (arith, end-short i l e))) (mul-le-mul-right 28800 w)
+            le-trans (mul-le-mul-left (needAt t i) (omega (arith, end-short i l e))) (mul-le-mul-right lastEnd w)
 
     pub left-small : p .left ≤ 2000000
     left-small =
@@ -179,7 +176,7 @@ module _ (t : List ℕ) (fit : Fit t) where
       abbrev R : Ready S (P .placed) j
       R = ready-says S (P .placed) j r
 
-      pub waits-is : waits (p .ends) (earlierAt t j) jobs (p .last) ≡ notBefore S P j
+      pub waits-is : waits (p .ends) (earlierAt t j) jobs (max (p .last) (arrivalAt t j)) ≡ notBefore S P j
       waits-is =
           let q = largest-same jobs (λ i. only (bit (earlierAt t j) i) (getD (p .ends) i 0))
           (λ i. only (S .before i j) (finish S (P .plan) i)) (λ i l. one i l (true-or-false (S .before i j))) in
@@ -199,16 +196,14 @@ module _ (t : List ℕ) (fit : Fit t) where
           sym (start-here S P sound j u (omega (arith, f .from, waits-is)) (f .first (startOf S P j) (omega (arith, waits-is)) room)
           (omega (arith, occupied-is u, f .room)))
 
-      pub start-short : startOf S P j + minutesAt t j ≤ 28800
+      pub start-short : startOf S P j + minutesAt t j ≤ lastEnd
       start-short =
           let s = part-more S w j in
           let self : eqb j j ≡ true = eq-eqb j j refl in
           let placed : partOf S (w ++ (j ∷ [])) .placed j ≡ true = subst (λ (X : PartPlan). X .placed j ≡ true) (sym s) (rw self) in
           let end : finish S (partOf S (w ++ (j ∷ [])) .plan) j ≡ startOf S P j + minutesAt t j =
           subst (λ (X : PartPlan). finish S (X .plan) j ≡ startOf S P j + minutesAt t j) (sym s) (rw self) in
-          let h = ends-within S (fit .narrow) 0 (λ i l. zero-le) (w ++ (j ∷ [])) (follows-more S w j (is .follows) r) j (R .job) placed in
-          let flat = sum-same jobs (λ i. minutesAt t i + 0) (λ i. minutesAt t i) (λ i l. add-zero (minutesAt t i)) in
-          omega (arith, all-minutes t fit)
+          omega (arith, ends-short t fit (w ++ (j ∷ [])) (follows-more S w j (is .follows) r) j (R .job) placed)
 
       -- ---- the part-plan with it
 

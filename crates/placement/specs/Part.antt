@@ -13,7 +13,7 @@ use Rattle.figures.specs.Figures.{mostJobs, mostModules}
 use Rattle.bits.specs.Bits.{bit, withoutBit}
 use Rattle.schedule.specs.Plan.{Sheet, finish}
 use Rattle.schedule.specs.ListPlan.{PartPlan, noJobs, Follows, partOf}
-use Rattle.tables.specs.Tables.{wholeAt, needAt, minutesAt, earlierAt, countOf, modulesOf}
+use Rattle.tables.specs.Tables.{wholeAt, needAt, minutesAt, arrivalAt, earlierAt, countOf, modulesOf}
 use Rattle.tables.specs.Part.{Part, partSize, partIn, wordOf}
 use Rattle.placement.specs.Profile.{heldOf, ProfileOf, FirstRoomOf, Inserted}
 
@@ -102,9 +102,10 @@ pub record Placed (t : List ℕ) (p : Part) (j start : ℕ) (r : Part) : Type 0 
 abbrev pub waits : List ℕ → ℕ → ℕ → ℕ → ℕ
 waits ends set jobs t = max t (largest jobs (λ i. only (bit set i) (getD ends i 0)))
 
--- r is the start of job j: the first minute, from the last start and the ends of its earlier jobs on, at which its modules are free
+-- r is the start of job j: the first minute, from the last start, its arrival and the ends of its earlier jobs on, at which its modules are free
 abbrev pub StartFor : List ℕ → Part → ℕ → ℕ → Type 0
-StartFor t p j r = FirstRoomOf p (modulesOf t) (needAt t j) (waits (p .ends) (earlierAt t j) (countOf t) (p .last)) r
+StartFor t p j r =
+    FirstRoomOf p (modulesOf t) (needAt t j) (waits (p .ends) (earlierAt t j) (countOf t) (max (p .last) (arrivalAt t j))) r
 
 -- job j is unplaced, and none of its earlier jobs is
 abbrev pub isReady : List ℕ → Part → ℕ → Bool

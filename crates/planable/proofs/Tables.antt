@@ -59,7 +59,7 @@ module _ (s : List ℕ) (e : readRefusal s ≡ 0) where
       need = λ j l. h .need j (omega (arith, few-read, h .count));
       minutes = λ j l. h .minutes j (omega (arith, few-read, h .count));
       before = λ i j k l. ap (λ (x : ℕ). bit x i) (h .earlier j (omega (arith, few-read, h .count)));
-      arrival = λ j l. refl;
+      arrival = λ j l. h .arrival j (omega (arith, few-read, h .count));
     }
 
     pub fit-table : overWide (sheetIn s) ≡ false → Fit t
@@ -76,4 +76,5 @@ module _ (s : List ℕ) (e : readRefusal s ≡ 0) where
       short = λ j l.
           let k : j < r .count = omega (arith, h .count) in
           omega (arith, same-jobs .minutes j l, job-read j k .minutes-most);
+      arrived = λ j l. omega (arith, same-jobs .arrival j l);
     }

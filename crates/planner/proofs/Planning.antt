@@ -9,6 +9,7 @@ use Prim.Native.Nat.{ℕ, _≤_, _<_}
 use native.Mathlib.Omega.{arith}
 use lib.Dec.{ltb}
 use lib.ListN.{length, drop}
+use Rattle.figures.specs.Figures.{lastEnd}
 use Rattle.counting.proofs.Tests.{true-or-false, clash}
 use Rattle.schedule.specs.Plan.{Sheet, Plan, Valid, finish, planEnd, overWide}
 use Rattle.schedule.specs.ListPlan.{Order, listPlan}
@@ -150,8 +151,7 @@ module _ (s card : List ℕ) (e : planRefusal s (length card) ≡ 0) where
       (ap (λ (c : List ℕ). c ++ drop (cardSize (S .jobs)) card) (card-same (ready .same) o order) ∙ sym card-is)
       (decodes-same (ready .same) o order _ (card-decodes t (ready .fit) o order (drop (cardSize (S .jobs)) card)))
 
-  -- no minute of the plan reaches 28,801
-  pub ends-short : (j : ℕ) → j < S .jobs → finish S (listPlan S o) j ≤ 28800
+  pub ends-short : (j : ℕ) → j < S .jobs → finish S (listPlan S o) j ≤ lastEnd
   ends-short j l =
       let k : j < sheetOf t .jobs = omega (arith, ready .same .jobs) in
       omega (arith, finish-same (ready .same) o order j k, end-short t (ready .fit) o order [] j k)

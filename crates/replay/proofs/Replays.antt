@@ -10,7 +10,7 @@ use lib.ListN.{length, getD, take, drop, length-take}
 use lib.Seq.{getD-take, take-take, split-at, take-suc}
 use borrow.Author.Tests.{eqb-true}
 use Rattle.counting.specs.Counting.{only}
-use Rattle.figures.specs.Figures.{mostJobs}
+use Rattle.figures.specs.Figures.{mostJobs, lastEnd}
 use Rattle.bits.specs.Bits.{setOf}
 use Rattle.schedule.specs.Plan.{Sheet, finish}
 use Rattle.schedule.specs.ListPlan.{Order, PartPlan, Follows, ready, startOf, place, emptyPart, placeAll, partOf}
@@ -65,7 +65,7 @@ module _ {t order : List ℕ} {k j : ℕ} (turn : Turn t order k j) where
     start : u ≡ startOf T (partOf T w) j
     start = start-is t (turn .fit) p w is j next-ready u f
 
-    pub next-short : u + minutesAt t j ≤ 28800
+    pub next-short : u + minutesAt t j ≤ lastEnd
     next-short = omega (arith, start, start-short t (turn .fit) p w is j next-ready)
 
     pub next-placeable : Placeable t p j u

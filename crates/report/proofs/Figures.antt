@@ -4,7 +4,7 @@ use mathlib.Core.Path.{_≡_, subst}
 use mathlib.Core.Bool.{Bool, true, false, cond}
 use mathlib.Core.List.{List, [], _∷_}
 use mathlib.Core.Option.{some}
-use Prim.Native.Nat.{ℕ, _≤_, _<_}
+use Prim.Native.Nat.{ℕ, suc, _≤_, _<_}
 use native.Mathlib.Nat.{le-trans}
 use native.Mathlib.Omega.{arith}
 use lib.Dec.{T, leb, leb→le}
@@ -13,7 +13,7 @@ use lib.ListN.{replicate}
 use lib.Pow.{pow-mono}
 use lib.Signed.{natAbs-le}
 use Rattle.counting.proofs.Ranges.{largest-le}
-use Rattle.figures.specs.Figures.{mostModules}
+use Rattle.figures.specs.Figures.{mostModules, lastEnd}
 use Rattle.bits.proofs.Sets.{setOf-lt}
 use Rattle.checking.specs.Checking.{Check, firstFailing}
 use Rattle.schedule.specs.Plan.{Sheet, Plan, finish}
@@ -66,21 +66,21 @@ module _ (s : List ℕ) (z : planRefusal s longestCard ≡ 0) where
   abbrev P : Plan
   P = listPlan S (found s card z .0)
 
-  ends : (j : ℕ) → j < S .jobs → finish S P j ≤ 28800
+  ends : (j : ℕ) → j < S .jobs → finish S P j ≤ lastEnd
   ends = ends-short s card z
 
   reads-well : readRefusal s ≡ 0
   reads-well = passes s (front-passes s longestCard z) .reads
 
-  late-small : (j : ℕ) → j < S .jobs → natAbs (latenessOf (finish S P j) (departureOf s j)) ≤ 28801
+  late-small : (j : ℕ) → j < S .jobs → natAbs (latenessOf (finish S P j) (departureOf s j)) ≤ suc lastEnd
   late-small j l =
       let departs = job-read s reads-well j l .departure in
       natAbs-le (latenessOf (finish S P j) (departureOf s j))
-      (difference-small (finish S P j) (departureOf s j) 28801 (omega (arith, ends j l)) (omega arith))
+      (difference-small (finish S P j) (departureOf s j) (suc lastEnd) (omega (arith, ends j l)) (omega arith))
 
   small : Small s S P
   small = record {
-    end = omega (arith, largest-le (S .jobs) (finish S P) 28800 ends);
+    end = omega (arith, largest-le (S .jobs) (finish S P) lastEnd ends);
     jobs = omega (arith, few s);
     modules = omega (arith, most-read s reads-well);
     starts = λ j l. omega (arith, ends j l);

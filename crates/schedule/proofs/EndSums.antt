@@ -24,7 +24,7 @@ use Rattle.schedule.proofs.Sound.{completes-all, order-completes}
 abbrev SumOf : Sheet → (ℕ → Bool) → ℕ → Type 0
 SumOf S d t = (X : ℕ → Bool) × ((k : ℕ) → X k ≡ true → d k ≡ true) × (t ≡ sum (S .jobs) (λ k. only (X k) (S .minutes k)))
 
-module _ (S : Sheet) (n : Narrow S) (arrival : (j : ℕ) → S .arrival j ≡ 0) (rest : S .rest ≡ 0) where
+module _ (S : Sheet) (n : Narrow S) (arrival : (j : ℕ) → j < S .jobs → S .arrival j ≡ 0) (rest : S .rest ≡ 0) where
   record Summed (P : PartPlan) : Type 0 where
     last : SumOf S (P .placed) (P .last)
     ends : (i : ℕ) → i < S .jobs → P .placed i ≡ true → SumOf S (P .placed) (finish S (P .plan) i)
@@ -69,7 +69,7 @@ module _ (S : Sheet) (n : Narrow S) (arrival : (j : ℕ) → S .arrival j ≡ 0)
             let may = start-may S P j (n j (r .job)) in
             let earlier = start-le S P j (t - 1) (record {
               later = omega (arith, may .later);
-              arrived = omega (arith, arrival j);
+              arrived = omega (arith, arrival j (r .job));
               after = λ i l b.
                   let e : t ≢ finish S (P .plan) i = eqb-false t (finish S (P .plan) i) (rw (r .after i l b) at (none i l)) in
                   omega (arith, may .after i l b);

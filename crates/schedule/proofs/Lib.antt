@@ -34,6 +34,7 @@ pub mod Bounds
 pub mod Jumps
 pub mod Horizon
 pub mod EndSums
+pub mod Multiples
 pub mod Theorems
 pub mod RowLaws
 pub mod ValidTest

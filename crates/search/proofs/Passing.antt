@@ -3,7 +3,7 @@ use mathlib.Core.Path.{_≡_, refl, sym, ap, _∙_, subst}
 use mathlib.Core.Logic.{_⊎_, inl, inr}
 use mathlib.Core.Bool.{Bool, true, false, cond, not, _||_}
 use mathlib.Core.List.{List, [], _∷_, _++_, append-nil, append-assoc}
-use Prim.Native.Nat.{ℕ, suc, _+_, _≤_, _<_, zero-le}
+use Prim.Native.Nat.{ℕ, suc, _+_, _≤_, _<_}
 use native.Mathlib.Omega.{arith}
 use lib.Dec.{eqb}
 use lib.Bits.{bitOr}
@@ -26,7 +26,7 @@ use Rattle.schedule.proofs.SameMinute.{same-minute-cut}
 use Rattle.schedule.proofs.Alike.{alike-cut}
 use Rattle.schedule.proofs.Swaps.{swap-cut}
 use Rattle.schedule.proofs.Blocks.{block-cut}
-use Rattle.tables.specs.Tables.{sheetOf, earlierAt, countOf}
+use Rattle.tables.specs.Tables.{sheetOf, arrivalAt, earlierAt, countOf}
 use Rattle.tables.specs.Prepared.{relatedIn}
 use Rattle.tables.specs.Part.{Part, wordOf}
 use Rattle.placement.specs.Part.{Placeable, Placed}
@@ -34,7 +34,8 @@ use Rattle.relations.specs.Relations.{Alike, Swapping}
 use Rattle.candidates.specs.Candidates.{JobStart}
 use Rattle.candidates.proofs.Starting.{started}
 use Rattle.candidates.proofs.Children.{word-length, word-at, child-placeable, child-fewer, child-known, child-word}
-use Rattle.branching.specs.Branching.{settledNow, AllAwaited, EndsInBlock, PassedOver}
+use Rattle.branching.specs.declared.Behind.{Behind}
+use Rattle.branching.specs.Branching.{settledNow, AllAwaited, AllArrived, EndsInBlock, PassedOver}
 use Rattle.search.specs.Search.{Fails, SettledAt, SameStart, SettledSo, Searching, TriedSo, Choosing}
 
 module _ {t prepared : List ℕ} {part : Part} {target : ℕ} {memory settled : List ℕ} {same tried job at : ℕ}
@@ -141,7 +142,8 @@ module _ {t prepared : List ℕ} {part : Part} {target : ℕ} {memory settled : 
       → Fails S target (x ++ (job ∷ []))) (sym e)
       (λ f a k. block-cut S lasting narrow u i q f job (a .may-come) k (suc target) (a .fails))
 
-  module _ (awaited : ℕ) (all : AllAwaited t (part .unplaced) awaited) (b : EndsInBlock t part settled awaited at job) where
+  module _ (behind : Behind) (all : AllAwaited t (part .unplaced) (behind .awaited)) (arrived : AllArrived t (part .unplaced) (behind .arrived))
+      (b : EndsInBlock t part settled behind at job) where
     abbrev m : ℕ
     m = b .at
 
@@ -215,12 +217,17 @@ module _ {t prepared : List ℕ} {part : Part} {target : ℕ} {memory settled : 
         is : getD (part .order) (z .0) 0 ≡ k
         is = sym (at-place (z .0) small) ∙ ap (λ (v : List ℕ). getD v (z .0) 0) word ∙ z .3
 
-        free : bit awaited k ≡ false
+        free : bit (behind .awaited) k ≡ false
         free = rw is at (b .block .unawaited (z .0) (omega (arith, z .1, parts .3)) small)
 
         go : (bit (earlierAt t x) k ≡ true) ⊎ (bit (earlierAt t x) k ≡ false) → bit (earlierAt t x) k ≡ false
         go (inr e) = e
-        go (inl e) = clash (bit awaited k) (all x v (s .going .known .is .figures .set x v ∙ ap not left) k e) free
+        go (inl e) = clash (bit (behind .awaited) k) (all x v (s .going .known .is .figures .set x v ∙ ap not left) k e) free
+
+    all-here : (k : ℕ) → k < jobs → P .placed k ≡ false → arrivalAt t k ≤ P .plan .start i
+    all-here k x p =
+        let e = rw (sym i-is) at (b .block .here) in
+        omega (arith, e, arrived k x (s .going .known .is .figures .set k x ∙ ap not p), end-of i i-in i-placed)
 
     blocked : Fails S target (w ++ (job ∷ []))
     blocked = behind-block u i q w word follows settled-at (record {
@@ -230,14 +237,14 @@ module _ {t prepared : List ℕ} {part : Part} {target : ℕ} {memory settled : 
       before = before-it;
       ended = all-ended;
       unawaited = not-awaited;
-      here = λ k x p. zero-le;
+      here = all-here;
     })
 
   pub passed-cut : PassedOver t (relatedIn prepared) part settled same tried at job → Fails S target (w ++ (job ∷ []))
   passed-cut (inl (i, h, b)) = let pair = s .going .tabled .related job l .alike i b in come-first i (pair .0) h (pair .1)
   passed-cut (inr (inl (z, b))) = same-minute (sym z) (s .settled-so .same-start job l b)
   passed-cut (inr (inr (inl (i, m, b, (e, (p, x)))))) = swapped i m (s .going .tabled .related job l .swapping i b .1) e p x
-  passed-cut (inr (inr (inr (awaited, all, b)))) = blocked awaited all b
+  passed-cut (inr (inr (inr (behind, all, arrived, b)))) = blocked behind all arrived b
 
   -- ---- one job more
 

@@ -15,7 +15,6 @@ use Rattle.schedule.specs.ListPlan.{Order}
 use Rattle.schedule.specs.TieRule.{endOf}
 use Rattle.schedule.specs.Ends.{EarliestEnd, EndsBy}
 use Rattle.schedule.specs.Beginnings.{CannotBeat}
-use Rattle.schedule.proofs.EndSums.{end-sum}
 use Rattle.schedule.proofs.Theorems.{earliest-of-orders, order-ends-by, none-ends-by}
 use Rattle.tables.specs.Tables.{sheetOf, Fit}
 use Rattle.tables.specs.Part.{Part, wordOf}
@@ -64,25 +63,23 @@ lower-hit {S} {best} {r} memory target s l o e m =
       remembered-less S memory (omega (arith, f .within)) m,
     )
 
--- ---- a target that is rounded to a sum of the jobs' minutes
+-- ---- a target that is rounded
 
--- no order ends between the sum and the target
-module _ (t : List ℕ) (target sum : ℕ) where
+-- no order ends between the two
+module _ (t : List ℕ) (target goal : ℕ) where
   abbrev S : Sheet
   S = sheetOf t
 
-  pub none-between : Fit t → Rounded t target sum → (o : List ℕ) → Order S o → suc sum ≤ endOf S o → suc target ≤ endOf S o
-  none-between fit h o d l = go (less-or-not target (endOf S o))
+  pub none-between : Rounded t target goal → (o : List ℕ) → Order S o → suc goal ≤ endOf S o → suc target ≤ endOf S o
+  none-between h o d l = go (less-or-not target (endOf S o))
     where
       go : (target < endOf S o) ⊎ (endOf S o ≤ target) → suc target ≤ endOf S o
       go (inl x) = x
-      go (inr x) =
-          let e = end-sum S (fit .narrow) (λ j. refl) refl o d in
-          absurd (omega (arith, e .1, h .none-between (e .0) (omega (arith, e .1))))
+      go (inr x) = absurd (omega (arith, h .none-between o d x))
 
--- so that what is found of the sum is found of the target
-pub rounded-outcome : {S : Sheet} {target sum : ℕ} {r : Found} → sum ≤ target
-    → ((o : List ℕ) → Order S o → suc sum ≤ endOf S o → suc target ≤ endOf S o) → Outcome S sum [] r → Outcome S target [] r
+-- so that what is found of the one is found of the other
+pub rounded-outcome : {S : Sheet} {target goal : ℕ} {r : Found} → goal ≤ target
+    → ((o : List ℕ) → Order S o → suc goal ≤ endOf S o → suc target ≤ endOf S o) → Outcome S goal [] r → Outcome S target [] r
 unfolding CannotBeat
 rounded-outcome l between m = record {
   size = m .size;

@@ -156,16 +156,16 @@ fn kept(best: Found) -> Found
     }
 }
 
-// An order that ends by the target, or none. Ends are sums of the jobs' minutes: a target between two sums asks for the lower one.
+// An order that ends by the target, or none. No order ends between the target and the goal that it is rounded to.
 fn decide(memory: &mut [u8], target: u16, jobs: &Jobs, prepared: &Prepared) -> Found
     requires { ⌜ (Fit (now jobs)) × ((Tabled (now jobs) (now prepared)) × ((target < noMinute) × (Remembered (sheetOf (now jobs)) (now memory) (suc target)))) ⌝ }
     ensures outcome { λ r. ⌜ Outcome (sheetOf (now (jobs .entry))) target [] r ⌝ }
     ensures remembered { λ _. ⌜ Remembered (sheetOf (now (jobs .entry))) (now (memory .exit)) (suc target) ⌝ }
 {
-    let sum = sums::rounded(jobs, target);
+    let goal = sums::rounded(jobs, target);
     let part = placement::first_part(jobs);
     let mut settled = [0u32; MOST_JOBS];
-    visit(memory, &mut settled, &part, 0, sum, jobs, prepared)
+    visit(memory, &mut settled, &part, 0, goal, jobs, prepared)
 }
 
 // An order that ends earlier, or the same one where there is none.

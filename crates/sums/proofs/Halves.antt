@@ -14,7 +14,7 @@ use Rattle.counting.proofs.Ranges.{le-largest, largest-le, every-at}
 use Rattle.figures.specs.Figures.{mostJobs}
 use Rattle.bits.specs.Bits.{bit}
 use Rattle.tables.specs.Tables.{minutesAt, countOf}
-use Rattle.sums.specs.Sums.{together, SumsOf, longest, longestPair, Rounded}
+use Rattle.sums.specs.Sums.{together, SumsOf, longest, longestPair, RoundedToSum}
 use Rattle.sums.proofs.Longest.{longest-le, longest-bounds}
 
 -- jobs 0 to 9, and jobs 10 to 19
@@ -48,7 +48,7 @@ module _ {t : List ℕ} {low : List ℕ} {lows : ℕ} {high : List ℕ} {highs :
   with-low i = only (leb (getD low i 0) x) (getD low i 0 + longest high highs (x - getD low i 0))
 
   -- a sum of all jobs is one of each half
-  pub rounded-pair : countOf t ≤ mostJobs → 0 < lows → 0 < highs → Rounded t x (longestPair low lows high highs x)
+  pub rounded-pair : countOf t ≤ mostJobs → 0 < lows → 0 < highs → RoundedToSum t x (longestPair low lows high highs x)
   unfolding longestPair with-low
   rounded-pair few l h = record {
     below = largest-le lows with-low x (λ i m. only-within (leb (getD low i 0) x) (getD low i 0 + longest high highs (x - getD low i 0)) x

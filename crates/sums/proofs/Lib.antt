@@ -2,4 +2,5 @@
 pub mod Choices
 pub mod Longest
 pub mod Halves
+pub mod Rounding
 pub mod Serving

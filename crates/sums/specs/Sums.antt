@@ -2,13 +2,15 @@
 use mathlib.Core.Path.{_≡_}
 use mathlib.Core.Bool.{Bool, true}
 use mathlib.Core.List.{List}
-use Prim.Native.Nat.{ℕ, _+_, _-_, _*_, _≤_, _<_}
+use Prim.Native.Nat.{ℕ, _+_, _-_, _*_, _≤_, _<_, _∣_}
 use lib.Dec.{leb}
 use lib.ListN.{length, getD}
 use Rattle.counting.specs.Counting.{only, sum, largest}
 use Rattle.figures.specs.Figures.{mostMinutes}
 use Rattle.bits.specs.Bits.{bit}
-use Rattle.tables.specs.Tables.{minutesAt, countOf}
+use Rattle.schedule.specs.ListPlan.{Order}
+use Rattle.schedule.specs.TieRule.{endOf}
+use Rattle.tables.specs.Tables.{minutesAt, arrivalAt, countOf, sheetOf}
 
 -- the minutes of those of the first `jobs` jobs that are in X, together
 abbrev pub together : List ℕ → ℕ → (ℕ → Bool) → ℕ
@@ -43,7 +45,22 @@ unfoldable pub longestPair : List ℕ → ℕ → List ℕ → ℕ → ℕ → �
 longestPair low lows high highs x =
     largest lows (λ i. only (leb (getD low i 0) x) (getD low i 0 + longest high highs (x - getD low i 0)))
 
--- each sum of minutes of jobs that is not above x is not above r
+-- ---- targets between two minutes at which an order can end
+
+-- r is not above x, and no order ends between them
 pub record Rounded (t : List ℕ) (x r : ℕ) : Type 0 where
+  pub below : r ≤ x
+  pub none-between : (o : List ℕ) → Order (sheetOf t) o → endOf (sheetOf t) o ≤ x → endOf (sheetOf t) o ≤ r
+
+-- the first n jobs are here from minute 0 on
+abbrev pub AllHere : List ℕ → ℕ → Type 0
+AllHere t n = (j : ℕ) → j < n → arrivalAt t j ≡ 0
+
+-- g divides the minutes and the arrivals of the first n jobs
+abbrev pub Step : List ℕ → ℕ → ℕ → Type 0
+Step t n g = (j : ℕ) → j < n → (g ∣ minutesAt t j) × (g ∣ arrivalAt t j)
+
+-- each sum of minutes of jobs that is not above x is not above r
+pub record RoundedToSum (t : List ℕ) (x r : ℕ) : Type 0 where
   pub below : r ≤ x
   pub none-between : (X : ℕ → Bool) → together t (countOf t) X ≤ x → together t (countOf t) X ≤ r

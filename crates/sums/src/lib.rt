@@ -1,14 +1,14 @@
 // Sums of the minutes of some of the jobs: the times at which a plan can end, and the bound by modules.
 ghost use mathlib.Core.Path.{_≡_};
 ghost use mathlib.Core.Bool.{true};
-ghost use Prim.Native.Nat.{_+_, _-_, _*_, _<_, _≤_};
+ghost use Prim.Native.Nat.{_+_, _-_, _*_, _<_, _≤_, _∣_};
 ghost use lib.Dec.{leb};
 ghost use lib.ListN.{length};
 ghost use Rattle.counting.specs.Counting.{only};
 ghost use Rattle.figures.specs.Figures.{mostJobs, mostMinutes};
 ghost use Rattle.tables.specs.Tables.{minutesAt, countOf, Fit};
 ghost use Rattle.tables.specs.Part.{partIn};
-ghost use Rattle.sums.specs.Sums.{SumsOf, Room, Doubled, longest, longestPair, Rounded};
+ghost use Rattle.sums.specs.Sums.{SumsOf, Room, Doubled, longest, longestPair, Rounded, AllHere, Step, RoundedToSum};
 ghost use Rattle.sums.specs.Serving.{Running, Narrow, servedFrom, mostServed, Unserved};
 use tables::Jobs;
 use tables::Part;
@@ -115,9 +115,9 @@ const HIGH_JOBS: u32 = 1047552;
 const HALF_SUMS: usize = 1024;
 
 // The largest sum of minutes of all jobs that is not above the target, or the target where the sums have no room.
-pub fn rounded(jobs: &Jobs, target: u16) -> u16
+fn rounded_to_sum(jobs: &Jobs, target: u16) -> u16
     requires { ⌜ Fit (now jobs) ⌝ }
-    ensures { λ r. ⌜ Rounded (now (jobs .entry)) target r ⌝ }
+    ensures { λ r. ⌜ RoundedToSum (now (jobs .entry)) target r ⌝ }
 {
     let mut low = [0u16; HALF_SUMS];
     let lows = subset_sums(&mut low, jobs, LOW_JOBS);
@@ -130,6 +130,78 @@ pub fn rounded(jobs: &Jobs, target: u16) -> u16
         return target;
     }
     longest_pair(&low, lows, &high, highs, target)
+}
+
+// ---- targets between two minutes at which an order can end
+
+// The greatest common divisor: that it divides both is all that is used.
+fn divisor(a: u16, b: u16) -> u16
+    ensures { λ r. ⌜ (r ∣ a) × (r ∣ b) ⌝ }
+{
+    let mut x = a;
+    let mut y = b;
+    while y != 0 {
+        let left = x % y;
+        x = y;
+        y = left;
+    }
+    x
+}
+
+// A number that divides the minutes and the arrivals of all jobs.
+fn step_of(jobs: &Jobs) -> u16
+    requires { ⌜ countOf (now jobs) ≤ mostJobs ⌝ }
+    ensures { λ r. ⌜ Step (now (jobs .entry)) (countOf (now (jobs .entry))) r ⌝ }
+{
+    let count = tables::count(jobs);
+    let mut step: u16 = 0;
+    let mut i: usize = 0;
+    while i < count {
+        step = divisor(step, tables::minutes(jobs, i));
+        step = divisor(step, tables::arrival(jobs, i));
+        i += 1;
+    }
+    step
+}
+
+// The last minute up to the target at which a plan can end by that step.
+fn rounded_to_step(jobs: &Jobs, target: u16) -> u16
+    requires { ⌜ Fit (now jobs) ⌝ }
+    ensures { λ r. ⌜ Rounded (now (jobs .entry)) target r ⌝ }
+{
+    let step = step_of(jobs);
+    if step == 0 {
+        return target;
+    }
+    target / step * step
+}
+
+// Whether all jobs are here from minute 0 on.
+fn all_here(jobs: &Jobs) -> bool
+    requires { ⌜ countOf (now jobs) ≤ mostJobs ⌝ }
+    ensures { λ r. ⌜ (r ≡ true → AllHere (now (jobs .entry)) (countOf (now (jobs .entry)))) ⌝ }
+{
+    let count = tables::count(jobs);
+    let mut i: usize = 0;
+    while i < count {
+        if tables::arrival(jobs, i) != 0 {
+            return false;
+        }
+        i += 1;
+    }
+    true
+}
+
+// The target, or an earlier minute where no order ends between the two: where all jobs are here ends are sums of minutes, and else multiples
+// of what divides all minutes and arrivals.
+pub fn rounded(jobs: &Jobs, target: u16) -> u16
+    requires { ⌜ Fit (now jobs) ⌝ }
+    ensures { λ r. ⌜ Rounded (now (jobs .entry)) target r ⌝ }
+{
+    if all_here(jobs) {
+        return rounded_to_sum(jobs, target);
+    }
+    rounded_to_step(jobs, target)
 }
 
 // ---- the bound by modules

@@ -1,2 +1,3 @@
 -- Laws of job tables.
 pub mod Laws
+pub mod Ends

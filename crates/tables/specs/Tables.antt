@@ -2,7 +2,7 @@
 use Prim.Native.Nat.{ℕ, _+_, _*_, _≤_, _<_}
 use mathlib.Core.List.{List}
 use lib.ListN.{getD, drop}
-use Rattle.figures.specs.Figures.{mostJobs, mostModules, mostMinutes}
+use Rattle.figures.specs.Figures.{mostJobs, mostModules, mostMinutes, lastArrival}
 use Rattle.bits.specs.Bits.{bit}
 use Rattle.schedule.specs.Plan.{Sheet}
 
@@ -14,12 +14,15 @@ listFrom k t = drop k t
 abbrev pub wholeAt : List ℕ → ℕ → ℕ
 wholeAt t k = getD t k 0 + getD t (k + 1) 0 * 65536
 
--- the modules that job j needs, its minutes, and its earlier jobs
+-- the modules that job j needs, its minutes, its arrival, and its earlier jobs
 abbrev pub needAt : List ℕ → ℕ → ℕ
 needAt t j = getD t j 0
 
 abbrev pub minutesAt : List ℕ → ℕ → ℕ
 minutesAt t j = getD t (20 + j) 0
+
+abbrev pub arrivalAt : List ℕ → ℕ → ℕ
+arrivalAt t j = getD t (40 + j) 0
 
 unfoldable pub earlierAt : List ℕ → ℕ → ℕ
 earlierAt t j = wholeAt t (60 + 2 * j)
@@ -31,7 +34,7 @@ countOf t = getD t 100 0
 abbrev pub modulesOf : List ℕ → ℕ
 modulesOf t = getD t 101 0
 
--- the sheet of the table; places 40 to 59 are kept for arrivals, and place 102 for the changeover
+-- the sheet of the table; place 102 is kept for the changeover
 abbrev pub sheetOf : List ℕ → Sheet
 sheetOf t = record {
   jobs = countOf t;
@@ -39,7 +42,7 @@ sheetOf t = record {
   need = needAt t;
   minutes = minutesAt t;
   before = λ i j. bit (earlierAt t j) i;
-  arrival = λ j. 0;
+  arrival = arrivalAt t;
   rest = 0;
 }
 
@@ -51,3 +54,4 @@ pub record Fit (t : List ℕ) : Type 0 where
   pub narrow : (j : ℕ) → j < countOf t → needAt t j ≤ modulesOf t
   pub lasting : (j : ℕ) → j < countOf t → 0 < minutesAt t j
   pub short : (j : ℕ) → j < countOf t → minutesAt t j ≤ mostMinutes
+  pub arrived : (j : ℕ) → j < countOf t → arrivalAt t j ≤ lastArrival

@@ -4,7 +4,7 @@ ghost use mathlib.Core.Path.{_≡_};
 ghost use Prim.Native.Nat.{_+_, _*_, _<_};
 ghost use lib.ListN.{getD};
 ghost use Rattle.figures.specs.Figures.{mostJobs};
-ghost use Rattle.tables.specs.Tables.{needAt, minutesAt, earlierAt, countOf, modulesOf};
+ghost use Rattle.tables.specs.Tables.{needAt, minutesAt, arrivalAt, earlierAt, countOf, modulesOf};
 ghost use Rattle.tables.specs.Part.{partIn};
 ghost use Rattle.tables.specs.Prepared.{relatedPlaces, worthPlaces, mostPlaces, lanesPlaces, tailsIn, relatedIn, worthIn, mostIn, lanesIn};
 
@@ -69,6 +69,14 @@ pub fn minutes(jobs: &Jobs, j: usize) -> u16
     ensures { λ r. ⌜ r ≡ minutesAt (now (jobs .entry)) j ⌝ }
 {
     jobs[MINUTES + j]
+}
+
+// The first minute at which job j may start.
+pub fn arrival(jobs: &Jobs, j: usize) -> u16
+    requires { ⌜ j < mostJobs ⌝ }
+    ensures { λ r. ⌜ r ≡ arrivalAt (now (jobs .entry)) j ⌝ }
+{
+    jobs[ARRIVALS + j]
 }
 
 // The jobs that must have ended before job j starts, a set.

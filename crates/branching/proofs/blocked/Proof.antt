@@ -21,14 +21,16 @@ until-requires c κs = search needs
 returns-2 : tie.Need-returns-2
 returns-2 c = λ e. clash false e refl
 
-awaited-requires : tie.Need-awaited-requires
-awaited-requires c κs = search needs
+left-behind-requires : tie.Need-left-behind-requires
+left-behind-requires c κs = search needs
 
 ends-in-block-requires : tie.Need-ends-in-block-requires
 ends-in-block-requires c κs = search needs
 
 returns-3 : tie.Need-returns-3
-returns-3 c = λ e. (c .before .awaited .result, c .before .awaited .ensures, c .ends-in-block .ensures e)
+returns-3 c = λ e.
+    let behind = c .before .left-behind in
+    (behind .result, behind .ensures .0, behind .ensures .1, c .ends-in-block .ensures e)
 
 pub blocked-spec : {M : Type 1} → statement M
 blocked-spec =
@@ -39,6 +41,6 @@ blocked-spec =
     sub-until
     until-requires
     returns-2
-    awaited-requires
+    left-behind-requires
     ends-in-block-requires
     returns-3)

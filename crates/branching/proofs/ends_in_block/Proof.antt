@@ -13,11 +13,11 @@ use Rattle.branching.proofs.ends_in_block.Statement.{statement}
 use Rattle.branching.proofs.ends_in_block.Tie as tie
 
 abbrev Inv-loop : tie.InvT-loop
-Inv-loop jobs part settled set start j placed found₀ latest₀ m₀ found latest m =
-    (placed ≡ partIn part .placed) × ((m ≤ placed) × Growing jobs (partIn part) settled set j found latest m)
+Inv-loop jobs part settled behind start j placed found₀ latest₀ m₀ found latest m =
+    (placed ≡ partIn part .placed) × ((m ≤ placed) × Growing jobs (partIn part) settled behind j found latest m)
 
 abbrev μ-loop : tie.MeasureT-loop
-μ-loop jobs part settled set start j placed found₀ latest₀ m₀ found latest m = placed - m
+μ-loop jobs part settled behind start j placed found₀ latest₀ m₀ found latest m = placed - m
 
 placed-requires : tie.Need-placed-requires Inv-loop μ-loop
 placed-requires c κs = search needs
@@ -82,7 +82,7 @@ loop-again c =
       (
         omega (arith, tested .loop-test .taken),
         rw (c .larger .ensures)
-            (growing-step (a .jobs .now) (partIn (a .part .now)) (a .settled .now) (a .set) (a .j) (loop .found) (loop .latest) (loop .m)
+            (growing-step (a .jobs .now) (partIn (a .part .now)) (a .settled .now) (a .behind) (a .j) (loop .found) (loop .latest) (loop .m)
             (at .result) (end .result) (more .result) (at .ensures) (end .ensures) (loop .inv .1 .1) (λ e.
             let s = more .ensures e in (
               sym (waited .ensures) ∙ s .0,
@@ -100,9 +100,9 @@ returns-2 c = λ e.
     let p = partIn (a .part .now) in
     let loop = c .before .before .loop in
     let same : loop .m ≡ p .placed = omega (arith, loop .inv .0, loop .inv .1 .0, c .before .loop-test .left) in
-    let grown = subst (λ (m : ℕ). Growing (a .jobs .now) p (a .settled .now) (a .set) (a .j) (loop .found) (loop .latest) m) same
+    let grown = subst (λ (m : ℕ). Growing (a .jobs .now) p (a .settled .now) (a .behind) (a .j) (loop .found) (loop .latest) m) same
     (loop .inv .1 .1) in
-    growing-all (a .jobs .now) p (a .settled .now) (a .set) (a .j) (loop .found) (loop .latest) (a .start) grown
+    growing-all (a .jobs .now) p (a .settled .now) (a .behind) (a .j) (loop .found) (loop .latest) (a .start) grown
     (not-false _ (c .if1 .left)) (leb-true _ _ e)
 
 pub ends-in-block-spec : {M : Type 1} → statement M

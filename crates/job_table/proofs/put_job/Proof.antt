@@ -20,38 +20,47 @@ mul-table-2 c = search needs
 element-write-table-2 : tie.Need-element-write-table-2
 element-write-table-2 c = search needs
 
-cast-table : tie.Need-cast-table
-cast-table c = search needs
+add-table-2 : tie.Need-add-table-2
+add-table-2 c = search needs
 
 mul-table-3 : tie.Need-mul-table-3
 mul-table-3 c = search needs
 
-add-table-2 : tie.Need-add-table-2
-add-table-2 c = search needs
+element-write-table-3 : tie.Need-element-write-table-3
+element-write-table-3 c = search needs
+
+cast-table : tie.Need-cast-table
+cast-table c = search needs
 
 mul-table-4 : tie.Need-mul-table-4
 mul-table-4 c = search needs
 
-element-write-table-3 : tie.Need-element-write-table-3
-element-write-table-3 c = search needs
-
-cast-table-2 : tie.Need-cast-table-2
-cast-table-2 c = search needs
+add-table-3 : tie.Need-add-table-3
+add-table-3 c = search needs
 
 mul-table-5 : tie.Need-mul-table-5
 mul-table-5 c = search needs
 
-add-table-3 : tie.Need-add-table-3
-add-table-3 c = search needs
+element-write-table-4 : tie.Need-element-write-table-4
+element-write-table-4 c = search needs
 
-add-table-4 : tie.Need-add-table-4
-add-table-4 c = search needs
+cast-table-2 : tie.Need-cast-table-2
+cast-table-2 c = search needs
 
 mul-table-6 : tie.Need-mul-table-6
 mul-table-6 c = search needs
 
-element-write-table-4 : tie.Need-element-write-table-4
-element-write-table-4 c = search needs
+add-table-4 : tie.Need-add-table-4
+add-table-4 c = search needs
+
+add-table-5 : tie.Need-add-table-5
+add-table-5 c = search needs
+
+mul-table-7 : tie.Need-mul-table-7
+mul-table-7 c = search needs
+
+element-write-table-5 : tie.Need-element-write-table-5
+element-write-table-5 c = search needs
 
 returns : tie.Need-returns
 unfolding withJob
@@ -66,15 +75,18 @@ put-job-spec =
     add-table
     mul-table-2
     element-write-table-2
-    cast-table
-    mul-table-3
     add-table-2
-    mul-table-4
+    mul-table-3
     element-write-table-3
-    cast-table-2
-    mul-table-5
+    cast-table
+    mul-table-4
     add-table-3
-    add-table-4
-    mul-table-6
+    mul-table-5
     element-write-table-4
+    cast-table-2
+    mul-table-6
+    add-table-4
+    add-table-5
+    mul-table-7
+    element-write-table-5
     returns)

@@ -32,7 +32,7 @@ returns c =
     let rounded = entered .before .rounded .ensures in
     let word = first-word (a .jobs .now) (partIn (entered .first-part .result)) fit (entered .first-part .ensures) in
     let visit = c .before .before .visit .ensures in
-    let between = none-between (a .jobs .now) (a .target) (entered .before .rounded .result) fit rounded in
+    let between = none-between (a .jobs .now) (a .target) (entered .before .rounded .result) rounded in
     (rounded-outcome (rounded .below) between (rw word at (visit .0)), remembered-until _ between (visit .1 .1))
 
 pub decide-spec : {M : Type 1} → statement M

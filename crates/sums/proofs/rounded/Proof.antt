@@ -1,60 +1,24 @@
 -- `sums::rounded` meets its contract.
-use native.Mathlib.Omega.{arith}
-use Rattle.sums.proofs.Halves.{rounded-pair}
-use borrow.Author.Needs.{needs}
+use Rattle.sums.proofs.Rounding.{by-sums}
 use Rattle.sums.proofs.rounded.Statement.{statement}
 use Rattle.sums.proofs.rounded.Tie as tie
 
-slice-aggregate-subset-sums : tie.Need-slice-aggregate-subset-sums
-slice-aggregate-subset-sums c = search needs
+all-here-requires : tie.Need-all-here-requires
+all-here-requires c κs = c .pre .few
 
-subset-sums-requires : tie.Need-subset-sums-requires
-subset-sums-requires c κs = search needs
-
-slice-aggregate-subset-sums-2 : tie.Need-slice-aggregate-subset-sums-2
-slice-aggregate-subset-sums-2 c = search needs
-
-subset-sums-requires-2 : tie.Need-subset-sums-requires-2
-subset-sums-requires-2 c κs = search needs
+rounded-to-sum-requires : tie.Need-rounded-to-sum-requires
+rounded-to-sum-requires c κs = c .before .before .pre
 
 returns : tie.Need-returns
-returns c = search needs
+returns c =
+    let a = c .before .before .before .args in
+    by-sums (a .jobs .now) (c .before .before .before .pre) (a .target) _ (c .before .before .all-here .ensures (c .before .if1 .taken)) (c .rounded-to-sum .ensures)
+
+rounded-to-step-requires : tie.Need-rounded-to-step-requires
+rounded-to-step-requires c κs = c .before .before .pre
 
 returns-2 : tie.Need-returns-2
-returns-2 c = search needs
-
-slice-aggregate-longest-pair : tie.Need-slice-aggregate-longest-pair
-slice-aggregate-longest-pair c = search needs
-
-slice-aggregate-longest-pair-2 : tie.Need-slice-aggregate-longest-pair-2
-slice-aggregate-longest-pair-2 c = search needs
-
-longest-pair-requires : tie.Need-longest-pair-requires
-longest-pair-requires c κs = search needs
-
-returns-3 : tie.Need-returns-3
-returns-3 c =
-    let past = c .before .before .before .before .before .before .before .before in
-    let a = past .before .before .before .args in
-    let pre = past .before .before .before .pre in
-    let low = past .before .subset-sums in
-    let high = c .before .before .before .before .before .before .subset-sums2 in
-    let if1 = c .before .before .before .before .if1 in
-    let if2 = c .before .before .before .if2 in
-    rw (c .longest-pair .ensures) (rounded-pair (low .ensures) (high .ensures) (a .target) (pre .few)
-    (omega (arith, if1 .left)) (omega (arith, if2 .left)))
+returns-2 c = c .rounded-to-step .ensures
 
 pub rounded-spec : {M : Type 1} → statement M
-rounded-spec =
-    tie.close
-    (tie.spec
-    slice-aggregate-subset-sums
-    subset-sums-requires
-    slice-aggregate-subset-sums-2
-    subset-sums-requires-2
-    returns
-    returns-2
-    slice-aggregate-longest-pair
-    slice-aggregate-longest-pair-2
-    longest-pair-requires
-    returns-3)
+rounded-spec = tie.close (tie.spec all-here-requires rounded-to-sum-requires returns rounded-to-step-requires returns-2)
