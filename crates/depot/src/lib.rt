@@ -19,7 +19,7 @@ ghost use Rattle.depot.specs.Version.{version};
 
 // ---- the version
 
-// 0.1.0
+// 0.4.0
 const VERSION: u32 = 4000;
 
 // The number of this library's version; the header has the same.
