@@ -4,6 +4,7 @@ use mathlib.Core.List.{List}
 use Prim.Native.Nat.{ℕ, _+_, _*_, _/_, _%_, _<_}
 use lib.ListN.{set}
 use Rattle.figures.specs.Figures.{mostJobs}
+use Rattle.tables.specs.Tables.{minutesFrom, arrivalsFrom, earlierFrom}
 use Rattle.tables.specs.Tables.{needAt, minutesAt, arrivalAt, earlierAt, countOf, modulesOf}
 use Rattle.sheet_format.specs.Format.{jobsIn}
 use Rattle.sheet.specs.declared.Reading.{Reading}
@@ -11,8 +12,8 @@ use Rattle.sheet.specs.declared.Reading.{Reading}
 -- the table with the figures of job j
 unfoldable pub withJob : List ℕ → ℕ → ℕ → ℕ → ℕ → ℕ → List ℕ
 withJob t j modules minutes arrival earlier =
-    set (set (set (set (set t j modules) (20 + j) minutes) (40 + j) arrival) (60 + 2 * j) (earlier % 65536)) (60 + 2 * j + 1)
-    (earlier / 65536)
+    set (set (set (set (set t j modules) (minutesFrom + j) minutes) (arrivalsFrom + j) arrival) (earlierFrom + 2 * j) (earlier % 65536))
+    (earlierFrom + 2 * j + 1) (earlier / 65536)
 
 -- The table says of the jobs what the reading says.
 pub record TableOf (r : Reading) (t : List ℕ) : Type 0 where

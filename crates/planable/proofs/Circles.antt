@@ -12,7 +12,7 @@ use Rattle.schedule.proofs.Orders.{best-order}
 use Rattle.schedule.proofs.Theorems.{none-circular, best-not-circular}
 use Rattle.checking.specs.Checking.{firstFailing}
 use Rattle.planable.specs.Planable.{noOrder, orderRefusal}
-use Rattle.planable.proofs.Same.{SameJobs, same-back, circular-same, wide-same}
+use Rattle.schedule.proofs.Same.{SameJobs, same-back, circular-same, wide-same}
 
 -- Check 9 fails exactly where some job would have to end before itself.
 pub circular-when : (S : Sheet) → (noOrder S ≡ true) ↔ Circular S

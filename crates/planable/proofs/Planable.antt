@@ -16,7 +16,7 @@ use Rattle.sheet.proofs.Answers.{read-number}
 use Rattle.job_table.specs.Table.{TableOf}
 use Rattle.planable.specs.Planable.{sheetIn, noOrder, orderChecks, orderRefusal, planableChecks, planableRefusal}
 use Rattle.planable.specs.Results.{CheckedOf}
-use Rattle.planable.proofs.Same.{SameJobs, circular-same}
+use Rattle.schedule.proofs.Same.{SameJobs, circular-same}
 use Rattle.planable.proofs.Circles.{ordered-when, refusal-same}
 use Rattle.planable.proofs.Tables.{few-read, lasting-read, same-jobs, fit-table}
 

@@ -18,7 +18,7 @@ use Rattle.sheet.specs.Read.{readRefusal, reading}
 use Rattle.sheet.proofs.Answers.{read-answer, reads}
 use Rattle.job_table.specs.Table.{TableOf}
 use Rattle.planable.specs.Planable.{sheetIn}
-use Rattle.planable.proofs.Same.{SameJobs}
+use Rattle.schedule.proofs.Same.{SameJobs}
 
 module _ (s : List ℕ) (e : readRefusal s ≡ 0) where
   abbrev r : Reading

@@ -14,7 +14,7 @@ use Rattle.schedule.proofs.Theorems.{best-exists}
 use Rattle.card.specs.Card.{trailerEnd, trailerCount, orderAt, trailerAt, rowBytes, rowOf, trailerBytes, cardBytes, cardOf}
 use Rattle.words.specs.Words.{numberAt}
 use Rattle.card.specs.Decoding.{Decodes}
-use Rattle.planable.proofs.Same.{SameJobs, plan-same, finish-same, end-same, best-same}
+use Rattle.schedule.proofs.Same.{SameJobs, plan-same, finish-same, end-same, best-same}
 use Rattle.planner.specs.Planning.{bestCard}
 
 module _ {S T : Sheet} (h : SameJobs S T) (o : List ℕ) (w : Order S o) where

@@ -27,7 +27,7 @@ use Rattle.checking.proofs.Order.{all-passed, both-passed, none-failing, first-
 use Rattle.sheet.specs.Read.{readChecks, readRefusal, reading}
 use Rattle.job_table.proofs.Copies.{has-table}
 use Rattle.planable.specs.Planable.{sheetIn, noOrder, planableChecks, planableRefusal}
-use Rattle.planable.proofs.Same.{same-back, order-same, finish-same}
+use Rattle.schedule.proofs.Same.{same-back, order-same, finish-same}
 use Rattle.planable.proofs.Circles.{circular-when, ordered-when}
 use Rattle.planable.proofs.Tables.{lasting-read}
 use Rattle.planable.proofs.Planable.{Passes, passes, Ready, ready-table}

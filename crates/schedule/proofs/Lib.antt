@@ -6,6 +6,7 @@ pub mod Dominance
 pub mod Timed
 pub mod Earliest
 pub mod Existence
+pub mod Same
 pub mod Dictionary
 pub mod Orders
 pub mod Along

@@ -14,18 +14,28 @@ listFrom k t = drop k t
 abbrev pub wholeAt : List ℕ → ℕ → ℕ
 wholeAt t k = getD t k 0 + getD t (k + 1) 0 * 65536
 
+-- where the minutes, the arrivals and the sets of earlier jobs begin, two places to a set; modules begin at 0
+abbrev pub minutesFrom : ℕ
+minutesFrom = 20
+
+abbrev pub arrivalsFrom : ℕ
+arrivalsFrom = 40
+
+abbrev pub earlierFrom : ℕ
+earlierFrom = 60
+
 -- the modules that job j needs, its minutes, its arrival, and its earlier jobs
 abbrev pub needAt : List ℕ → ℕ → ℕ
 needAt t j = getD t j 0
 
 abbrev pub minutesAt : List ℕ → ℕ → ℕ
-minutesAt t j = getD t (20 + j) 0
+minutesAt t j = getD t (minutesFrom + j) 0
 
 abbrev pub arrivalAt : List ℕ → ℕ → ℕ
-arrivalAt t j = getD t (40 + j) 0
+arrivalAt t j = getD t (arrivalsFrom + j) 0
 
 unfoldable pub earlierAt : List ℕ → ℕ → ℕ
-earlierAt t j = wholeAt t (60 + 2 * j)
+earlierAt t j = wholeAt t (earlierFrom + 2 * j)
 
 -- how many jobs there are, and how many modules
 abbrev pub countOf : List ℕ → ℕ
