@@ -24,6 +24,24 @@ fn no_rule_changes_an_answer() {
     every_family(6, compare::search::compare_each_left_out);
 }
 
+/// How often the arrivals of random sheets bite, all compared with every order.
+fn arrivals_that_bite(sheets: usize, all: &[(&str, Rules)]) -> usize {
+    let mut random = Random::new(2_026);
+    (0..sheets).filter(|_| compare::search::compare_arrivals(&mut random, all)).count()
+}
+
+#[test]
+fn no_job_starts_before_its_arrival() {
+    let times = arrivals_that_bite(40_000, &[("no rule", Rules::default())]);
+    println!("{times} of 40,000 sheets have another plan without arrivals");
+    assert!(times > 20_000);
+}
+
+#[test]
+fn no_rule_changes_an_answer_where_jobs_arrive() {
+    assert!(arrivals_that_bite(4_000, &Rules::each_left_out()) > 2_000);
+}
+
 #[test]
 fn a_search_is_given_up_at_its_limit() {
     let list = families::all()[0].list(1, 9);

@@ -1,6 +1,10 @@
 //! The search in plain Rust against the library: the same order and end, whatever the memory and whichever rule is left out.
+use super::sheets;
 use crate::families::Family;
+use crate::lists::List;
 use crate::plain_search::{run_with, Found, Outcome, Rules, Tables};
+use crate::random::Random;
+use crate::reference::{planning, reading};
 use crate::{card_length, plan};
 
 const MEMORY: [usize; 4] = [0, 735, 4096, 1 << 16];
@@ -40,4 +44,34 @@ fn found(outcome: Outcome) -> Found {
         Outcome::GivenUp => panic!("given up without a limit"),
         Outcome::NoOrder => panic!("no family has circles"),
     }
+}
+
+/// Jobs that arrive when they may not start yet: the search, with all rules or with one left out, against every order. Tells whether the
+/// arrivals bite, which is to say that without them there is another plan.
+pub fn compare_arrivals(random: &mut Random, all: &[(&str, Rules)]) -> bool {
+    let sheet = sheets::good(random);
+    let last = random.pick(&[1, 3, 10, 40]);
+    let step = random.pick(&[1, 1, 2, 5]);
+    let list = List { name: String::new(), modules: sheet.modules, jobs: sheet.jobs };
+    let mut read = reading::read(&list.sheet()).expect("a good sheet");
+    let mut tables = Tables::of(&list);
+    let without = planning::best(&read);
+    for (j, job) in read.jobs.iter_mut().enumerate() {
+        let late = random.percent(60);
+        job.arrival = if late { (random.between(0, last) * step) as u32 } else { 0 };
+        tables.arrival[j] = job.arrival as u16;
+    }
+    let best = planning::best(&read);
+    let mut work = vec![0; random.pick(&MEMORY)];
+    for (left_out, rules) in all {
+        let found = found(run_with(&tables, &mut work, rules));
+        let order: Vec<usize> = found.order.iter().map(|job| usize::from(*job)).collect();
+        assert_eq!(
+            (u32::from(found.end), &order),
+            (best.end, &best.order),
+            "{read:?}, {left_out} left out, memory {}",
+            work.len()
+        );
+    }
+    (best.end, &best.order) != (without.end, &without.order)
 }

@@ -25,6 +25,7 @@ fn in_reference(job: &Job) -> reading::Job {
         minutes: job.minutes.into(),
         earlier: (0..32).filter(|i| job.earlier & 1 << i != 0).collect(),
         departure: job.departure.into(),
+        arrival: 0,
     }
 }
 

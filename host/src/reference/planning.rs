@@ -22,10 +22,14 @@ pub fn plan(bytes: &[u8], room: usize) -> Result<Vec<u8>, u32> {
     if room < 13 * sheet.jobs.len() + 8 {
         return Err(10);
     }
+    Ok(card(&best(&sheet).slots))
+}
+
+/// The plan of a sheet of which 1 to 9 do not fail.
+pub fn best(sheet: &Sheet) -> Finished {
     let mut best = None;
-    try_every_order(&sheet, &mut Vec::new(), &mut best);
-    let best = best.expect("jobs of which none precedes itself have an order");
-    Ok(card(&best.slots))
+    try_every_order(sheet, &mut Vec::new(), &mut best);
+    best.expect("jobs of which none precedes itself have an order")
 }
 
 /// Whether some job would have to end before itself, directly or through others.
@@ -48,9 +52,9 @@ fn some_job_precedes_itself(sheet: &Sheet) -> bool {
 }
 
 /// A finished list plan. The order of the fields is the tie rule: the earliest end, then the first order in the dictionary.
-struct Finished {
-    end: u32,
-    order: Vec<usize>,
+pub struct Finished {
+    pub end: u32,
+    pub order: Vec<usize>,
     slots: Vec<Slot>,
 }
 
@@ -79,7 +83,7 @@ fn try_every_order(sheet: &Sheet, placed: &mut Vec<Slot>, best: &mut Option<Fini
 fn next_slot(sheet: &Sheet, placed: &[Slot], job: usize) -> Slot {
     let wanted = &sheet.jobs[job];
     let waits = |slot: &&Slot| wanted.earlier.contains(&slot.job);
-    let mut start = placed.last().map_or(0, |slot| slot.start);
+    let mut start = placed.last().map_or(0, |slot| slot.start).max(wanted.arrival);
     start = start.max(placed.iter().filter(waits).map(|slot| slot.end).max().unwrap_or(0));
     loop {
         let mut free = [true; 64];

@@ -10,6 +10,8 @@ pub struct Job {
     /// The numbers of the jobs that must have ended first.
     pub earlier: Vec<usize>,
     pub departure: u32,
+    /// The first minute at which it may start; 0 of every job of a sheet.
+    pub arrival: u32,
 }
 
 /// A sheet that reads.
@@ -102,5 +104,6 @@ fn job(record: &[u8]) -> Job {
         minutes: number(&record[2..4]) as u32,
         earlier: (0..32).filter(|bit| earlier >> bit & 1 == 1).collect(),
         departure: number(&record[8..10]) as u32,
+        arrival: 0,
     }
 }
