@@ -21,11 +21,11 @@ static void check(int holds, const char *what)
 /* ---- a plan */
 
 static const uint8_t e1[] = {
-    0x41, 0x42, 0x43,                                           /* labels: A, B, C */
-    0x01, 0x01, 0x0A, 0x00, 0x00, 0x00, 0x00, 0x00, 0x1E, 0x00, /* 1 module for 10 minutes, departure 30 */
-    0x01, 0x02, 0x14, 0x00, 0x00, 0x00, 0x00, 0x00, 0x19, 0x00, /* 2 modules for 20 minutes, departure 25 */
-    0x01, 0x01, 0x0A, 0x00, 0x00, 0x00, 0x00, 0x00, 0x1E, 0x00, /* as the first */
-    0x03, 0x00, 0x00, 0x00, 0x03, 0x00, 0x02, 0x00              /* records from offset 3, 3 jobs, 2 modules */
+    0x41, 0x42, 0x43,                                                       /* labels: A, B, C */
+    0x01, 0x01, 0x0A, 0x00, 0x00, 0x00, 0x00, 0x00, 0x1E, 0x00, 0x00, 0x00, /* 1 module for 10 minutes, departure 30, arrival 0 */
+    0x01, 0x02, 0x14, 0x00, 0x00, 0x00, 0x00, 0x00, 0x19, 0x00, 0x00, 0x00, /* 2 modules for 20 minutes, departure 25, arrival 0 */
+    0x01, 0x01, 0x0A, 0x00, 0x00, 0x00, 0x00, 0x00, 0x1E, 0x00, 0x00, 0x00, /* as the first */
+    0x03, 0x00, 0x00, 0x00, 0x03, 0x00, 0x02, 0x00                          /* records from offset 3, 3 jobs, 2 modules */
 };
 
 static const char e1_lines[] = "plan 30 3 2\n"
@@ -100,6 +100,7 @@ static void read_and_write_e1(void)
 
     check(reading.refusal == DEPOT_DONE && reading.count == 3 && reading.modules == 2, "E1 has 3 jobs and 2 modules");
     check(reading.jobs[1].modules == 2 && reading.jobs[1].minutes == 20 && reading.jobs[1].departure == 25, "E1's job 1");
+    check(reading.jobs[1].arrival == 0, "E1's job 1 is there from the start");
     check(reading.jobs[1].label_len == 1 && reading.jobs[1].earlier == 0, "E1's job 1 waits for none");
     check(reading.jobs[3].minutes == 0, "places past the last job are 0");
     check(label.refusal == DEPOT_DONE && label.offset == 2 && label.length == 1, "the label of E1's job 2 is its byte 2");

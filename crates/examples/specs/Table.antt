@@ -21,10 +21,10 @@ e4 = sheet (job 1 1 (1 ∷ []) ∷ job 1 1 (0 ∷ []) ∷ []) 1
 abbrev pub sheetWith : List Job → ℕ → List ℕ
 sheetWith jobs N = sheetBytes (jobsIn jobs) (length jobs) (take (length jobs) (65 ∷ 66 ∷ 67 ∷ 68 ∷ [])) N
 
--- a job of a sheet: modules, minutes, the set of its earlier jobs, departure
+-- a job of a sheet: modules, minutes, the set of its earlier jobs, departure; its bus is there from minute 0
 abbrev pub entry : ℕ → ℕ → ℕ → ℕ → Job
 entry modules minutes earlier departure =
-    record { «label_len» = 1; modules = modules; minutes = minutes; earlier = earlier; departure = departure }
+    record { «label_len» = 1; modules = modules; minutes = minutes; earlier = earlier; departure = departure; arrival = 0 }
 
 -- E9's calls: "looks give 7 and 6; controller 0 claims 7, granted; 1 more, 17; controller 1 claims 3, granted; 1 more, 17"
 abbrev pub e9 : List (Call × Reply)
