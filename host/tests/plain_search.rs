@@ -31,7 +31,7 @@ fn arrivals_that_bite(sheets: usize, all: &[(&str, Rules)]) -> usize {
 }
 
 #[test]
-fn no_job_starts_before_its_arrival() {
+fn plans_with_arrivals_are_those_of_every_order() {
     let times = arrivals_that_bite(40_000, &[("no rule", Rules::default())]);
     println!("{times} of 40,000 sheets have another plan without arrivals");
     assert!(times > 20_000);
