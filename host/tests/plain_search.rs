@@ -20,6 +20,11 @@ fn order_and_end_are_the_library_s() {
 }
 
 #[test]
+fn order_and_end_are_the_library_s_where_jobs_arrive() {
+    every_family(8, compare::search::compare_arriving);
+}
+
+#[test]
 fn no_rule_changes_an_answer() {
     every_family(6, compare::search::compare_each_left_out);
 }

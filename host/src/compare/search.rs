@@ -1,6 +1,6 @@
 //! The search in plain Rust against the library: the same order and end, whatever the memory and whichever rule is left out.
 use super::sheets;
-use crate::families::Family;
+use crate::families::{Arrivals, Family};
 use crate::lists::List;
 use crate::plain_search::{run_with, Found, Outcome, Rules, Tables};
 use crate::random::Random;
@@ -21,8 +21,19 @@ pub fn compare_each_left_out(family: &Family, seed: u64) {
     compare_with(family, seed, n, &Rules::each_left_out());
 }
 
+/// Plans a list of the family with arrivals, of 2 to 9 jobs, both ways.
+pub fn compare_arriving(family: &Family, seed: u64) {
+    let n = (seed % 8) as usize + 2;
+    for arrivals in Arrivals::ALL {
+        compare_lists(&family.arriving(seed, n, arrivals), seed, &[("no rule", Rules::default())]);
+    }
+}
+
 fn compare_with(family: &Family, seed: u64, n: usize, all: &[(&str, Rules)]) {
-    let list = family.list(seed, n);
+    compare_lists(&family.list(seed, n), seed, all);
+}
+
+fn compare_lists(list: &List, seed: u64, all: &[(&str, Rules)]) {
     let n = list.jobs.len();
     let length = MEMORY[(seed % MEMORY.len() as u64) as usize];
     let mut card = vec![0; card_length(n)];
@@ -31,7 +42,7 @@ fn compare_with(family: &Family, seed: u64, n: usize, all: &[(&str, Rules)]) {
     plan(&list.sheet(), &mut card, &mut work).unwrap_or_else(|refusal| panic!("{}: {refusal}", about()));
     for (left_out, rules) in all {
         work.fill(0xA5);
-        let found = found(run_with(&Tables::of(&list), &mut work, rules));
+        let found = found(run_with(&Tables::of(list), &mut work, rules));
         assert_eq!(found.order, card[12 * n..13 * n], "{}, {left_out} left out", about());
         assert_eq!(found.end.to_le_bytes(), card[13 * n + 4..13 * n + 6], "{}, {left_out} left out", about());
         assert!(work.iter().all(|byte| *byte == 0), "{}, {left_out} left out", about());

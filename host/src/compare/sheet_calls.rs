@@ -146,7 +146,7 @@ impl Sheets {
     pub fn scrambled_reading(&mut self, times: usize) {
         for _ in 0..times {
             let sheet = sheets::good(&mut self.random);
-            let bytes = sheets::scrambled(&mut self.random, sheet);
+            let bytes = sheets::scrambled(&mut self.random, sheet.bytes());
             self.compare_reading(&bytes);
         }
     }

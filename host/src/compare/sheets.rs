@@ -108,13 +108,8 @@ pub fn put_fault(random: &mut Random, sheet: &mut Sheet, check: u32) {
     }
 }
 
-/// Some bytes of the sheet changed, no matter which.
-pub fn scrambled(random: &mut Random, sheet: Sheet) -> Vec<u8> {
-    scrambled_bytes(random, sheet.bytes())
-}
-
-/// The same of its bytes.
-pub fn scrambled_bytes(random: &mut Random, mut bytes: Vec<u8>) -> Vec<u8> {
+/// The sheet with some bytes changed, no matter which.
+pub fn scrambled(random: &mut Random, mut bytes: Vec<u8>) -> Vec<u8> {
     for _ in 0..random.between(1, 3) {
         let place = random.place(bytes.len());
         bytes[place] = if random.percent(50) { bytes[place] ^ (1 << random.place(8)) } else { random.word() as u8 };
