@@ -8,15 +8,15 @@ import struct
 
 from rows import numbers, settle, table
 
-MOST_JOBS, MOST_MODULES, LONGEST_SHEET = 20, 64, 528
-RECORD, TRAILER = struct.Struct('<BBHIH'), struct.Struct('<IHH')
-LONGEST_LABEL, LABEL_BYTES, MOST_MINUTES, LAST_DEPARTURE = 16, range(32, 127), 1440, 2880
+MOST_JOBS, MOST_MODULES, LONGEST_SHEET = 20, 64, 568
+RECORD, TRAILER = struct.Struct('<BBHIHH'), struct.Struct('<IHH')
+LONGEST_LABEL, LABEL_BYTES, MOST_MINUTES, LAST_DEPARTURE, LAST_ARRIVAL = 16, range(32, 127), 1440, 2880, 1440
 
 
 def faulty(job, n):
-    length, modules, minutes, earlier, departure = job
+    length, modules, minutes, earlier, departure, arrival = job
     return (not 1 <= length <= LONGEST_LABEL or not 1 <= modules <= 255 or not 1 <= minutes <= MOST_MINUTES
-            or earlier >= 2 ** n or departure > LAST_DEPARTURE)
+            or earlier >= 2 ** n or departure > LAST_DEPARTURE or arrival > LAST_ARRIVAL)
 
 
 def cut(jobs, labels):
@@ -80,7 +80,8 @@ def write(jobs, labels, modules, room=LONGEST_SHEET):
 
 def random_jobs(rng, n):
     return [(rng.choice([1, 16, rng.randint(1, 16)]), rng.randint(1, 255), rng.choice([1, 1440, rng.randint(1, 1440)]),
-             rng.randrange(2 ** n), rng.choice([0, 2880, rng.randint(0, 2880)])) for _ in range(n)]
+             rng.randrange(2 ** n), rng.choice([0, 2880, rng.randint(0, 2880)]),
+             rng.choice([0, 1440, rng.randint(0, 1440)])) for _ in range(n)]
 
 
 def try_bytes(sheet):
@@ -157,7 +158,7 @@ rows-right = refl
 def spaces():
     """One job whose label has a space inside, first, last, and alone; two jobs with one where their labels meet."""
     for lengths, labels in [([7], b'N 417 B'), ([2], b' B'), ([2], b'A '), ([1], b' '), ([2, 1], b'A B'), ([1, 2], b'A B')]:
-        records = b''.join(RECORD.pack(length, 1, 10, 0, 30) for length in lengths)
+        records = b''.join(RECORD.pack(length, 1, 10, 0, 30, 0) for length in lengths)
         yield labels + records + TRAILER.pack(len(labels), len(lengths), 2)
 
 

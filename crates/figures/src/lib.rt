@@ -10,7 +10,7 @@ pub const MOST_MODULES: usize = 64;
 pub const MOST_MINUTES: usize = 1440;
 
 // The minute by which every bus has arrived.
-pub const LAST_ARRIVAL: usize = 1440;
+pub const LAST_ARRIVAL: u16 = 1440;
 
 // The minute by which every list plan has ended: the last arrival, and then every job one after another.
 pub const LAST_END: u16 = 30240;

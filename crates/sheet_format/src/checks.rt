@@ -42,7 +42,7 @@ pub fn faulty(count: usize, job: Job) -> bool
     let modules = outside(1, WIDEST_JOB, job.modules as usize);
     let minutes = outside(1, MOST_MINUTES, job.minutes as usize);
     let departure = outside(0, LAST_DEPARTURE, job.departure as usize);
-    let arrival = outside(0, LAST_ARRIVAL, job.arrival as usize);
+    let arrival = outside(0, LAST_ARRIVAL as usize, job.arrival as usize);
     let earlier = job.earlier >> count != 0;
     either(
         length,
