@@ -34,8 +34,8 @@ extern "C" {
 /* ---- the version ------------------------------------------------------------------------------------------------------------- */
 
 /* Of this header, and as a number: major * 1000000 + minor * 1000 + patch. Bytes of sheets and cards may differ between minors. */
-#define DEPOT_VERSION "0.4.0"
-#define DEPOT_VERSION_NUMBER 4000
+#define DEPOT_VERSION "0.5.0"
+#define DEPOT_VERSION_NUMBER 5000
 
 /*
  * The number of the library that is linked. Compare it with DEPOT_VERSION_NUMBER at the start, so that header and library belong
@@ -51,10 +51,10 @@ uint32_t depot_version(void);
  */
 enum depot_refusal {
     DEPOT_DONE = 0,
-    DEPOT_SHEET_LENGTH = 1,           /* the sheet has fewer than 8 or more than 528 bytes */
+    DEPOT_SHEET_LENGTH = 1,           /* the sheet has fewer than 8 or more than 568 bytes */
     DEPOT_TOO_MANY_JOBS = 2,          /* there are more than 20 jobs */
     DEPOT_CABINET_SIZE = 3,           /* the cabinet has no modules or more than 64 */
-    DEPOT_RECORD_OFFSET = 4,          /* the record offset plus 10 for each job plus 8 is not the sheet's length */
+    DEPOT_RECORD_OFFSET = 4,          /* the record offset plus 12 for each job plus 8 is not the sheet's length */
     DEPOT_RECORD_FIELD = 5,           /* some record has a field outside its range, or a bit for an earlier job that there is not */
     DEPOT_LABEL_LENGTHS = 6,          /* the label lengths do not add up to the label bytes there are */
     DEPOT_LABEL_BYTE = 7,             /* some label has a byte below 32 or above 126, or begins or ends with a space */
@@ -80,9 +80,9 @@ enum depot_refusal {
 #define DEPOT_LONGEST_LABEL 16
 
 #define DEPOT_SHORTEST_SHEET 8
-#define DEPOT_LONGEST_SHEET 528
+#define DEPOT_LONGEST_SHEET 568
 /* the sheet of so many jobs with so many label bytes in all */
-#define DEPOT_SHEET_BYTES(jobs, label_bytes) ((size_t)10 * (jobs) + (label_bytes) + 8)
+#define DEPOT_SHEET_BYTES(jobs, label_bytes) ((size_t)12 * (jobs) + (label_bytes) + 8)
 
 #define DEPOT_LONGEST_CARD 268
 /* the card of so many jobs */
@@ -122,7 +122,8 @@ struct depot_job {
     uint8_t modules;    /* that it needs, 1 to 255 */
     uint16_t minutes;   /* 1 to 1440 */
     uint32_t earlier;   /* bit i: job i must have ended first */
-    uint16_t departure; /* a minute counted from the plan's start, 0 to 2880 */
+    uint16_t departure; /* a minute counted from the plan's start, 0 to 2880; it may lie before the arrival */
+    uint16_t arrival;   /* the minute from which on it may start, 0 to 1440 */
 };
 
 /* What reading answers. */

@@ -16,7 +16,7 @@ DEPOT = ROOT / 'host/target/release/depot'
 SEEN = ROOT / 'target/pictures'
 
 HEADER = 'cabinet,64\nlabel,modules,minutes,after,departure\n'
-# lists that are hard to draw: long labels, short and thin bars, late jobs, no jobs, the longest plan
+# lists that are hard to draw: long labels, short and thin bars, late jobs, no jobs, the longest plan, many arrivals
 ODD = {
     'none': HEADER,
     'longest': HEADER + 'WWWWWWWWWWWWWWWW,64,1440,,2880\n' * 20,
@@ -24,6 +24,7 @@ ODD = {
     'markup': HEADER + '"<b>&""\'x\'",60,30,,10\n</svg>,9,20,,90\n',
     'fleet': HEADER + ''.join(f'N  {400 + i} B,{1 + 3 * i % 30},{20 + 31 * i % 200},"N  {399 + i} B",{9 * i}\n' for i in range(1, 12)).replace('"N  400 B"', ''),
     'thin': HEADER + ''.join(f'J{i},3,{60 + 7 * i},,{100 + i}\n' for i in range(20)),
+    'road': HEADER.replace('departure', 'departure,arrival') + ''.join(f'BUS NUMBER {i},9,{60 + 7 * i},,{300 + i},{9 * i}\n' for i in range(20)),
 }
 
 MEASURE = '''<script>

@@ -13,8 +13,8 @@ PROGRAM = ROOT / 'target/bin/print_plan'
 CASES = ROOT / 'host/tests/golden/printed.txt'
 
 
-def record(label=1, modules=1, minutes=10, earlier=0, departure=30):
-    return struct.pack('<BBHIH', label, modules, minutes, earlier, departure)
+def record(label=1, modules=1, minutes=10, earlier=0, departure=30, arrival=0):
+    return struct.pack('<BBHIHH', label, modules, minutes, earlier, departure, arrival)
 
 
 def sheet(labels, records, modules, offset=None):
@@ -23,7 +23,7 @@ def sheet(labels, records, modules, offset=None):
 
 
 E1 = bytes.fromhex(
-    '414243 01010A0000000000 1E00 0102140000000000 1900 01010A0000000000 1E00 0300000003000200')
+    '414243 01010A0000000000 1E00 0000 0102140000000000 1900 0000 01010A0000000000 1E00 0000 0300000003000200')
 LONGEST = sheet(b'L' * 320, [record(label=16, modules=64, minutes=1440, departure=2880)] * 20, 64)
 
 PLANS = [
@@ -50,6 +50,14 @@ PLANS = [
      'plan 10 2 2\n'
      '0 10 -20 0000000000000001 N 417 B\n'
      '0 10 -20 0000000000000002 N  9\n'),
+    ('E1 with A on the road until minute 25', sheet(b'ABC', [record(arrival=25), record(modules=2, minutes=20, departure=25), record()], 2),
+     'plan 35 3 2\n'
+     '25 35 5 0000000000000001 A\n'
+     '0 20 -5 0000000000000003 B\n'
+     '25 35 5 0000000000000002 C\n'),
+    ('a departure before the arrival', sheet(b'A', [record(departure=0, arrival=1440)], 1),
+     'plan 1450 1 1\n'
+     '1440 1450 1450 0000000000000001 A\n'),
     ('the lowest lateness, and all of 64 modules',
      sheet(b'!~', [record(minutes=1, departure=2880), record(modules=64, minutes=2, departure=0)], 64),
      'plan 3 2 64\n'
@@ -67,7 +75,7 @@ PLANS = [
 REFUSED = [
     (1, 'nothing', b''),
     (1, '7 bytes', bytes(7)),
-    (1, '529 bytes', LONGEST + b'\0'),
+    (1, '569 bytes', LONGEST + b'\0'),
     (1, 'a byte before the longest sheet', b'L' + LONGEST),
     (1, '100000 bytes', bytes(100000)),
     (2, '21 jobs', sheet(b'A' * 21, [record()] * 21, 1)),
@@ -76,6 +84,7 @@ REFUSED = [
     (4, 'an offset of one more', sheet(b'A', [record()], 1, offset=2)),
     (5, 'no minutes', sheet(b'A', [record(minutes=0)], 1)),
     (5, '1441 minutes', sheet(b'A', [record(minutes=1441)], 1)),
+    (5, 'arrival 1441', sheet(b'A', [record(arrival=1441)], 1)),
     (5, 'an earlier job that is not there', sheet(b'A', [record(earlier=2)], 1)),
     (6, 'a label byte too few', sheet(b'A', [record(label=2)], 1)),
     (5, 'a label of 17 bytes', sheet(b'A' * 17, [record(label=17)], 1)),

@@ -2,21 +2,23 @@
 """A model of job sheets, written from docs/REQUIREMENTS.md alone: reading, labels, writing and their refusals.
 
 Run as a program it tries the round trip, both ways, on random sheets, sheets at the edges and damaged sheets, and writes
-rows, a sheet and what is read of it, that the checker computes by the definitions; with --check it compares them instead."""
+rows, a sheet and what is read of it, that the checker computes by the definitions; with --check it compares them instead. Sheets of the
+layout before F-2 are put into the layout of today and read the same."""
 import random
 import struct
 
 from rows import numbers, settle, table
 
-MOST_JOBS, MOST_MODULES, LONGEST_SHEET = 20, 64, 528
-RECORD, TRAILER = struct.Struct('<BBHIH'), struct.Struct('<IHH')
-LONGEST_LABEL, LABEL_BYTES, MOST_MINUTES, LAST_DEPARTURE = 16, range(32, 127), 1440, 2880
+MOST_JOBS, MOST_MODULES, LONGEST_SHEET = 20, 64, 568
+RECORD, TRAILER = struct.Struct('<BBHIHH'), struct.Struct('<IHH')
+OLDER_RECORD, LONGEST_OLDER = struct.Struct('<BBHIH'), 528
+LONGEST_LABEL, LABEL_BYTES, MOST_MINUTES, LAST_DEPARTURE, LAST_ARRIVAL = 16, range(32, 127), 1440, 2880, 1440
 
 
 def faulty(job, n):
-    length, modules, minutes, earlier, departure = job
+    length, modules, minutes, earlier, departure, arrival = job
     return (not 1 <= length <= LONGEST_LABEL or not 1 <= modules <= 255 or not 1 <= minutes <= MOST_MINUTES
-            or earlier >= 2 ** n or departure > LAST_DEPARTURE)
+            or earlier >= 2 ** n or departure > LAST_DEPARTURE or arrival > LAST_ARRIVAL)
 
 
 def cut(jobs, labels):
@@ -40,20 +42,34 @@ def content_refusal(jobs, labels):
     return 7 if any(wrong(label) for label in cut(jobs, labels)) else 0
 
 
-def read(sheet):
+def read(sheet, record=RECORD, longest=LONGEST_SHEET):
     """(refusal, jobs, N)"""
-    if not TRAILER.size <= len(sheet) <= LONGEST_SHEET:
+    if not TRAILER.size <= len(sheet) <= longest:
         return 1, [], 0
     offset, n, modules = TRAILER.unpack(sheet[-TRAILER.size:])
     if n > MOST_JOBS:
         return 2, [], 0
     if not 1 <= modules <= MOST_MODULES:
         return 3, [], 0
-    if offset + RECORD.size * n + TRAILER.size != len(sheet):
+    if offset + record.size * n + TRAILER.size != len(sheet):
         return 4, [], 0
-    jobs = [RECORD.unpack_from(sheet, offset + RECORD.size * i) for i in range(n)]
+    jobs = [record.unpack_from(sheet, offset + record.size * i) for i in range(n)]
+    if record is OLDER_RECORD:
+        jobs = [(*job, 0) for job in jobs]
     refusal = content_refusal(jobs, sheet[:offset])
     return (refusal, [], 0) if refusal else (0, jobs, modules)
+
+
+def read_older(sheet):
+    return read(sheet, OLDER_RECORD, LONGEST_OLDER)
+
+
+def relaid(sheet):
+    """F-2.4: a sheet of before in the layout of today, with arrivals 0."""
+    offset, n, _ = TRAILER.unpack(sheet[-TRAILER.size:])
+    places = [offset + OLDER_RECORD.size * i for i in range(n)]
+    records = [sheet[at:at + OLDER_RECORD.size] + bytes(2) for at in places]
+    return sheet[:offset] + b''.join(records) + sheet[-TRAILER.size:]
 
 
 def label(sheet, job):
@@ -80,7 +96,8 @@ def write(jobs, labels, modules, room=LONGEST_SHEET):
 
 def random_jobs(rng, n):
     return [(rng.choice([1, 16, rng.randint(1, 16)]), rng.randint(1, 255), rng.choice([1, 1440, rng.randint(1, 1440)]),
-             rng.randrange(2 ** n), rng.choice([0, 2880, rng.randint(0, 2880)])) for _ in range(n)]
+             rng.randrange(2 ** n), rng.choice([0, 2880, rng.randint(0, 2880)]),
+             rng.choice([0, 1440, rng.randint(0, 1440)])) for _ in range(n)]
 
 
 def try_bytes(sheet):
@@ -126,6 +143,25 @@ def try_sheets(rng):
     assert seen == set(range(8)), seen
 
 
+def older_sheet(rng, n):
+    """A sheet of random_sheet as it was before F-2."""
+    sheet = random_sheet(rng, n)
+    offset, records = TRAILER.unpack(sheet[-TRAILER.size:])[0], sheet[:-TRAILER.size]
+    places = [offset + RECORD.size * i for i in range(n)]
+    return sheet[:offset] + b''.join(records[at:at + OLDER_RECORD.size] for at in places) + sheet[-TRAILER.size:]
+
+
+def try_older(rng):
+    seen = set()
+    for _ in range(4000):
+        sheet = older_sheet(rng, rng.choice([0, 1, 20, rng.randint(0, 20)]))
+        sheet = rng.choice([sheet, damage(rng, sheet)])
+        if read_older(sheet)[0] not in range(1, 5):
+            assert read(relaid(sheet)) == read_older(sheet)
+            seen.add(read_older(sheet)[0])
+    assert seen == {0, 5, 6, 7}, seen
+
+
 def row(sheet):
     """The sheet; the refusal, n, N and the jobs' figures; for each job and one number past them, the label call's answers."""
     refusal, jobs, modules = read(sheet)
@@ -157,7 +193,7 @@ rows-right = refl
 def spaces():
     """One job whose label has a space inside, first, last, and alone; two jobs with one where their labels meet."""
     for lengths, labels in [([7], b'N 417 B'), ([2], b' B'), ([2], b'A '), ([1], b' '), ([2, 1], b'A B'), ([1, 2], b'A B')]:
-        records = b''.join(RECORD.pack(length, 1, 10, 0, 30) for length in lengths)
+        records = b''.join(RECORD.pack(length, 1, 10, 0, 30, 0) for length in lengths)
         yield labels + records + TRAILER.pack(len(labels), len(lengths), 2)
 
 
@@ -176,10 +212,46 @@ def samples(rng):
     return HEAD + table('rows', 'Row', [row(s) for refusal in chosen for s in chosen[refusal]]) + FOOT
 
 
+OLDER_HEAD = """-- Random sheets of the layout before F-2, whole and damaged, and what tests/sheet_model.py, which reads the document on its own, says
+-- of them. Written by that model: its rows are compared with these by the gate.
+use mathlib.Core.Path.{_≡_, refl}
+use mathlib.Core.List.{List, [], _∷_}
+use Rattle.counting.specs.Counting.{sum, any, joined}
+use Rattle.checking.specs.Checking.{firstFailing}
+use Rattle.words.specs.Words.{numberAt}
+use Rattle.sheet_format.specs.Format.{recordAt}
+use Rattle.sheet_format.specs.Checks.{outside, faulty, wrongLabel}
+use Rattle.older_sheets.specs.Older as older
+use Rattle.older_sheets.specs.Relaid.{relaid}
+use Rattle.older_sheets.proofs.Rows.{Row, row, found, told}
+"""
+OLDER_FOOT = """
+pub rows-right : found rows ≡ told rows
+unfolding
+    rows found told relaid firstFailing outside faulty older.faulty wrongLabel any sum joined recordAt older.recordAt numberAt
+rows-right = refl
+"""
+
+
+def older_samples(rng):
+    """Two rows of every answer of a sheet that is laid out: the sheet, the same in the layout of today, and the number that both get."""
+    chosen = {refusal: [] for refusal in (0, 5, 6, 7)}
+    while any(len(sheets) < 2 for sheets in chosen.values()):
+        sheet = older_sheet(rng, rng.randint(1, 2))
+        for s in [sheet, damage(rng, sheet)]:
+            sheets = chosen.get(read_older(s)[0], [])
+            if len(sheets) < 2:
+                sheets.append(s)
+    rows = [f'row ({numbers(s)})\n    ({numbers(relaid(s))}) {refusal}' for refusal in chosen for s in chosen[refusal]]
+    return OLDER_HEAD + table('rows', 'Row', rows) + OLDER_FOOT
+
+
 def main():
     rng = random.Random(1)
     try_sheets(rng)
     settle('sheet', samples(rng))
+    try_older(rng)
+    settle('older_sheets', older_samples(rng))
 
 
 if __name__ == '__main__':

@@ -21,11 +21,11 @@ static void check(int holds, const char *what)
 /* ---- a plan */
 
 static const uint8_t e1[] = {
-    0x41, 0x42, 0x43,                                           /* labels: A, B, C */
-    0x01, 0x01, 0x0A, 0x00, 0x00, 0x00, 0x00, 0x00, 0x1E, 0x00, /* 1 module for 10 minutes, departure 30 */
-    0x01, 0x02, 0x14, 0x00, 0x00, 0x00, 0x00, 0x00, 0x19, 0x00, /* 2 modules for 20 minutes, departure 25 */
-    0x01, 0x01, 0x0A, 0x00, 0x00, 0x00, 0x00, 0x00, 0x1E, 0x00, /* as the first */
-    0x03, 0x00, 0x00, 0x00, 0x03, 0x00, 0x02, 0x00              /* records from offset 3, 3 jobs, 2 modules */
+    0x41, 0x42, 0x43,                                                       /* labels: A, B, C */
+    0x01, 0x01, 0x0A, 0x00, 0x00, 0x00, 0x00, 0x00, 0x1E, 0x00, 0x00, 0x00, /* 1 module for 10 minutes, departure 30, arrival 0 */
+    0x01, 0x02, 0x14, 0x00, 0x00, 0x00, 0x00, 0x00, 0x19, 0x00, 0x00, 0x00, /* 2 modules for 20 minutes, departure 25, arrival 0 */
+    0x01, 0x01, 0x0A, 0x00, 0x00, 0x00, 0x00, 0x00, 0x1E, 0x00, 0x00, 0x00, /* as the first */
+    0x03, 0x00, 0x00, 0x00, 0x03, 0x00, 0x02, 0x00                          /* records from offset 3, 3 jobs, 2 modules */
 };
 
 static const char e1_lines[] = "plan 30 3 2\n"
@@ -89,6 +89,24 @@ static void plan_e1(void)
     fputs(text, stdout);
 }
 
+/* E1 with its first bus on the road until minute 25: it starts then, and the third, which comes behind it in the order, too. */
+static void plan_e1_on_the_road(void)
+{
+    static const uint8_t order[] = {1, 0, 2};
+    uint8_t sheet[sizeof e1], card[DEPOT_LONGEST_CARD];
+    memcpy(sheet, e1, sizeof e1);
+    sheet[3 + 10] = 25;
+
+    check(depot_read(sheet, sizeof sheet).jobs[0].arrival == 25, "the arrival stands behind the departure");
+    check(depot_plan(sheet, sizeof sheet, card, sizeof card, NULL, 0) == DEPOT_DONE, "E1 with a bus on the road is planned");
+    check(memcmp(card + 36, order, sizeof order) == 0, "the order is 1, 0, 2");
+    check(number(card, 2) == 25 && number(card + 12, 2) == 0 && number(card + 24, 2) == 25, "the starts are 25, 0 and 25");
+    check(number(card + 43, 2) == 35, "the plan ends at 35");
+    sheet[3 + 10] = 0xA1;
+    sheet[3 + 11] = 0x05;
+    check(depot_plan(sheet, sizeof sheet, card, sizeof card, NULL, 0) == DEPOT_RECORD_FIELD, "an arrival of 1441 is refused");
+}
+
 /* ---- job sheets */
 
 static void read_and_write_e1(void)
@@ -100,6 +118,7 @@ static void read_and_write_e1(void)
 
     check(reading.refusal == DEPOT_DONE && reading.count == 3 && reading.modules == 2, "E1 has 3 jobs and 2 modules");
     check(reading.jobs[1].modules == 2 && reading.jobs[1].minutes == 20 && reading.jobs[1].departure == 25, "E1's job 1");
+    check(reading.jobs[1].arrival == 0, "E1's job 1 is there from the start");
     check(reading.jobs[1].label_len == 1 && reading.jobs[1].earlier == 0, "E1's job 1 waits for none");
     check(reading.jobs[3].minutes == 0, "places past the last job are 0");
     check(label.refusal == DEPOT_DONE && label.offset == 2 && label.length == 1, "the label of E1's job 2 is its byte 2");
@@ -168,6 +187,7 @@ int main(void)
     check(sizeof(struct depot_job) == 12 && sizeof(struct depot_reading) == 264, "a job and a reading have the library's sizes");
     check(sizeof(struct depot_desk) == 104, "a desk has the library's size");
     plan_e1();
+    plan_e1_on_the_road();
     read_and_write_e1();
     claim_and_hand_back();
     return failures != 0;

@@ -24,6 +24,52 @@ impl Family {
         let mut random = Random::named(seed, &self.name);
         List { name: format!("{}#{seed}", self.name), modules: self.modules, jobs: (self.make)(&mut random, n) }
     }
+
+    /// The same list with buses that are on the road at the start.
+    pub fn arriving(&self, seed: u64, n: usize, arrivals: Arrivals) -> List {
+        let mut list = self.list(seed, n);
+        let mut random = Random::named(seed, &format!("{} {}", self.name, arrivals.name()));
+        let end = likely_end(&list);
+        match arrivals {
+            Arrivals::Waves => list.jobs.iter_mut().for_each(|job| job.arrival = random.pick(&[0, end / 4, end / 2])),
+            Arrivals::Road => {
+                let mut places: Vec<usize> = (0..n).collect();
+                random.shuffle(&mut places);
+                for place in &places[n.div_ceil(2)..] {
+                    list.jobs[*place].arrival = random.between(0, end.into()) as u16;
+                }
+            }
+        }
+        list.name = format!("{}_{}", list.name, arrivals.name());
+        list
+    }
+}
+
+/// How the jobs of a list arrive.
+#[derive(Clone, Copy, PartialEq, Eq)]
+pub enum Arrivals {
+    /// In three waves: at the start, and after a quarter and a half of the likely end.
+    Waves,
+    /// Half of the jobs are there at the start, the others come at any minute up to the likely end.
+    Road,
+}
+
+impl Arrivals {
+    pub const ALL: [Arrivals; 2] = [Arrivals::Waves, Arrivals::Road];
+
+    pub fn name(self) -> &'static str {
+        match self {
+            Arrivals::Waves => "waves",
+            Arrivals::Road => "road",
+        }
+    }
+}
+
+/// A minute before which no plan of the list ends, by its area and its longest job, if that is no more than the last arrival there is.
+fn likely_end(list: &List) -> u16 {
+    let area: u32 = list.jobs.iter().map(|job| u32::from(job.modules) * u32::from(job.minutes)).sum();
+    let longest = list.jobs.iter().map(|job| job.minutes.into()).max().unwrap_or(0);
+    area.div_ceil(list.modules.into()).max(longest).min(1440) as u16
 }
 
 type Figures = RangeInclusive<u32>;
@@ -189,6 +235,21 @@ pub fn all() -> Vec<Family> {
         add("pairs", modules, "", Box::new(independent(1..=1, 50..=99)));
     }
     families
+}
+
+#[test]
+fn arrivals_of_lists() {
+    for family in all() {
+        let list = family.list(1, 14);
+        let end = likely_end(&list);
+        let waves = family.arriving(1, 14, Arrivals::Waves);
+        assert!(waves.jobs.iter().all(|job| [0, end / 4, end / 2].contains(&job.arrival)));
+        let road = family.arriving(1, 14, Arrivals::Road);
+        assert!(road.jobs.iter().filter(|job| job.arrival == 0).count() >= 7);
+        assert!(road.jobs.iter().all(|job| job.arrival <= end) && end <= 1440);
+        let without = |list: &List| list.jobs.iter().map(|job| Job { arrival: 0, ..*job }).collect::<Vec<_>>();
+        assert!(without(&waves) == list.jobs && without(&road) == list.jobs);
+    }
 }
 
 #[test]

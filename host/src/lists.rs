@@ -14,10 +14,10 @@ impl List {
         Sheet::of(self.modules, self.jobs.clone()).bytes()
     }
 
-    /// The list as text: `name n N`, then a line `modules minutes earlier-jobs-in-hexadecimal` for each job.
+    /// The list as text: `name n N`, then a line `modules minutes earlier-jobs-in-hexadecimal arrival` for each job.
     pub fn text(&self) -> String {
         let head = format!("{} {} {}\n", self.name, self.jobs.len(), self.modules);
-        let line = |job: &Job| format!("{} {} {:x}\n", job.modules, job.minutes, job.earlier);
+        let line = |job: &Job| format!("{} {} {:x} {}\n", job.modules, job.minutes, job.earlier, job.arrival);
         head + &self.jobs.iter().map(line).collect::<String>()
     }
 }
@@ -30,7 +30,7 @@ pub fn read(text: &str) -> Result<Vec<List>, String> {
         let (mut list, count) = head(line).ok_or_else(|| wrong(number, "expected 'name n N'"))?;
         for _ in 0..count {
             let (number, line) = lines.next().ok_or_else(|| wrong(number, "the list has fewer jobs than it says"))?;
-            list.jobs.push(job(line).ok_or_else(|| wrong(number, "expected 'modules minutes earlier-jobs'"))?);
+            list.jobs.push(job(line).ok_or_else(|| wrong(number, "expected 'modules minutes earlier-jobs arrival'"))?);
         }
         lists.push(list);
     }
@@ -49,12 +49,22 @@ fn head(line: &str) -> Option<(List, usize)> {
     Some((List { name, modules, jobs: Vec::new() }, count))
 }
 
+/// A job; its arrival may be left out.
 fn job(line: &str) -> Option<Job> {
     let mut words = line.split_whitespace();
     Some(Job {
         modules: words.next()?.parse().ok()?,
         minutes: words.next()?.parse().ok()?,
         earlier: u32::from_str_radix(words.next()?, 16).ok()?,
+        arrival: words.next().map_or(Some(0), |word| word.parse().ok())?,
         ..Job::default()
     })
+}
+
+#[test]
+fn an_arrival_may_be_left_out() {
+    let lists = read("two 2 4\n1 5 0\n3 7 1 90\n").unwrap();
+    assert_eq!((lists[0].jobs[0].arrival, lists[0].jobs[1].arrival), (0, 90));
+    assert_eq!(read(&lists[0].text()).unwrap()[0].jobs, lists[0].jobs);
+    assert!(read("two 1 4\n1 5 0 x\n").is_err());
 }

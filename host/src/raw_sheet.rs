@@ -2,13 +2,18 @@
 use crate::random::Random;
 use crate::Job;
 
-fn record(job: &Job) -> [u8; 10] {
-    let mut bytes = [0; 10];
+/// How many bytes a record has, and how many one of the older layout, which has no arrival.
+const RECORD: usize = 12;
+const OLDER_RECORD: usize = 10;
+
+fn record(job: &Job) -> [u8; RECORD] {
+    let mut bytes = [0; RECORD];
     bytes[0] = job.label_len;
     bytes[1] = job.modules;
     bytes[2..4].copy_from_slice(&job.minutes.to_le_bytes());
     bytes[4..8].copy_from_slice(&job.earlier.to_le_bytes());
     bytes[8..10].copy_from_slice(&job.departure.to_le_bytes());
+    bytes[10..12].copy_from_slice(&job.arrival.to_le_bytes());
     bytes
 }
 
@@ -44,8 +49,17 @@ impl Sheet {
     }
 
     pub fn bytes(&self) -> Vec<u8> {
+        self.with_records_of(RECORD)
+    }
+
+    /// The same in the older layout, without arrivals.
+    pub fn older_bytes(&self) -> Vec<u8> {
+        self.with_records_of(OLDER_RECORD)
+    }
+
+    fn with_records_of(&self, length: usize) -> Vec<u8> {
         let mut bytes = self.labels.clone();
-        self.jobs.iter().for_each(|job| bytes.extend(record(job)));
+        self.jobs.iter().for_each(|job| bytes.extend(&record(job)[..length]));
         bytes.extend(self.offset.to_le_bytes());
         bytes.extend(self.count.to_le_bytes());
         bytes.extend(self.modules.to_le_bytes());

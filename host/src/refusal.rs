@@ -32,7 +32,7 @@ use Refusal::*;
 
 /// Every refusal in the order of the numbers, in plain words.
 const IN_WORDS: [(Refusal, &str); 20] = [
-    (SheetLength, "the sheet has fewer than 8 or more than 528 bytes"),
+    (SheetLength, "the sheet has fewer than 8 or more than 568 bytes"),
     (TooManyJobs, "there are more than 20 jobs"),
     (CabinetSize, "the cabinet has no modules or more than 64"),
     (RecordOffset, "the records do not lie where the trailer says"),

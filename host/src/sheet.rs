@@ -15,6 +15,8 @@ pub struct Job {
     pub earlier: u32,
     /// The minute of its departure, counted from the plan's start, 0 to 2880.
     pub departure: u16,
+    /// The minute of its arrival, before which it does not start, 0 to 1440.
+    pub arrival: u16,
 }
 
 /// What a sheet says: its jobs in order, and the modules in the cabinet.

@@ -43,6 +43,23 @@ fn fields() {
 }
 
 #[test]
+fn arrivals() {
+    let fault = |start: &str, word: &str, allowed: &str| {
+        let list = format!("{start}cabinet,16\nlabel,modules,minutes,departure,arrival\nA,1,10,30,{word}\n");
+        let line = if start.is_empty() { 3 } else { 4 };
+        assert_eq!(faults(list.as_bytes()), [format!("line {line}, column 5 (arrival): found '{word}'; allowed: {allowed}")]);
+    };
+    for word in ["1441", "x", "-1", "1.5"] {
+        fault("", word, "a whole number from 0 to 1440");
+    }
+    fault("", "20:30", "a minute from 0 to 1440; a time of day only behind a line 'start,hh:mm'");
+    for word in ["24:00", "5:3", "21:01+1", "20:00+0", "05:30+2"] {
+        let allowed = "a minute from 0 to 1440, or a time hh:mm (hh:mm+1 on the next day) within 24 hours from the start";
+        fault("start,21:00\n", word, allowed);
+    }
+}
+
+#[test]
 fn times_of_day() {
     let allowed = "a minute from 0 to 2880, or a time hh:mm (hh:mm+1 on the next day) within 48 hours from the start";
     for word in ["24:00", "5:3", "05:30+3", "20:00+0", "21:01+2"] {
@@ -110,10 +127,12 @@ fn the_cabinet() {
 
 #[test]
 fn columns() {
-    let all = "the columns label, modules, minutes, after, departure";
+    let all = "the columns label, modules, minutes, after, departure, arrival";
     let unknown = faults(b"cabinet,4\nlabel,modules,minutes,departure,price\nA,1,10,30\n");
     assert_eq!(unknown, [format!("line 2, column 5 (header): found 'price'; allowed: {all}")]);
-    let needed = "a header line with label, modules, minutes, departure and, where jobs wait for others, after";
+    let needed =
+        "a header line with label, modules, minutes, departure; after where jobs wait for others; arrival where buses are \
+                  still on the road";
     for name in ["label", "modules", "minutes", "departure"] {
         let header = ["label", "modules", "minutes", "departure"].into_iter().filter(|other| *other != name);
         let list = format!("cabinet,4\n{}\nA,1,10\n", header.collect::<Vec<_>>().join(","));
@@ -122,7 +141,8 @@ fn columns() {
     let twice = faults(b"cabinet,4\nlabel,modules,minutes,departure,Label\n");
     assert_eq!(twice, ["line 2, column 5 (Label): found a column that stands twice; allowed: each column once"]);
     let no_header = faults(b"cabinet,4\nA,1,10,,30\nB,1,10,,30\n");
-    let header = "line 2: found 'A,1,10,,30'; allowed: a header line before the jobs, as label,modules,minutes,after,departure";
+    let header =
+        "line 2: found 'A,1,10,,30'; allowed: a header line before the jobs, as label,modules,minutes,after,departure,arrival";
     assert_eq!(no_header, [header]);
     row("A,1,10,,30,extra", "line 3, column 6 (no column): found 'extra' behind the last column; allowed: 5 fields");
     let quotes = "a field as it is, or all of it in double quotes, with a double quote inside written twice";
@@ -142,7 +162,7 @@ fn whole_lists() {
     assert_eq!(faults(many.as_bytes()), ["line 23: found job 21 of 21; allowed: up to 20 jobs"]);
     let no_text = [HEAD.as_bytes(), b"A,1,10,,30\n\xff\xfe,1,10,,30\n"].concat();
     assert_eq!(faults(&no_text), ["line 4: found bytes that are no text; allowed: text in UTF-8"]);
-    let header = "found no header line; allowed: a line with the columns label,modules,minutes,after,departure";
+    let header = "found no header line; allowed: a line with the columns label,modules,minutes,after,departure,arrival";
     assert_eq!(faults(b"cabinet,4\n"), [format!("line 1: {header}")]);
     assert_eq!(faults(b"").len(), 2);
     let several = faults(format!("{HEAD}A,0,0,Z,9999\n,1,10,,30\n").as_bytes());

@@ -10,7 +10,7 @@ use depot_host::{card_length, plan, Card};
 use std::path::Path;
 use std::{env, fs};
 
-const EXAMPLES: [&str; 3] = ["small-depot", "mixed-night", "hard-night"];
+const EXAMPLES: [&str; 4] = ["small-depot", "mixed-night", "hard-night", "on-the-road"];
 /// The one whose search takes a while.
 const HARD: &str = "hard-night";
 const SCRIPT: &str = "examples/shared-feeder.desk";
@@ -71,8 +71,8 @@ fn plans_and_pictures() {
         let drawn = fs::read(&svg).unwrap();
         same(&picture, &drawn);
         let page = fs::read_to_string(&html).unwrap();
-        if name == "mixed-night" {
-            same("host/tests/golden/plan-mixed-night.html", page.as_bytes());
+        if ["mixed-night", "on-the-road"].contains(&name) {
+            same(&format!("host/tests/golden/plan-{name}.html"), page.as_bytes());
         }
         for outside in ["http:", "https:", "src=", "href=", "<script", "@import"] {
             let elsewhere = page.replace("http://www.w3.org/2000/svg", "");
@@ -96,7 +96,7 @@ fn card_is_the_library_s(list: &str, card: &[u8]) {
 
 #[test]
 fn plans_in_other_forms() {
-    for name in ["small-depot", "mixed-night"] {
+    for name in ["small-depot", "mixed-night", "on-the-road"] {
         let list = format!("examples/{name}.csv");
         golden(&format!("plan-{name}.json"), &["plan", &list, "--json"], 0);
         golden(&format!("plan-{name}.raw"), &["plan", &list, "--raw"], 0);
@@ -119,9 +119,10 @@ fn plans_in_other_forms() {
 #[test]
 fn pictures_of_edges() {
     let longest = format!("{}\n", "~~~~~~~~~~~~~~~~,64,1440,,2880\n".repeat(20));
-    let header = "cabinet,64\nlabel,modules,minutes,after,departure\n";
+    let header = "cabinet,64\nlabel,modules,minutes,after,departure,arrival\n";
     let markup = "\"<b>&\"\"'x'\",1,1,,0\n</title>,1,1,,0\n";
-    for (name, rows) in [("none", ""), ("longest", longest.as_str()), ("markup", markup)] {
+    let arriving = longest.replace(",2880", ",2880,1440");
+    for (name, rows) in [("none", ""), ("longest", longest.as_str()), ("markup", markup), ("arriving", &arriving)] {
         let list = file(&format!("{name}.csv"), format!("{header}{rows}").as_bytes());
         let [svg, html] = ["svg", "html"].map(|kind| file(&format!("{name}.{kind}"), b""));
         let ran = depot(&["plan", &list, "--svg", &svg, "--html", &html], b"");
@@ -177,6 +178,9 @@ fn sheets_and_lists() {
     assert_eq!(depot(&["sheet", "examples/mixed-night.csv", "-o", &sheet], b"").status, 0);
     golden("list-start.csv", &["list", &sheet, "--start", "20:15"], 0);
     golden("list.json", &["list", &sheet, "--json"], 0);
+    let road = file("road.sheet", b"");
+    assert_eq!(depot(&["sheet", "examples/on-the-road.csv", "-o", &road], b"").status, 0);
+    golden("list-arrivals.csv", &["list", &road, "--start", "19:30"], 0);
     let to_output = depot(&["sheet", "examples/mixed-night.csv", "-o", "-"], b"");
     assert_eq!(to_output.output, fs::read(&sheet).unwrap());
 }
@@ -229,6 +233,46 @@ fn lists_as_people_write_them() {
         assert_eq!((ran.status, ran.errors.as_str()), (0, ""));
         assert_eq!(ran.output, expected.output, "{text}");
     }
+}
+
+/// Arrivals as minutes, as times of day, as empty cells or in no column at all.
+#[test]
+fn arrivals_as_people_write_them() {
+    let sheet = |text: &str| {
+        let ran = depot(&["sheet", &file("arrivals.csv", text.as_bytes()), "-o", "-"], b"");
+        assert_eq!((ran.status, ran.errors.as_str()), (0, ""), "{text}");
+        ran.output
+    };
+    let plain = sheet("cabinet,4\nlabel,modules,minutes,departure,arrival\nA,1,10,30,0\nB,2,20,25,45\n");
+    for other in [
+        "cabinet,4\nlabel,modules,minutes,departure,arrival\nA,1,10,30,\nB,2,20,25,45\n",
+        "cabinet,4\nstart,23:30\nlabel,modules,minutes,departure,arrival\nA,1,10,0:00,23:30\nB,2,20,23:55,0:15+1\n",
+        "cabinet;4\nstart;23:30\nArrival;label;modules;minutes;departure\n;A;1;10;30\n00:15;B;2;20;25\n",
+    ] {
+        assert_eq!(sheet(other), plain, "{other}");
+    }
+    let here = sheet("cabinet,4\nlabel,modules,minutes,departure,arrival\nA,1,10,30\nB,2,20,25\n");
+    assert_eq!(sheet("cabinet,4\nlabel,modules,minutes,departure\nA,1,10,30\nB,2,20,25\n"), here);
+    assert_ne!(here, plain);
+    let last = sheet("cabinet,4\nstart,21:00\nlabel,modules,minutes,departure,arrival\nA,1,10,0,21:00+1\n");
+    assert_eq!(last[1 + 10..1 + 12], 1440u16.to_le_bytes());
+}
+
+/// A bus that starts only when another one has arrived, though there is room for it before, is named.
+#[test]
+fn buses_behind_one_on_the_road() {
+    let e1 = "cabinet,2\nlabel,modules,minutes,departure,arrival\nA,1,10,30,25\nB,2,20,25\nC,1,10,30\n";
+    let (list, page) = (file("behind.csv", e1.as_bytes()), file("behind.html", b""));
+    let said = depot(&["plan", &list, "--html", &page], b"").text();
+    let note = "C starts at minute 25, when A arrives, though there is room for it from minute 20 on.";
+    assert!(said.contains(note), "{said}");
+    assert!(fs::read_to_string(page).unwrap().contains(note));
+    let above = e1.replace("A,1,10,30,25\n", "") + "A,1,10,30,25\n";
+    let said = depot(&["plan", &file("above.csv", above.as_bytes())], b"").text();
+    assert!(
+        said.contains("1 bus is full only after its departure: A (5 min late).") && !said.contains("arrives, though"),
+        "{said}"
+    );
 }
 
 /// A fleet number with spaces, and how it is named in the column `after`: in double quotes, as a text or a spreadsheet has them.
@@ -289,5 +333,5 @@ fn output_that_nobody_reads_is_no_trouble() {
     let pipe = format!("'{}' explain | head -n 1", env!("CARGO_BIN_EXE_depot"));
     let ran = run(Path::new("/bin/sh"), &["-c", &pipe], b"");
     assert_eq!((ran.status, ran.errors.as_str()), (0, ""));
-    assert_eq!(ran.text(), " 1  the sheet has fewer than 8 or more than 528 bytes\n");
+    assert_eq!(ran.text(), " 1  the sheet has fewer than 8 or more than 568 bytes\n");
 }

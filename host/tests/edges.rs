@@ -63,7 +63,7 @@ fn version() {
 
 // ---- job sheets
 
-const PLAIN: Job = Job { label_len: 1, modules: 1, minutes: 1, earlier: 0, departure: 0 };
+const PLAIN: Job = Job { label_len: 1, modules: 1, minutes: 1, earlier: 0, departure: 0, arrival: 0 };
 
 /// A job with each figure at each of its edges, in a list of n jobs.
 fn edge_jobs(n: u32) -> Vec<Job> {
@@ -73,6 +73,9 @@ fn edge_jobs(n: u32) -> Vec<Job> {
     jobs.extend(around(1, 1440, 65535).iter().map(|x| Job { minutes: *x as u16, ..PLAIN }));
     jobs.extend([1, 1 << (n - 1), 1 << n, 1 << 31, (1 << n) - 1, u32::MAX].map(|earlier| Job { earlier, ..PLAIN }));
     jobs.extend(around(0, 2880, 65535).iter().map(|x| Job { departure: *x as u16, ..PLAIN }));
+    jobs.extend(around(0, 1440, 65535).iter().map(|x| Job { arrival: *x as u16, ..PLAIN }));
+    jobs.push(Job { departure: 0, arrival: 1440, ..PLAIN });
+    jobs.push(Job { departure: 2880, arrival: 1441, ..PLAIN });
     jobs
 }
 
@@ -90,8 +93,12 @@ fn parts(jobs: Vec<Job>, modules: u16) -> Sheet {
 }
 
 fn longest() -> Sheet {
-    let longest_labels =
-        chain(MOST_JOBS, PLAIN).into_iter().map(|job| Job { label_len: LONGEST_LABEL as u8, minutes: 1440, ..job });
+    let longest_labels = chain(MOST_JOBS, PLAIN).into_iter().map(|job| Job {
+        label_len: LONGEST_LABEL as u8,
+        minutes: 1440,
+        arrival: 1440,
+        ..job
+    });
     parts(longest_labels.collect(), 64)
 }
 
@@ -167,7 +174,7 @@ fn reading() {
         // what was read writes the same sheet; what was refused has no jobs
         let (jobs, behind) = answer.jobs.split_at(answer.count);
         if expected.is_ok() {
-            let labels = &sheet[..sheet.len() - 10 * jobs.len() - 8];
+            let labels = &sheet[..sheet.len() - 12 * jobs.len() - 8];
             assert_eq!(reference::writing::write(jobs, labels, answer.modules, sheet.len()), Ok(sheet));
         }
         assert!(behind.iter().all(|job| *job == Job::default()));
@@ -210,7 +217,7 @@ fn writing() {
     }
     for jobs in lists {
         let whole: usize = jobs.iter().map(|job| usize::from(job.label_len)).sum();
-        let length = whole + 10 * jobs.len() + 8;
+        let length = whole + 12 * jobs.len() + 8;
         for labels in [0, whole.saturating_sub(1), whole, whole + 1] {
             for modules in around(1, 64, 65535) {
                 for room in [0, 7, length - 1, length, length + 1, LONGEST_SHEET] {

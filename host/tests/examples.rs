@@ -18,9 +18,9 @@ fn planned(modules: u16, jobs: Vec<Job>) -> Result<(u16, Vec<u8>), Refusal> {
 #[test]
 fn e1() {
     let sheet = [
-        0x41, 0x42, 0x43, 0x01, 0x01, 0x0A, 0x00, 0x00, 0x00, 0x00, 0x00, 0x1E, 0x00, 0x01, 0x02, 0x14, 0x00, 0x00, 0x00, 0x00,
-        0x00, 0x19, 0x00, 0x01, 0x01, 0x0A, 0x00, 0x00, 0x00, 0x00, 0x00, 0x1E, 0x00, 0x03, 0x00, 0x00, 0x00, 0x03, 0x00, 0x02,
-        0x00,
+        0x41, 0x42, 0x43, 0x01, 0x01, 0x0A, 0x00, 0x00, 0x00, 0x00, 0x00, 0x1E, 0x00, 0x00, 0x00, 0x01, 0x02, 0x14, 0x00, 0x00,
+        0x00, 0x00, 0x00, 0x19, 0x00, 0x00, 0x00, 0x01, 0x01, 0x0A, 0x00, 0x00, 0x00, 0x00, 0x00, 0x1E, 0x00, 0x00, 0x00, 0x03,
+        0x00, 0x00, 0x00, 0x03, 0x00, 0x02, 0x00,
     ];
     let mut card = [0xEE; 48];
     assert_eq!(plan(&sheet, &mut card, &mut []), Ok(()));
@@ -80,9 +80,30 @@ fn edges() {
     let one_after_another = |n: u32| (0..n).map(|j| job(1, 1440, (1 << j) >> 1)).collect();
     assert_eq!(planned(1, one_after_another(20)), Ok((28_800, (0..20).collect())));
     assert_eq!(planned(1, one_after_another(21)), Err(Refusal::TooManyJobs));
+    let late = |n: u32| -> Vec<Job> { (0..n).map(|j| arriving(1440, job(1, 1440, (1 << j) >> 1))).collect() };
+    assert_eq!(planned(1, late(20)), Ok((30_240, (0..20).collect())));
+    assert_eq!(planned(1, vec![arriving(1440, job(1, 1, 0))]), Ok((1441, vec![0])));
+    assert_eq!(planned(1, vec![arriving(1441, job(1, 1, 0))]), Err(Refusal::RecordField));
+    assert_eq!(planned(1, vec![Job { departure: 0, ..arriving(1440, job(1, 1, 0)) }]), Ok((1441, vec![0])));
 }
 
-/// The longest sheet, of 528 bytes, plans; with a byte more it is too long.
+fn arriving(arrival: u16, job: Job) -> Job {
+    Job { arrival, ..job }
+}
+
+/// E1 with A arriving at 25: B runs first, and the tie rule has A before C, which could run from 20 to 30 and starts at 25.
+#[test]
+fn e1_with_a_on_the_road() {
+    let mut card = [0; card_length(3)];
+    let jobs = vec![arriving(25, job(1, 10, 0)), job(2, 20, 0), job(1, 10, 0)];
+    assert_eq!(plan(&Sheet::of(2, jobs).bytes(), &mut card, &mut []), Ok(()));
+    let rows =
+        [[25, 0, 35, 0, 1, 0, 0, 0, 0, 0, 0, 0], [0, 0, 20, 0, 3, 0, 0, 0, 0, 0, 0, 0], [25, 0, 35, 0, 2, 0, 0, 0, 0, 0, 0, 0]];
+    assert_eq!(card[..36], rows.concat());
+    assert_eq!(card[36..], [1, 0, 2, 36, 0, 0, 0, 35, 0, 3, 0]);
+}
+
+/// The longest sheet, of 568 bytes, plans; with a byte more it is too long.
 #[test]
 fn longest_sheet() {
     let long_label = Job { label_len: 16, ..job(1, 1, 0) };

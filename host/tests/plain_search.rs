@@ -20,6 +20,11 @@ fn order_and_end_are_the_library_s() {
 }
 
 #[test]
+fn order_and_end_are_the_library_s_where_jobs_arrive() {
+    every_family(8, compare::search::compare_arriving);
+}
+
+#[test]
 fn no_rule_changes_an_answer() {
     every_family(6, compare::search::compare_each_left_out);
 }
@@ -31,7 +36,7 @@ fn arrivals_that_bite(sheets: usize, all: &[(&str, Rules)]) -> usize {
 }
 
 #[test]
-fn no_job_starts_before_its_arrival() {
+fn plans_with_arrivals_are_those_of_every_order() {
     let times = arrivals_that_bite(40_000, &[("no rule", Rules::default())]);
     println!("{times} of 40,000 sheets have another plan without arrivals");
     assert!(times > 20_000);

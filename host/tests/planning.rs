@@ -2,7 +2,7 @@
 use depot_host::compare::planning::Planning;
 use depot_host::lists::List;
 use depot_host::plain_search::{run_believing, Outcome, Rules, Tables};
-use depot_host::{plan, read, Refusal};
+use depot_host::{plan, read, Refusal, LONGEST_SHEET};
 
 const SEED: u64 = 20_160;
 const GOOD: usize = 14_000;
@@ -24,8 +24,8 @@ fn planning_is_what_document_01_says() {
 #[test]
 fn bytes_of_no_sheet_are_refused() {
     let mut planning = Planning::new(SEED);
-    (0..=540).for_each(|length| planning.noisy(length));
-    assert_eq!(planning.compared, 541);
+    (0..=LONGEST_SHEET + 12).for_each(|length| planning.noisy(length));
+    assert_eq!(planning.compared, LONGEST_SHEET + 13);
 }
 
 /// Planning whose end is that of a search that does not clear its working memory.

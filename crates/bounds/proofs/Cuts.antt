@@ -17,14 +17,28 @@ use Rattle.schedule.specs.Beginnings.{CannotBeat}
 use Rattle.schedule.proofs.Cuts.{area-cut, chain-cut}
 use Rattle.tables.specs.Tables.{sheetOf, countOf, modulesOf}
 use Rattle.tables.specs.Part.{Part, wordOf}
+use Rattle.tables.specs.Prepared.{tailsIn, headsIn}
 use Rattle.placement.specs.Profile.{heldSince}
 use Rattle.placement.proofs.Profiles.{profile-later}
 use Rattle.placement.proofs.Parts.{after-is, after-small, left-small, left-count}
 use Rattle.relations.specs.Relations.{ChainsOf}
+use Rattle.heads.specs.Heads.{HeadsOf}
 use Rattle.candidates.specs.Candidates.{Known, theoryPart, JobStarts}
 use Rattle.candidates.proofs.Starting.{started, none-before}
+use Rattle.areas.specs.Areas.{HeldLater}
 use Rattle.bounds.specs.Bounds.{SomeTooLong, Hopeless, Bounding}
 use Rattle.bounds.proofs.Shortages.{short-cut}
+
+-- from the last start on, what is held is a small number
+pub held-later : {t : List ℕ} {part : Part} → Known t part → HeldLater part
+held-later {t} {part} known a from =
+    let q = known .is .figures .profile in
+    record {
+      few = q .few;
+      inside = q .inside;
+      ended = λ k l. omega (arith, q .ended k l);
+      small = after-small t (known .fit) part (wordOf part) (known .is) a;
+    }
 
 module _ {t : List ℕ} {part : Part} (known : Known t part)
     {at : List ℕ} {least : ℕ} (starts : JobStarts t part at least) where
@@ -59,16 +73,10 @@ module _ {t : List ℕ} {part : Part} (known : Known t part)
   -- what the bounds need of the figures
   pub bounding : {T : ℕ} → T < 65535 → Bounding t part least T
   bounding low =
-      let q = known .is .figures .profile in
       let from : part .last ≤ least = omega (arith, known .is .figures .last, starts .low) in
       record {
-        held-after = record {
-          few = q .few;
-          inside = q .inside;
-          ended = λ k l. omega (arith, q .ended k l);
-          small = after-small t (known .fit) part w (known .is) least;
-        };
-        profile = profile-later least from q;
+        held-after = held-later known least from;
+        profile = profile-later least from (known .is .figures .profile);
         little = left-small t (known .fit) part w (known .is);
         low = low;
       }
@@ -85,8 +93,9 @@ module _ {t : List ℕ} {part : Part} (known : Known t part)
       let r = started (starts .each j l) k in
       chain-cut S (known .fit .narrow) w (known .is .follows) jobs j e r (omega (arith, chains .each j l, starts .each j l .here r))
 
-  pub hopeless-cut : (tails : List ℕ) (T : ℕ) → ChainsOf t tails jobs → 0 < ones (part .unplaced) → Hopeless t tails part at least T
+  pub hopeless-cut : (prepared : List ℕ) (T : ℕ) → ChainsOf t (tailsIn prepared) jobs → HeadsOf t (headsIn prepared) jobs
+      → 0 < ones (part .unplaced) → Hopeless t prepared part at least T
       → CannotBeat S (suc T) w
-  hopeless-cut tails T chains pos (inl h) = crowded-cut T pos h
-  hopeless-cut tails T chains pos (inr (inl h)) = long-cut tails (suc T) chains (rw add-one at h)
-  hopeless-cut tails T chains pos (inr (inr h)) = short-cut known starts T h
+  hopeless-cut prepared T chains heads pos (inl h) = crowded-cut T pos h
+  hopeless-cut prepared T chains heads pos (inr (inl h)) = long-cut (tailsIn prepared) (suc T) chains (rw add-one at h)
+  hopeless-cut prepared T chains heads pos (inr (inr h)) = short-cut known starts T prepared chains heads h

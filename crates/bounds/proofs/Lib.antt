@@ -1,4 +1,4 @@
 -- Laws of the bounds, for the proofs here and in the search.
-pub mod Areas
 pub mod Shortages
+pub mod Late
 pub mod Cuts

@@ -3,7 +3,7 @@ use mathlib.Core.Path.{_≡_, refl, sym, ap, _∙_}
 use mathlib.Core.Logic.{inl, inr}
 use mathlib.Core.Bool.{Bool, true, false, not, _&&_}
 use mathlib.Core.List.{List}
-use Prim.Native.Nat.{ℕ, suc, _-_, _*_, _≤_, _<_}
+use Prim.Native.Nat.{ℕ, suc, _-_, _*_, _≤_, _<_, max}
 use native.Mathlib.Omega.{arith}
 use native.Mathlib.Nat.{add-zero}
 use lib.Dec.{ltb, leb}
@@ -15,11 +15,12 @@ use Rattle.counting.proofs.Sums.{sum-same}
 use Rattle.bits.specs.Bits.{bit}
 use Rattle.schedule.specs.Plan.{Sheet, finish}
 use Rattle.schedule.specs.ListPlan.{PartPlan, occupies, occupied}
-use Rattle.schedule.specs.Bounds.{mustRun, gain}
+use Rattle.schedule.specs.Bounds.{chain, head, mustRun, gain}
 use Rattle.schedule.specs.Beginnings.{CannotBeat}
 use Rattle.schedule.proofs.Bounds.{overlap-cut, weights-cut, reach-cut, modules-cut}
 use Rattle.tables.specs.Tables.{sheetOf, minutesAt, countOf, modulesOf}
 use Rattle.tables.specs.Part.{Part, wordOf}
+use Rattle.tables.specs.Prepared.{tailsIn, headsIn}
 use Rattle.placement.specs.Profile.{heldOf}
 use Rattle.placement.specs.Part.{Figures}
 use Rattle.placement.proofs.Parts.{occupied-is}
@@ -28,6 +29,8 @@ use Rattle.overlaps.specs.Overlaps.{mustHold, Overlapping}
 use Rattle.lanes.specs.Lanes.{servedOn, Overfull}
 use Rattle.sums.specs.Sums.{together}
 use Rattle.sums.specs.Serving.{Unserved}
+use Rattle.relations.specs.Relations.{ChainsOf}
+use Rattle.heads.specs.Heads.{HeadsOf}
 use Rattle.candidates.specs.Candidates.{Known, theoryPart, JobStarts}
 use Rattle.candidates.proofs.Starting.{none-before}
 use Rattle.bounds.specs.Bounds.{TooFew}
@@ -56,15 +59,17 @@ module _ {t : List ℕ} {part : Part} (known : Known t part)
   of-set : (f : ℕ → ℕ) → sum jobs (λ k. only (bit (part .unplaced) k) (f k)) ≡ sum jobs (λ k. only (not (P .placed k)) (f k))
   of-set f = sum-same jobs _ _ (λ k l. ap (λ b. only b (f k)) (F .set k l))
 
-  overlapping-cut : Overlapping t part least T
+  overlapping-cut : (prepared : List ℕ) → ChainsOf t (tailsIn prepared) jobs → HeadsOf t (headsIn prepared) jobs
+      → Overlapping t prepared part least T
       → CannotBeat S (suc T) w
-  overlapping-cut o =
+  overlapping-cut prepared chains heads o =
       let m = o .minute in
-      let same = sum-same jobs (λ k. only (not (P .placed k)) (mustHold t least T m k))
-      (λ k. only (not (P .placed k) && mustRun least T m (S .minutes k)) (S .need k)) (λ k l. both (not (P .placed k)) _ (S .need k)) in
+      let same = sum-same jobs (λ k. only (not (P .placed k)) (mustHold t prepared least T m k))
+      (λ k. only (not (P .placed k) && mustRun (max least (head S jobs k)) (chain S jobs k) T m (S .minutes k)) (S .need k))
+      (λ k l. rw (heads .each k l, chains .each k l) (both (not (P .placed k)) _ (S .need k))) in
       overlap-cut S (known .fit .lasting) (known .fit .narrow) w (known .is .follows) least (starts .low)
-      (none-before known starts) T m (o .from)
-      (omega (arith, o .over, of-set (mustHold t least T m), same, held-is m))
+      (none-before known starts) T jobs jobs m (o .from)
+      (omega (arith, o .over, of-set (mustHold t prepared least T m), same, held-is m))
     where
       both : (a b : Bool) (x : ℕ) → only a (only b x) ≡ only (a && b) x
       both true b x = refl
@@ -135,9 +140,10 @@ module _ {t : List ℕ} {part : Part} (known : Known t part)
         (none-before known starts) T (S .minutes) (u .reach) reaches (u .rises)
         (omega (arith, behind, free, F .left, u .short))
 
-  pub short-cut : TooFew t part least T
+  pub short-cut : (prepared : List ℕ) → ChainsOf t (tailsIn prepared) jobs → HeadsOf t (headsIn prepared) jobs
+      → TooFew t prepared part least T
       → CannotBeat S (suc T) w
-  short-cut (inl o) = overlapping-cut o
-  short-cut (inr (inl o)) = outweighed-cut o
-  short-cut (inr (inr (inl o))) = overfull-cut o
-  short-cut (inr (inr (inr u))) = unserved-cut u
+  short-cut prepared chains heads (inl o) = overlapping-cut prepared chains heads o
+  short-cut prepared chains heads (inr (inl o)) = outweighed-cut o
+  short-cut prepared chains heads (inr (inr (inl o))) = overfull-cut o
+  short-cut prepared chains heads (inr (inr (inr u))) = unserved-cut u

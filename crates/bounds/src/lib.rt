@@ -1,57 +1,20 @@
 // Whether no order that goes on from a part-plan can end by a target.
 ghost use mathlib.Core.Path.{_≡_};
 ghost use mathlib.Core.Bool.{true};
-ghost use Prim.Native.Nat.{_+_, _-_, _*_, _<_, _≤_};
-ghost use Rattle.figures.specs.Figures.{mostJobs, mostModules, noMinute};
+ghost use Prim.Native.Nat.{_+_, _<_, _≤_};
+ghost use Rattle.figures.specs.Figures.{mostJobs, noMinute};
 ghost use Rattle.tables.specs.Tables.{modulesOf, countOf, Fit};
 ghost use Rattle.tables.specs.Part.{partIn};
 ghost use Rattle.tables.specs.Prepared.{tailsIn, worthIn, mostIn, lanesIn};
-ghost use Rattle.placement.specs.Profile.{heldSince, ProfileOf};
+ghost use Rattle.placement.specs.Profile.{ProfileOf};
 ghost use Rattle.weights.specs.Weights.{Weighted};
 ghost use Rattle.values.specs.Values.{Laned};
-ghost use Rattle.bounds.specs.Bounds.{mostLeft, HeldAfter, SomeTooLong, TooFew, Hopeless, Bounding};
+ghost use Rattle.bounds.specs.Bounds.{SomeTooLong, TooFew, Hopeless, Bounding};
 use figures::MOST_JOBS;
 use figures::NO_MINUTE;
 use tables::Jobs;
 use tables::Part;
 use tables::Prepared;
-
-// ---- the area
-
-// The module-minutes that a job which holds `held` modules until minute `until` still takes from minute l on.
-fn stretch(until: u16, held: u16, l: u16) -> u32
-    ensures { λ r. ⌜ r ≡ held * (until - l) ⌝ }
-{
-    if until <= l {
-        return 0;
-    }
-    counting::times(held, until - l)
-}
-
-// The module-minutes that are held from minute l on.
-fn held_after(part: &Part, l: u16) -> u32
-    requires { ⌜ HeldAfter (partIn (now part)) l ⌝ }
-    ensures { λ r. ⌜ r ≡ heldSince (partIn (now (part .entry))) l ⌝ }
-{
-    let count = tables::placed(part);
-    let mut total: u32 = 0;
-    let mut i = tables::gone(part);
-    while i < count {
-        total += stretch(tables::until(part, i), tables::held(part, i), l);
-        i += 1;
-    }
-    total
-}
-
-// Whether the modules cannot do by minute `target` what is gone at minute l, what is still held and what is left.
-fn crowded(part: &Part, modules: u16, l: u16, target: u16) -> bool
-    requires { ⌜ (HeldAfter (partIn (now part)) l) × ((partIn (now part) .left ≤ mostLeft) × (modules ≤ mostModules)) ⌝ }
-    ensures { λ r. ⌜ (r ≡ true → modules * target
-        < modules * l + (heldSince (partIn (now (part .entry))) l + partIn (now (part .entry)) .left)) ⌝ }
-{
-    let m = modules as u32;
-    m * (target as u32) < m * (l as u32) + (held_after(part, l) + tables::left(part))
-}
 
 // ---- chains
 
@@ -94,12 +57,12 @@ fn some_too_long(
 fn too_few(jobs: &Jobs, prepared: &Prepared, part: &Part, l: u16, target: u16) -> bool
     requires { ⌜ ((Fit (now jobs)) × ((Weighted (now jobs) (worthIn (now prepared)) (mostIn (now prepared))) × (Laned (now jobs) (lanesIn (now prepared)))))
         × (ProfileOf (partIn (now part)) (partIn (now part) .gone) (partIn (now part) .free) (modulesOf (now jobs)) l) ⌝ }
-    ensures { λ r. ⌜ (r ≡ true → TooFew (now (jobs .entry)) (partIn (now (part .entry))) l target) ⌝ }
+    ensures { λ r. ⌜ (r ≡ true → TooFew (now (jobs .entry)) (now (prepared .entry)) (partIn (now (part .entry))) l target) ⌝ }
 {
     let ended = placement::ended_by(jobs, part, l);
     let gone = ended.gone;
     let free = ended.free;
-    if overlaps::overlapping(jobs, part, gone, free, l, target) {
+    if overlaps::overlapping(jobs, prepared, part, gone, free, l, target) {
         return true;
     }
     if weights::outweighed(jobs, prepared, part, gone, free, l, target) {
@@ -125,9 +88,9 @@ pub fn hopeless(
     requires { ⌜ ((Fit (now jobs)) × ((Weighted (now jobs) (worthIn (now prepared)) (mostIn (now prepared))) × (Laned (now jobs) (lanesIn (now prepared)))))
         × (Bounding (now jobs) (partIn (now part)) least target) ⌝ }
     ensures { λ r. ⌜ (r ≡ true
-        → Hopeless (now (jobs .entry)) (tailsIn (now (prepared .entry))) (partIn (now (part .entry))) (now (at .entry)) least target) ⌝ }
+        → Hopeless (now (jobs .entry)) (now (prepared .entry)) (partIn (now (part .entry))) (now (at .entry)) least target) ⌝ }
 {
-    if crowded(part, tables::modules(jobs), least, target) {
+    if areas::crowded(part, tables::modules(jobs), least, target) {
         return true;
     }
     let unplaced = tables::unplaced(part);

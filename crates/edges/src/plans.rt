@@ -3,9 +3,9 @@ use super::lines::print_case;
 use sheet_format::Job;
 
 // The lengths of the sheets of one job and of twenty jobs with labels of one byte.
-const ONE: usize = 19;
+const ONE: usize = 21;
 
-const TWENTY: usize = 228;
+const TWENTY: usize = 268;
 
 // The lengths of their cards.
 const ONE_CARD: usize = 21;
@@ -17,27 +17,34 @@ const CARD_BYTE: u8 = 9;
 
 const WORK_BYTE: u8 = 7;
 
-fn job(modules: u8, minutes: u16, earlier: u32) -> Job {
+fn job(modules: u8, minutes: u16, earlier: u32, arrival: u16) -> Job {
     Job {
         label_len: 1,
         modules,
         minutes,
         earlier,
         departure: 30,
+        arrival,
     }
 }
 
 // The sheet of one job of 10 minutes, for a cabinet of 64 modules.
 fn one(modules: u8, earlier: u32) -> [u8; ONE] {
     let mut s = [0u8; ONE];
-    sheet::write([job(modules, 10, earlier); 20], 1, b"A", 64, &mut s);
+    sheet::write([job(modules, 10, earlier, 0); 20], 1, b"A", 64, &mut s);
     s
 }
 
 // The sheet of twenty jobs that are alike, for a cabinet of 64 modules.
-fn twenty(modules: u8, minutes: u16) -> [u8; TWENTY] {
+fn twenty(modules: u8, minutes: u16, arrival: u16) -> [u8; TWENTY] {
     let mut s = [0u8; TWENTY];
-    sheet::write([job(modules, minutes, 0); 20], 20, &[b'B'; 20], 64, &mut s);
+    sheet::write(
+        [job(modules, minutes, 0, arrival); 20],
+        20,
+        &[b'B'; 20],
+        64,
+        &mut s,
+    );
     s
 }
 
@@ -98,28 +105,38 @@ fn one_job() {
 }
 
 // Plans twenty jobs.
-fn plan_twenty(name: &[u8], modules: u8, minutes: u16, work: &mut [u8]) {
+fn plan_twenty(name: &[u8], modules: u8, minutes: u16, arrival: u16, work: &mut [u8]) {
     plan_whole(
         name,
-        &twenty(modules, minutes),
+        &twenty(modules, minutes, arrival),
         &mut [CARD_BYTE; TWENTY_CARD],
         work,
     );
 }
 
 fn twenty_jobs() {
-    plan_twenty(b"20 jobs at once", 3, 10, &mut [WORK_BYTE; 4096]);
+    plan_twenty(b"20 jobs at once", 3, 10, 0, &mut [WORK_BYTE; 4096]);
     plan_twenty(
         b"20 jobs of 1440 minutes one after another",
         64,
         1440,
+        0,
         &mut [WORK_BYTE; 4096],
     );
     plan_twenty(
         b"the same without working memory",
         64,
         1440,
+        0,
         &mut [WORK_BYTE; 0],
+    );
+    // their departures are before their arrivals
+    plan_twenty(
+        b"20 jobs of 1440 minutes that arrive at 1440",
+        64,
+        1440,
+        1440,
+        &mut [WORK_BYTE; 4096],
     );
 }
 

@@ -10,28 +10,29 @@ use sheet_format::layout::LONGEST_LABEL;
 use sheet_format::layout::LONGEST_SHEET;
 
 // The length of the sheet of one job with a label of one byte, and where its parts begin.
-const SMALL: usize = 19;
+const SMALL: usize = 21;
 
 const LABEL: usize = 0;
 
 const RECORD: usize = 1;
 
-const TRAILER: usize = 11;
+const TRAILER: usize = 13;
 
-fn job(label_len: u8, minutes: u16, earlier: u32, departure: u16) -> Job {
+fn job(label_len: u8, minutes: u16, earlier: u32, departure: u16, arrival: u16) -> Job {
     Job {
         label_len,
         modules: 1,
         minutes,
         earlier,
         departure,
+        arrival,
     }
 }
 
 // The sheet of one job, labelled A, on a cabinet of two modules.
 fn small() -> [u8; SMALL] {
     let mut s = [0u8; SMALL];
-    sheet::write([job(1, 10, 0, 30); MOST_JOBS], 1, b"A", 2, &mut s);
+    sheet::write([job(1, 10, 0, 30, 0); MOST_JOBS], 1, b"A", 2, &mut s);
     s
 }
 
@@ -74,6 +75,7 @@ fn read_records() {
     read_number(b"earlier jobs", RECORD + 4, true, 1);
     read_number(b"earlier jobs", RECORD + 4, true, 2);
     read_range(b"departure", RECORD + 8, true, 1, 2880);
+    read_range(b"arrival", RECORD + 10, true, 1, 1440);
 }
 
 fn read_labels_and_trailer() {
@@ -107,27 +109,27 @@ fn read_first() {
 }
 
 // The length of the sheet of two jobs with labels of three bytes in all.
-const PAIR: usize = 31;
+const PAIR: usize = 35;
 
 // Reads the sheet of two jobs whose labels are so long and have another byte in their middle.
 fn read_pair(name: &[u8], first: u8, second: u8, label_byte: u8) {
     let mut s = [0u8; PAIR];
-    let mut jobs = [job(1, 10, 0, 30); MOST_JOBS];
-    jobs[0] = job(2, 10, 0, 30);
+    let mut jobs = [job(1, 10, 0, 30, 0); MOST_JOBS];
+    jobs[0] = job(2, 10, 0, 30, 0);
     sheet::write(jobs, 2, b"ABC", 2, &mut s);
     s[1] = label_byte;
     s[3] = first;
-    s[13] = second;
+    s[15] = second;
     print_case(name, sheet::read(&s).refusal);
 }
 
 // The length of the sheet of one job with a label of three bytes.
-const SPACED: usize = 21;
+const SPACED: usize = 23;
 
 // The sheet of one job whose label has another byte at a place.
 fn spaced(at: usize, label_byte: u8) -> [u8; SPACED] {
     let mut s = [0u8; SPACED];
-    sheet::write([job(3, 10, 0, 30); MOST_JOBS], 1, b"A1B", 2, &mut s);
+    sheet::write([job(3, 10, 0, 30, 0); MOST_JOBS], 1, b"A1B", 2, &mut s);
     if at < SPACED {
         s[at] = label_byte;
     }
@@ -154,7 +156,7 @@ fn read_spaces() {
 fn long() -> [u8; LONGEST_SHEET + 1] {
     let mut s = [0u8; LONGEST_SHEET + 1];
     sheet::write(
-        [job(16, 10, 0, 30); MOST_JOBS],
+        [job(16, 10, 0, 30, 0); MOST_JOBS],
         MOST_JOBS,
         &[b'B'; MOST_JOBS * LONGEST_LABEL],
         64,
@@ -166,7 +168,7 @@ fn long() -> [u8; LONGEST_SHEET + 1] {
 // The shortest sheet: no jobs, one module.
 fn short() -> [u8; 8] {
     let mut s = [0u8; 8];
-    sheet::write([job(1, 10, 0, 30); MOST_JOBS], 0, b"", 1, &mut s);
+    sheet::write([job(1, 10, 0, 30, 0); MOST_JOBS], 0, b"", 1, &mut s);
     s
 }
 
@@ -214,11 +216,11 @@ fn read_fronts() {
 fn read_lengths() {
     let long = long();
     read_front(
-        b"20 jobs, labels of 16 bytes, 528 bytes",
+        b"20 jobs, labels of 16 bytes, 568 bytes",
         &long,
         LONGEST_SHEET,
     );
-    read_front(b"529 bytes", &long, LONGEST_SHEET + 1);
+    read_front(b"569 bytes", &long, LONGEST_SHEET + 1);
     let short = short();
     read_front(b"no jobs, 8 bytes", &short, 8);
     read_front(b"7 bytes", &short, 7);
@@ -237,11 +239,19 @@ fn write_one(name: &[u8], x: u16, job: Job, labels: &[u8]) {
     }
 }
 
-fn write_job(name: &[u8], x: u16, label_len: u8, minutes: u16, earlier: u32, departure: u16) {
+fn write_job(
+    name: &[u8],
+    x: u16,
+    label_len: u8,
+    minutes: u16,
+    earlier: u32,
+    departure: u16,
+    arrival: u16,
+) {
     write_one(
         name,
         x,
-        job(label_len, minutes, earlier, departure),
+        job(label_len, minutes, earlier, departure, arrival),
         &[b'A'; 17],
     );
 }
@@ -250,22 +260,24 @@ fn write_label_byte(name: &[u8], label_byte: u8) {
     write_one(
         name,
         label_byte as u16,
-        job(1, 10, 0, 30),
+        job(1, 10, 0, 30, 0),
         &[label_byte; 16],
     );
 }
 
 fn write_records() {
-    write_job(b"writing, label length", 0, 0, 10, 0, 30);
-    write_job(b"writing, label length", 1, 1, 10, 0, 30);
-    write_job(b"writing, label length", 16, 16, 10, 0, 30);
-    write_job(b"writing, label length", 17, 17, 10, 0, 30);
-    write_job(b"writing, minutes", 1440, 1, 1440, 0, 30);
-    write_job(b"writing, minutes", 1441, 1, 1441, 0, 30);
-    write_job(b"writing, earlier jobs", 1, 1, 10, 1, 30);
-    write_job(b"writing, earlier jobs", 2, 1, 10, 2, 30);
-    write_job(b"writing, departure", 2880, 1, 10, 0, 2880);
-    write_job(b"writing, departure", 2881, 1, 10, 0, 2881);
+    write_job(b"writing, label length", 0, 0, 10, 0, 30, 0);
+    write_job(b"writing, label length", 1, 1, 10, 0, 30, 0);
+    write_job(b"writing, label length", 16, 16, 10, 0, 30, 0);
+    write_job(b"writing, label length", 17, 17, 10, 0, 30, 0);
+    write_job(b"writing, minutes", 1440, 1, 1440, 0, 30, 0);
+    write_job(b"writing, minutes", 1441, 1, 1441, 0, 30, 0);
+    write_job(b"writing, earlier jobs", 1, 1, 10, 1, 30, 0);
+    write_job(b"writing, earlier jobs", 2, 1, 10, 2, 30, 0);
+    write_job(b"writing, departure", 2880, 1, 10, 0, 2880, 0);
+    write_job(b"writing, departure", 2881, 1, 10, 0, 2881, 0);
+    write_job(b"writing, arrival", 1440, 1, 10, 0, 30, 1440);
+    write_job(b"writing, arrival", 1441, 1, 10, 0, 30, 1441);
 }
 
 fn write_label_bytes() {
@@ -279,7 +291,7 @@ fn write_label_bytes() {
 // Writes one job with a label of three bytes.
 fn write_spaced(name: &[u8], label: &[u8]) {
     let mut out = [0u8; 64];
-    let written = sheet::write([job(3, 10, 0, 30); MOST_JOBS], 1, label, 2, &mut out);
+    let written = sheet::write([job(3, 10, 0, 30, 0); MOST_JOBS], 1, label, 2, &mut out);
     print_case(name, written.refusal);
 }
 
@@ -294,7 +306,7 @@ fn write_spaces() {
 fn write_front(name: &[u8], jobs: usize, modules: u16, out: &mut [u8], room: usize) {
     if room <= out.len() {
         let written = sheet::write(
-            [job(16, 10, 0, 30); MOST_JOBS],
+            [job(16, 10, 0, 30, 0); MOST_JOBS],
             jobs,
             &[b'B'; MOST_JOBS * LONGEST_LABEL],
             modules,
@@ -309,9 +321,9 @@ fn write_long(name: &[u8], jobs: usize, modules: u16, room: usize) {
 }
 
 fn write_sizes() {
-    write_long(b"writing, 20 jobs into 528 bytes", 20, 64, LONGEST_SHEET);
+    write_long(b"writing, 20 jobs into 568 bytes", 20, 64, LONGEST_SHEET);
     write_long(
-        b"writing, 20 jobs into 527 bytes",
+        b"writing, 20 jobs into 567 bytes",
         20,
         64,
         LONGEST_SHEET - 1,

@@ -21,10 +21,15 @@ e4 = sheet (job 1 1 (1 ∷ []) ∷ job 1 1 (0 ∷ []) ∷ []) 1
 abbrev pub sheetWith : List Job → ℕ → List ℕ
 sheetWith jobs N = sheetBytes (jobsIn jobs) (length jobs) (take (length jobs) (65 ∷ 66 ∷ 67 ∷ 68 ∷ [])) N
 
--- a job of a sheet: modules, minutes, the set of its earlier jobs, departure
+-- a job of a sheet: modules, minutes, the set of its earlier jobs, departure, arrival
+abbrev pub arriving : ℕ → ℕ → ℕ → ℕ → ℕ → Job
+arriving modules minutes earlier departure arrival =
+    record { «label_len» = 1; modules = modules; minutes = minutes; earlier = earlier; departure = departure; arrival = arrival }
+
+-- a job whose bus is there from minute 0
 abbrev pub entry : ℕ → ℕ → ℕ → ℕ → Job
 entry modules minutes earlier departure =
-    record { «label_len» = 1; modules = modules; minutes = minutes; earlier = earlier; departure = departure }
+    arriving modules minutes earlier departure 0
 
 -- E9's calls: "looks give 7 and 6; controller 0 claims 7, granted; 1 more, 17; controller 1 claims 3, granted; 1 more, 17"
 abbrev pub e9 : List (Call × Reply)
@@ -107,4 +112,16 @@ table =
     ∷ desk 3000 (1200 ∷ 900 ∷ []) (3000 ∷ 3000 ∷ []) 0 e9In30kW
     ∷ desk 3000 (1200 ∷ 900 ∷ []) (3000 ∷ 3000 ∷ []) 0
     (e9In30kW ++ ((handBack 0 2400, refused 18) ∷ (handBack 0 2100, done) ∷ []))
+    -- F-2: E1 with A on the road until minute 25: order 1, 0, 2, and C starts no earlier than A before it
+    ∷ call (sheetWith (arriving 1 10 0 30 25 ∷ entry 2 20 0 25 ∷ entry 1 10 0 30 ∷ []) 2) (replicate 47 7) 0
+    (25 ∷ 0 ∷ 35 ∷ 0 ∷ 1 ∷ 0 ∷ 0 ∷ 0 ∷ 0 ∷ 0 ∷ 0 ∷ 0
+    ∷ 0 ∷ 0 ∷ 20 ∷ 0 ∷ 3 ∷ 0 ∷ 0 ∷ 0 ∷ 0 ∷ 0 ∷ 0 ∷ 0
+    ∷ 25 ∷ 0 ∷ 35 ∷ 0 ∷ 2 ∷ 0 ∷ 0 ∷ 0 ∷ 0 ∷ 0 ∷ 0 ∷ 0
+    ∷ 1 ∷ 0 ∷ 2
+    ∷ 36 ∷ 0 ∷ 0 ∷ 0 ∷ 35 ∷ 0 ∷ 3 ∷ 0 ∷ [])
+    -- "Departure may lie before arrival": departure 0, arrival 1440, 10 minutes
+    ∷ call (sheetWith (arriving 1 10 0 0 1440 ∷ []) 1) (replicate 21 7) 0
+    (160 ∷ 5 ∷ 170 ∷ 5 ∷ 1 ∷ 0 ∷ 0 ∷ 0 ∷ 0 ∷ 0 ∷ 0 ∷ 0
+    ∷ 0
+    ∷ 12 ∷ 0 ∷ 0 ∷ 0 ∷ 170 ∷ 5 ∷ 1 ∷ 0 ∷ [])
     ∷ []

@@ -94,7 +94,7 @@ pub record Copied (r : Reading) (k : ℕ) (t : List ℕ) : Type 0 where
   pub modules : modulesOf t ≡ r .modules
   pub need : (j : ℕ) → j < k → needAt t j ≡ jobsIn (r .jobs) j .modules
   pub minutes : (j : ℕ) → j < k → minutesAt t j ≡ jobsIn (r .jobs) j .minutes
-  pub arrival : (j : ℕ) → j < k → arrivalAt t j ≡ 0
+  pub arrival : (j : ℕ) → j < k → arrivalAt t j ≡ jobsIn (r .jobs) j .arrival
   pub earlier : (j : ℕ) → j < k → earlierAt t j ≡ jobsIn (r .jobs) j .earlier
 
 pub none-copied : (r : Reading) (t : List ℕ) → length t ≡ 103 → countOf t ≡ r .count → modulesOf t ≡ r .modules → Copied r 0 t
@@ -112,12 +112,12 @@ module _ (r : Reading) (k : ℕ) (l : k < mostJobs) (t : List ℕ) (h : Copied r
   abbrev u : List ℕ
   u =
       let x = jobsIn (r .jobs) k in
-      withJob t k (x .modules) (x .minutes) 0 (x .earlier)
+      withJob t k (x .modules) (x .minutes) (x .arrival) (x .earlier)
 
   other : (p : ℕ) → p ≢ k → p ≢ 20 + k → p ≢ 40 + k → p ≢ 60 + 2 * k → p ≢ 60 + 2 * k + 1 → getD u p 0 ≡ getD t p 0
   other =
       let x = jobsIn (r .jobs) k in
-      put-other t (h .size) k l (x .modules) (x .minutes) 0 (x .earlier)
+      put-other t (h .size) k l (x .modules) (x .minutes) (x .arrival) (x .earlier)
 
   -- what holds of the job that was put in, and of those before it
   each : (f : List ℕ → ℕ → ℕ) (g : ℕ → ℕ) → f u k ≡ g k → ((j : ℕ) → j < k → f u j ≡ f t j) → ((j : ℕ) → j < k → f t j ≡ g j)
@@ -133,18 +133,19 @@ module _ (r : Reading) (k : ℕ) (l : k < mostJobs) (t : List ℕ) (h : Copied r
   copied-more =
       let x = jobsIn (r .jobs) k in
       record {
-        size = put-size t (h .size) k l (x .modules) (x .minutes) 0 (x .earlier);
+        size = put-size t (h .size) k l (x .modules) (x .minutes) (x .arrival) (x .earlier);
         count = other 100 (λ e. omega arith) (λ e. omega arith) (λ e. omega arith) (λ e. omega arith) (λ e. omega arith) ∙ h .count;
         modules = other 101 (λ e. omega arith) (λ e. omega arith) (λ e. omega arith) (λ e. omega arith) (λ e. omega arith) ∙ h .modules;
-        need = each needAt (λ j. jobsIn (r .jobs) j .modules) (put-need t (h .size) k l (x .modules) (x .minutes) 0 (x .earlier))
+        need = each needAt (λ j. jobsIn (r .jobs) j .modules) (put-need t (h .size) k l (x .modules) (x .minutes) (x .arrival) (x .earlier))
             (λ j b. other j (λ e. omega arith) (λ e. omega arith) (λ e. omega arith) (λ e. omega arith) (λ e. omega arith)) (h .need);
         minutes = each minutesAt (λ j. jobsIn (r .jobs) j .minutes)
-            (put-minutes t (h .size) k l (x .modules) (x .minutes) 0 (x .earlier))
+            (put-minutes t (h .size) k l (x .modules) (x .minutes) (x .arrival) (x .earlier))
             (λ j b. other (20 + j) (λ e. omega arith) (λ e. omega arith) (λ e. omega arith) (λ e. omega arith) (λ e. omega arith)) (h .minutes);
-        arrival = each arrivalAt (λ j. 0) (put-arrival t (h .size) k l (x .modules) (x .minutes) 0 (x .earlier))
+        arrival = each arrivalAt (λ j. jobsIn (r .jobs) j .arrival)
+            (put-arrival t (h .size) k l (x .modules) (x .minutes) (x .arrival) (x .earlier))
             (λ j b. other (40 + j) (λ e. omega arith) (λ e. omega arith) (λ e. omega arith) (λ e. omega arith) (λ e. omega arith)) (h .arrival);
         earlier = each earlierAt (λ j. jobsIn (r .jobs) j .earlier)
-            (put-earlier t (h .size) k l (x .modules) (x .minutes) 0 (x .earlier))
+            (put-earlier t (h .size) k l (x .modules) (x .minutes) (x .arrival) (x .earlier))
             (λ j b.
             let low = other (60 + 2 * j) (λ e. omega arith) (λ e. omega arith) (λ e. omega arith) (λ e. omega arith) (λ e. omega arith) in
             let high = other (60 + 2 * j + 1) (λ e. omega arith) (λ e. omega arith) (λ e. omega arith) (λ e. omega arith) (λ e. omega arith) in
@@ -169,8 +170,8 @@ made r zero l = (set (set (replicate 103 0) 100 (r .count)) 101 (r .modules), no
 made r (suc k) l =
     let m = made r k (omega arith) in
     let x = jobsIn (r .jobs) k in (
-      withJob (m .0) k (x .modules) (x .minutes) 0 (x .earlier),
-      subst (λ (n : ℕ). Copied r n (withJob (m .0) k (x .modules) (x .minutes) 0 (x .earlier))) (add-one k)
+      withJob (m .0) k (x .modules) (x .minutes) (x .arrival) (x .earlier),
+      subst (λ (n : ℕ). Copied r n (withJob (m .0) k (x .modules) (x .minutes) (x .arrival) (x .earlier))) (add-one k)
           (copied-more r k (omega arith) (m .0) (m .1)),
     )
 

@@ -21,5 +21,5 @@ pub record TableOf (r : Reading) (t : List ℕ) : Type 0 where
   pub modules : modulesOf t ≡ r .modules
   pub need : (j : ℕ) → j < mostJobs → needAt t j ≡ jobsIn (r .jobs) j .modules
   pub minutes : (j : ℕ) → j < mostJobs → minutesAt t j ≡ jobsIn (r .jobs) j .minutes
-  pub arrival : (j : ℕ) → j < mostJobs → arrivalAt t j ≡ 0
+  pub arrival : (j : ℕ) → j < mostJobs → arrivalAt t j ≡ jobsIn (r .jobs) j .arrival
   pub earlier : (j : ℕ) → j < mostJobs → earlierAt t j ≡ jobsIn (r .jobs) j .earlier

@@ -34,7 +34,14 @@ pub fn table_of(found: Reading) -> Jobs
     let mut j: usize = 0;
     while j < MOST_JOBS {
         let job = found.jobs[j];
-        put_job(&mut table, j, job.modules, job.minutes, 0, job.earlier);
+        put_job(
+            &mut table,
+            j,
+            job.modules,
+            job.minutes,
+            job.arrival,
+            job.earlier,
+        );
         j += 1;
     }
     table

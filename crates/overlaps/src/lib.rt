@@ -1,7 +1,8 @@
 // Whether jobs that are left must run at the same minute and have no room there.
 ghost use mathlib.Core.Path.{_≡_};
 ghost use mathlib.Core.Bool.{true};
-ghost use Prim.Native.Nat.{_+_, _<_, _≤_};
+ghost use Prim.Native.Nat.{_<_, _≤_};
+ghost use Rattle.figures.specs.Figures.{mostJobs};
 ghost use Rattle.counting.specs.Counting.{only, sum};
 ghost use Rattle.bits.specs.Bits.{bit};
 ghost use Rattle.schedule.specs.Bounds.{mustRun};
@@ -11,14 +12,15 @@ ghost use Rattle.placement.specs.Profile.{ProfileOf};
 ghost use Rattle.overlaps.specs.Overlaps.{mustHold, Overlapping};
 use tables::Jobs;
 use tables::Part;
+use tables::Prepared;
 
-// The modules of a job that must run at minute m, as it starts from minute l on and ends by the target; 0 where it need not.
-fn must_hold(need: u16, minutes: u16, l: u16, target: u16, m: u16) -> u16
-    ensures { λ r. ⌜ r ≡ only (mustRun l target m minutes) need ⌝ }
+// The modules of a job that must run at minute m, as it starts from minute `first` on, and so early that its chain ends by the target; 0
+// where it need not.
+fn must_hold(need: u16, minutes: u16, first: u32, tail: u32, target: u16, m: u16) -> u16
+    ensures { λ r. ⌜ r ≡ only (mustRun first tail target m minutes) need ⌝ }
 {
-    let d = minutes as u32;
-    if (target as u32) <= (m as u32) + d {
-        if (m as u32) < (l as u32) + d {
+    if (target as u64) <= (m as u64) + (tail as u64) {
+        if (m as u64) < (first as u64) + (minutes as u64) {
             return need;
         }
     }
@@ -26,9 +28,10 @@ fn must_hold(need: u16, minutes: u16, l: u16, target: u16, m: u16) -> u16
 }
 
 // The modules that the jobs of the set must hold at minute m.
-fn all_hold(jobs: &Jobs, set: u32, l: u16, target: u16, m: u16) -> u16
+fn all_hold(jobs: &Jobs, prepared: &Prepared, set: u32, l: u16, target: u16, m: u16) -> u16
     requires { ⌜ Fit (now jobs) ⌝ }
-    ensures { λ r. ⌜ r ≡ sum (countOf (now (jobs .entry))) (λ k. only (bit set k) (mustHold (now (jobs .entry)) l target m k)) ⌝ }
+    ensures { λ r. ⌜ r ≡ sum (countOf (now (jobs .entry)))
+        (λ k. only (bit set k) (mustHold (now (jobs .entry)) (now (prepared .entry)) l target m k)) ⌝ }
 {
     let mut total: u16 = 0;
     let mut todo = bits::below32(set, tables::count(jobs));
@@ -37,7 +40,8 @@ fn all_hold(jobs: &Jobs, set: u32, l: u16, target: u16, m: u16) -> u16
         total += must_hold(
             tables::need(jobs, k),
             tables::minutes(jobs, k),
-            l,
+            heads::first_start(prepared, l, k),
+            tables::tail(prepared, k),
             target,
             m,
         );
@@ -48,50 +52,69 @@ fn all_hold(jobs: &Jobs, set: u32, l: u16, target: u16, m: u16) -> u16
 
 // Whether the unplaced jobs have no room at minute m beside the placed jobs that still run. By minute l `gone` of the placed jobs have
 // ended, and `free` modules are free then.
-fn no_room_at(jobs: &Jobs, part: &Part, gone: usize, free: u16, l: u16, target: u16, m: u16) -> bool
-    requires { ⌜ (Fit (now jobs)) × ((ProfileOf (partIn (now part)) gone free (modulesOf (now jobs)) l) × (l ≤ m)) ⌝ }
-    ensures { λ r. ⌜ (r ≡ true → Overlapping (now (jobs .entry)) (partIn (now (part .entry))) l target) ⌝ }
-{
-    let ended = placement::advance(part, gone, free, tables::modules(jobs), m);
-    ended.free < all_hold(jobs, tables::unplaced(part), l, target, m)
-}
-
-// Whether that is so at the last minute at which a job of so many minutes can start, where it runs then wherever it starts.
-fn no_room_for(
+fn no_room_at(
     jobs: &Jobs,
+    prepared: &Prepared,
     part: &Part,
     gone: usize,
     free: u16,
     l: u16,
     target: u16,
-    length: u16,
+    m: u16,
 ) -> bool
-    requires { ⌜ (Fit (now jobs)) × (ProfileOf (partIn (now part)) gone free (modulesOf (now jobs)) l) ⌝ }
-    ensures { λ r. ⌜ (r ≡ true → Overlapping (now (jobs .entry)) (partIn (now (part .entry))) l target) ⌝ }
+    requires { ⌜ (Fit (now jobs)) × ((ProfileOf (partIn (now part)) gone free (modulesOf (now jobs)) l) × (l ≤ m)) ⌝ }
+    ensures { λ r. ⌜ (r ≡ true → Overlapping (now (jobs .entry)) (now (prepared .entry)) (partIn (now (part .entry))) l target) ⌝ }
 {
-    if target < length {
+    let ended = placement::advance(part, gone, free, tables::modules(jobs), m);
+    ended.free < all_hold(jobs, prepared, tables::unplaced(part), l, target, m)
+}
+
+// Whether that is so at the last minute at which job k can start, where it runs then wherever it starts.
+fn no_room_for(
+    jobs: &Jobs,
+    prepared: &Prepared,
+    part: &Part,
+    gone: usize,
+    free: u16,
+    l: u16,
+    target: u16,
+    k: usize,
+) -> bool
+    requires { ⌜ (Fit (now jobs)) × ((ProfileOf (partIn (now part)) gone free (modulesOf (now jobs)) l) × (k < mostJobs)) ⌝ }
+    ensures { λ r. ⌜ (r ≡ true → Overlapping (now (jobs .entry)) (now (prepared .entry)) (partIn (now (part .entry))) l target) ⌝ }
+{
+    let tail = tables::tail(prepared, k);
+    if (target as u32) < tail {
         return false;
     }
-    let m = target - length;
+    let m = target - (tail as u16);
     if m < l {
         return false;
     }
-    if length <= m - l {
+    let first = heads::first_start(prepared, l, k);
+    if (first as u64) + (tables::minutes(jobs, k) as u64) <= (m as u64) {
         return false;
     }
-    no_room_at(jobs, part, gone, free, l, target, m)
+    no_room_at(jobs, prepared, part, gone, free, l, target, m)
 }
 
 // Whether unplaced jobs must run at the same minute, between minute l and the target, and have no room there.
-pub fn overlapping(jobs: &Jobs, part: &Part, gone: usize, free: u16, l: u16, target: u16) -> bool
+pub fn overlapping(
+    jobs: &Jobs,
+    prepared: &Prepared,
+    part: &Part,
+    gone: usize,
+    free: u16,
+    l: u16,
+    target: u16,
+) -> bool
     requires { ⌜ (Fit (now jobs)) × (ProfileOf (partIn (now part)) gone free (modulesOf (now jobs)) l) ⌝ }
-    ensures { λ r. ⌜ (r ≡ true → Overlapping (now (jobs .entry)) (partIn (now (part .entry))) l target) ⌝ }
+    ensures { λ r. ⌜ (r ≡ true → Overlapping (now (jobs .entry)) (now (prepared .entry)) (partIn (now (part .entry))) l target) ⌝ }
 {
     let mut todo = bits::below32(tables::unplaced(part), tables::count(jobs));
     while todo != 0 {
         let k = bits::lowest32(todo);
-        let length = tables::minutes(jobs, k);
-        if no_room_for(jobs, part, gone, free, l, target, length) {
+        if no_room_for(jobs, prepared, part, gone, free, l, target, k) {
             return true;
         }
         todo = bits::without_lowest32(todo);

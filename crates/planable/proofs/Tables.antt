@@ -76,5 +76,7 @@ module _ (s : List ℕ) (e : readRefusal s ≡ 0) where
       short = λ j l.
           let k : j < r .count = omega (arith, h .count) in
           omega (arith, same-jobs .minutes j l, job-read j k .minutes-most);
-      arrived = λ j l. omega (arith, same-jobs .arrival j l);
+      arrived = λ j l.
+          let k : j < r .count = omega (arith, h .count) in
+          omega (arith, same-jobs .arrival j l, job-read j k .arrival);
     }

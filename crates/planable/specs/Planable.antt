@@ -19,7 +19,7 @@ sheetOn r = record {
   need = λ j. jobsIn (r .jobs) j .modules;
   minutes = λ j. jobsIn (r .jobs) j .minutes;
   before = λ i j. bit (jobsIn (r .jobs) j .earlier) i;
-  arrival = λ j. 0;
+  arrival = λ j. jobsIn (r .jobs) j .arrival;
   rest = 0;
 }
 

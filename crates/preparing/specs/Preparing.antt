@@ -5,21 +5,24 @@ use mathlib.Core.List.{List}
 use Prim.Native.Nat.{ℕ, _+_, _≤_, _<_}
 use lib.ListN.{length, getD}
 use Rattle.tables.specs.Tables.{countOf}
-use Rattle.tables.specs.Prepared.{preparedSize, tailsIn, relatedIn, worthIn, mostIn, lanesIn}
+use Rattle.tables.specs.Prepared.{preparedSize, tailsIn, headsIn, relatedIn, worthIn, mostIn, lanesIn}
 use Rattle.relations.specs.Relations.{ChainsOf, Related}
+use Rattle.heads.specs.Heads.{HeadsOf}
 use Rattle.weights.specs.Weights.{Weighted}
 use Rattle.values.specs.Values.{Laned}
 
--- the longest chains, the relations and the weightings of the jobs
+-- the longest chains, the heads, the relations and the weightings of the jobs
 pub record Begun (t prepared : List ℕ) : Type 0 where
   pub size : length prepared ≡ preparedSize
   pub chains : ChainsOf t (tailsIn prepared) (countOf t)
+  pub heads : HeadsOf t (headsIn prepared) (countOf t)
   pub related : Related t (relatedIn prepared)
   pub weighted : Weighted t (worthIn prepared) (mostIn prepared)
 
 -- and the tables of the lanes
 pub record Tabled (t prepared : List ℕ) : Type 0 where
   pub chains : ChainsOf t (tailsIn prepared) (countOf t)
+  pub heads : HeadsOf t (headsIn prepared) (countOf t)
   pub related : Related t (relatedIn prepared)
   pub weighted : Weighted t (worthIn prepared) (mostIn prepared)
   pub laned : Laned t (lanesIn prepared)

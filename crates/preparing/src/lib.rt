@@ -3,8 +3,9 @@ ghost use mathlib.Core.Path.{_≡_};
 ghost use Prim.Native.Nat.{_+_, _≤_};
 ghost use lib.ListN.{length};
 ghost use Rattle.tables.specs.Tables.{countOf, Fit};
-ghost use Rattle.tables.specs.Prepared.{preparedSize, relatedFrom, worthFrom, lanesFrom, tailsIn, relatedIn, worthIn, mostIn};
+ghost use Rattle.tables.specs.Prepared.{preparedSize, headsFrom, relatedFrom, worthFrom, lanesFrom, tailsIn, headsIn, relatedIn, worthIn, mostIn};
 ghost use Rattle.relations.specs.Relations.{ChainsOf, Related};
+ghost use Rattle.heads.specs.Heads.{HeadsOf};
 ghost use Rattle.weights.specs.Weights.{Weighted};
 ghost use Rattle.preparing.specs.Preparing.{Begun, Tabled, Kept, PutAt};
 use tables::Jobs;
@@ -44,11 +45,21 @@ fn put16(prepared: &mut Prepared, from: usize, list: &[u16])
 // Puts the longest chains in.
 fn put_chains(prepared: &mut Prepared, jobs: &Jobs)
     requires { ⌜ (length (now prepared) ≡ preparedSize) × (Fit (now jobs)) ⌝ }
-    ensures kept { λ _. ⌜ Kept 0 relatedFrom (now (prepared .entry)) (now (prepared .exit)) ⌝ }
+    ensures kept { λ _. ⌜ Kept 0 headsFrom (now (prepared .entry)) (now (prepared .exit)) ⌝ }
     ensures chains { λ _. ⌜ ChainsOf (now (jobs .entry)) (tailsIn (now (prepared .exit))) (countOf (now (jobs .entry))) ⌝ }
 {
     let chains = relations::chains(jobs);
     put16(prepared, 0, &chains.at);
+}
+
+// Puts the heads in.
+fn put_heads(prepared: &mut Prepared, jobs: &Jobs)
+    requires { ⌜ (length (now prepared) ≡ preparedSize) × (Fit (now jobs)) ⌝ }
+    ensures kept { λ _. ⌜ Kept headsFrom relatedFrom (now (prepared .entry)) (now (prepared .exit)) ⌝ }
+    ensures heads { λ _. ⌜ HeadsOf (now (jobs .entry)) (headsIn (now (prepared .exit))) (countOf (now (jobs .entry))) ⌝ }
+{
+    let heads = heads::of_all(jobs);
+    put16(prepared, tables::HEADS, &heads.at);
 }
 
 // Puts the relations in.
@@ -78,6 +89,7 @@ pub fn prepare(prepared: &mut Prepared, jobs: &Jobs)
     ensures { λ _. ⌜ Begun (now (jobs .entry)) (now (prepared .exit)) ⌝ }
 {
     put_chains(prepared, jobs);
+    put_heads(prepared, jobs);
     put_relations(prepared, jobs);
     put_weights(prepared, jobs);
 }

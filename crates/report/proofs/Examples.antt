@@ -62,12 +62,12 @@ none-output = refl
 
 -- one job, A, of so many modules with these earlier jobs, in a cabinet of one
 abbrev one : ℕ → ℕ → List ℕ
-one need earlier = 65 ∷ 1 ∷ need ∷ 10 ∷ 0 ∷ earlier ∷ 0 ∷ 0 ∷ 0 ∷ 0 ∷ 0 ∷ 1 ∷ 0 ∷ 0 ∷ 0 ∷ 1 ∷ 0 ∷ 1 ∷ 0 ∷ []
+one need earlier = 65 ∷ 1 ∷ need ∷ 10 ∷ 0 ∷ earlier ∷ 0 ∷ 0 ∷ 0 ∷ 0 ∷ 0 ∷ 0 ∷ 0 ∷ 1 ∷ 0 ∷ 0 ∷ 0 ∷ 1 ∷ 0 ∷ 1 ∷ 0 ∷ []
 
 -- two jobs, A and B, each before the other; A needs so many modules
 abbrev two : ℕ → List ℕ
 two need =
-    65 ∷ 66 ∷ 1 ∷ need ∷ 10 ∷ 0 ∷ 2 ∷ 0 ∷ 0 ∷ 0 ∷ 0 ∷ 0 ∷ 1 ∷ 1 ∷ 10 ∷ 0 ∷ 1 ∷ 0 ∷ 0 ∷ 0 ∷ 0 ∷ 0
+    65 ∷ 66 ∷ 1 ∷ need ∷ 10 ∷ 0 ∷ 2 ∷ 0 ∷ 0 ∷ 0 ∷ 0 ∷ 0 ∷ 0 ∷ 0 ∷ 1 ∷ 1 ∷ 10 ∷ 0 ∷ 1 ∷ 0 ∷ 0 ∷ 0 ∷ 0 ∷ 0 ∷ 0 ∷ 0
     ∷ 2 ∷ 0 ∷ 0 ∷ 0 ∷ 2 ∷ 0 ∷ 1 ∷ 0 ∷ []
 
 -- E3, a job that is too wide: refused 8. E4, two jobs each before the other: refused 9. E5, a job before itself: refused 9.

@@ -1,17 +1,17 @@
--- The bounds by weights, by lanes and by modules, and jobs that must overlap, as cuts.
+-- The bounds by weights, by lanes and by modules, jobs that must overlap, and those that arrive late, as cuts.
 use mathlib.Core.Path.{_≡_}
 use mathlib.Core.Logic.{_⊎_, inl, inr}
-use mathlib.Core.Bool.{false, not, _&&_}
+use mathlib.Core.Bool.{true, false, not, cond, _&&_}
 use mathlib.Core.List.{List, [], _∷_}
-use Prim.Native.Nat.{ℕ, suc, _+_, _-_, _*_, _≤_, _<_}
+use Prim.Native.Nat.{ℕ, suc, _+_, _-_, _*_, _≤_, _<_, max}
 use native.Mathlib.Omega.{arith}
 use native.Mathlib.Nat.{le-trans}
 use lib.Dec.{leb}
 use Rattle.counting.specs.Counting.{only, sum, Rises, Holds}
-use Rattle.counting.proofs.Tests.{clash, less-or-not}
+use Rattle.counting.proofs.Tests.{true-or-false, clash, less-or-not}
 use Rattle.schedule.specs.Plan.{Sheet, Plan, Valid, finish, planEnd, Narrow, Lasting}
 use Rattle.schedule.specs.ListPlan.{PartPlan, noJobs, Follows, occupies, placeAll, partOf, occupied}
-use Rattle.schedule.specs.Bounds.{mustRun, gain, Lasts}
+use Rattle.schedule.specs.Bounds.{chain, head, mustRun, minutesBehind, gain, Lasts}
 use Rattle.schedule.specs.PartPlans.{Sound, Completes, NoneBefore}
 use Rattle.schedule.specs.Beginnings.{CannotBeat}
 use Rattle.schedule.proofs.Sound.{part-sound, place-all-sound, completes-all, complete-valid}
@@ -19,6 +19,9 @@ use Rattle.schedule.proofs.Earliest.{valid-timed}
 use Rattle.schedule.proofs.Along.{place-all-keeps}
 use Rattle.schedule.proofs.Branch.{next-first}
 use Rattle.schedule.proofs.Cuts.{by-completions}
+use Rattle.schedule.proofs.Chains.{chain-le}
+use Rattle.schedule.proofs.Heads.{head-le}
+use Rattle.schedule.proofs.Late.{late-bound}
 use Rattle.schedule.proofs.Weights.{GoesOn, weights-bound}
 use Rattle.schedule.proofs.Reach.{reach-bound}
 use Rattle.schedule.proofs.Overlaps.{must-fit}
@@ -86,10 +89,45 @@ module _ (S : Sheet) (lasting : Lasting S) (n : Narrow S) (w : List ℕ) (f : Fo
   reach-cut y v K Z most more lasts none rises over = by-end (λ p c x.
       omega (arith, over, reach-bound S lasting P l (Q p c) (goes-on p c) T x y v K Z most more lasts none rises))
 
-  pub overlap-cut : (m : ℕ) → l ≤ m
-      → S .modules < sum (S .jobs) (λ k. only (not (P .placed k) && mustRun l T m (S .minutes k)) (S .need k)) + occupied S P m
+  -- a job that is left starts neither before minute l nor before its head
+  abbrev first : ℕ → ℕ → ℕ
+  first a k = max l (head S a k)
+
+  starts-from : (p : List ℕ) (c : Completes S P p) (a k : ℕ) → k < S .jobs → P .placed k ≡ false → first a k ≤ Q p c .start k
+  starts-from p c a k x z = omega (arith, later p c k x z, head-le S (Q p c) (goes-on p c .timed) a k x)
+
+  pub overlap-cut : (a b m : ℕ) → l ≤ m
+      → S .modules < sum (S .jobs) (λ k. only (not (P .placed k) && mustRun (max l (head S a k)) (chain S b k) T m (S .minutes k)) (S .need k))
+      + occupied S P m
       → CannotBeat S (suc T) w
-  overlap-cut m on over = by-end (λ p c x. omega (arith, over, must-fit S P l (Q p c) (goes-on p c) T x m on))
+  overlap-cut a b m on over = by-end (λ p c x.
+      omega (
+        arith,
+        over,
+        must-fit S P l (Q p c) (goes-on p c) m on T (first a) (chain S b) (starts-from p c a)
+            (λ k y. omega (arith, chain-le S (Q p c) (valid p c) b k y)),
+      ))
+
+  pub head-cut : (a b k : ℕ) → k < S .jobs → T < head S a k + chain S b k → CannotBeat S (suc T) w
+  head-cut a b k x over = by-end (λ p c z.
+      omega (arith, over, head-le S (Q p c) (goes-on p c .timed) a k x, chain-le S (Q p c) (valid p c) b k x))
+
+  pub late-cut : (a m : ℕ) → l ≤ m
+      → S .modules * (T - m)
+      < sum (S .jobs) (λ k. S .need k * cond (P .placed k) (finish S (P .plan) k - m) (minutesBehind (max l (head S a k)) m (S .minutes k)))
+      → CannotBeat S (suc T) w
+  late-cut a m on over = by-end (λ p c x. omega (arith, over, late-bound S (Q p c) (goes-on p c .timed) T x m _ (busy p c)))
+    where
+      busy : (p : List ℕ) (c : Completes S P p) (k : ℕ) → k < S .jobs
+          → cond (P .placed k) (finish S (P .plan) k - m) (minutesBehind (first a k) m (S .minutes k))
+          ≤ finish S (Q p c) k - max m (Q p c .start k)
+      busy p c k x = go (true-or-false (P .placed k))
+        where
+          go : (P .placed k ≡ true) ⊎ (P .placed k ≡ false)
+              → cond (P .placed k) (finish S (P .plan) k - m) (minutesBehind (first a k) m (S .minutes k))
+              ≤ finish S (Q p c) k - max m (Q p c .start k)
+          go (inl z) = rw z (omega (arith, goes-on p c .kept k x z, goes-on p c .early k x z))
+          go (inr z) = rw z (omega (arith, starts-from p c a k x z))
 
   pub modules-cut : (y Z : ℕ → ℕ) → Lasts S P y Z → ((a b : ℕ) → a ≤ b → Z a ≤ Z b)
       → sum (S .jobs) (λ k. only (occupies S P l k) (S .need k * Z (T - finish S (P .plan) k))) + (S .modules - occupied S P l) * Z (T - l)

@@ -12,6 +12,7 @@ pub mod Orders
 pub mod Along
 pub mod Area
 pub mod Chains
+pub mod Heads
 pub mod Prefixes
 pub mod Places
 pub mod Cuts
@@ -30,6 +31,7 @@ pub mod Lanes
 pub mod Filling
 pub mod Reach
 pub mod Overlaps
+pub mod Late
 pub mod Modulewise
 pub mod Bounds
 pub mod Jumps

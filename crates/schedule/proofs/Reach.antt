@@ -102,7 +102,7 @@ module _ (S : Sheet) (lasting : Lasting S) (P : PartPlan) (l : ℕ) (Q : Plan) (
   unfolding width
   reach-bound =
       let lanes = put-on-lanes (S .jobs) (λ k. not (P .placed k)) (Q .start) (S .minutes) w (K (S .modules)) isOpen lasting
-      (λ t. omega (arith, minute-weight S P l Q h T e w K most t, open-at t)) in
+      (λ t. omega (arith, minute-weight S P l Q h w K most t, open-at t)) in
       let bound = lanes-bound (S .jobs) (λ k. not (P .placed k)) (Q .start) (S .minutes) w (K (S .modules)) isOpen (lanes .0) (lanes .1) stays
       T (λ k x p. omega (arith, e, le-largest (S .jobs) (finish S Q) k x)) y Z (λ X x a b. lasts X x a) in
       let M = K (S .modules) in

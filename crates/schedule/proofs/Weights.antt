@@ -23,21 +23,10 @@ pub record GoesOn (S : Sheet) (P : PartPlan) (l : ℕ) (Q : Plan) : Type 0 where
   pub early : (k : ℕ) → k < S .jobs → P .placed k ≡ true → P .plan .start k ≤ l
   pub later : (k : ℕ) → k < S .jobs → P .placed k ≡ false → l ≤ Q .start k
 
-module _ (S : Sheet) (P : PartPlan) (l : ℕ) (Q : Plan) (h : GoesOn S P l Q) (T : ℕ) (e : planEnd S Q ≤ T) where
+module _ (S : Sheet) (P : PartPlan) (l : ℕ) (Q : Plan) (h : GoesOn S P l Q) where
   -- job k is one of those that are left, and it runs at minute t
   abbrev pub left : ℕ → ℕ → Bool
   left t k = not (P .placed k) && inside (Q .start k) (finish S Q k) t
-
-  -- over all minutes a job that is left weighs its minutes
-  over-minutes : (y : ℕ → ℕ) (k : ℕ) → k < S .jobs
-      → only (not (P .placed k)) (S .minutes k * y k) ≡ sum T (λ t. only (left t k) (y k))
-  over-minutes y k m = go (not (P .placed k)) refl
-    where
-      go : (b : Bool) → not (P .placed k) ≡ b → only (not (P .placed k)) (S .minutes k * y k) ≡ sum T (λ t. only (left t k) (y k))
-      go true q =
-          let d : min T (finish S Q k) - Q .start k ≡ S .minutes k = omega (arith, e, le-largest (S .jobs) (finish S Q) k m) in
-          rw q (ap (λ (x : ℕ). x * y k) (sym d) ∙ sym (sum-inside T (Q .start k) (finish S Q k) (y k)))
-      go false q = rw q (sym (sum-zero T))
 
   -- at a minute, what is left beside what is placed
   pub beside : (t : ℕ) → l ≤ t → sum (S .jobs) (λ k. only (left t k) (S .need k)) + occupied S P t ≤ S .modules
@@ -78,12 +67,27 @@ module _ (S : Sheet) (P : PartPlan) (l : ℕ) (Q : Plan) (h : GoesOn S P l Q) (T
           sum-same (S .jobs) _ (λ k. 0) (λ k x. zero m k x (true-or-false (P .placed k))) ∙ sum-zero (S .jobs) in
           rw none zero-le
 
+module _ (S : Sheet) (P : PartPlan) (l : ℕ) (Q : Plan) (h : GoesOn S P l Q) (T : ℕ) (e : planEnd S Q ≤ T) where
+  abbrev left-at : ℕ → ℕ → Bool
+  left-at = left S P l Q h
+
+  -- over all minutes a job that is left weighs its minutes
+  over-minutes : (y : ℕ → ℕ) (k : ℕ) → k < S .jobs
+      → only (not (P .placed k)) (S .minutes k * y k) ≡ sum T (λ t. only (left-at t k) (y k))
+  over-minutes y k m = go (not (P .placed k)) refl
+    where
+      go : (b : Bool) → not (P .placed k) ≡ b → only (not (P .placed k)) (S .minutes k * y k) ≡ sum T (λ t. only (left-at t k) (y k))
+      go true q =
+          let d : min T (finish S Q k) - Q .start k ≡ S .minutes k = omega (arith, e, le-largest (S .jobs) (finish S Q) k m) in
+          rw q (ap (λ (x : ℕ). x * y k) (sym d) ∙ sym (sum-inside T (Q .start k) (finish S Q k) (y k)))
+      go false q = rw q (sym (sum-zero T))
+
   -- The jobs that are left weigh no more than the free modules hold.
   pub weights-bound : (y K : ℕ → ℕ) → Holds (S .need) (S .jobs) (S .modules) y K
       → sum (S .jobs) (λ k. only (not (P .placed k)) (S .minutes k * y k)) ≤ sum T (λ t. only (leb l t) (K (S .modules - occupied S P t)))
   weights-bound y K most =
-      let all = sum-same (S .jobs) _ (λ k. sum T (λ t. only (left t k) (y k))) (over-minutes y)
-      ∙ sum-swap (S .jobs) T (λ k t. only (left t k) (y k)) in
-      let each = sum-le T (λ t. sum (S .jobs) (λ k. only (left t k) (y k))) (λ t. only (leb l t) (K (S .modules - occupied S P t)))
-      (λ t x. minute-weight y K most t) in
+      let all = sum-same (S .jobs) _ (λ k. sum T (λ t. only (left-at t k) (y k))) (over-minutes y)
+      ∙ sum-swap (S .jobs) T (λ k t. only (left-at t k) (y k)) in
+      let each = sum-le T (λ t. sum (S .jobs) (λ k. only (left-at t k) (y k))) (λ t. only (leb l t) (K (S .modules - occupied S P t)))
+      (λ t x. minute-weight S P l Q h y K most t) in
       omega (arith, all, each)

@@ -1,7 +1,7 @@
 -- What the bounds on a plan's end speak of.
 use mathlib.Core.Path.{_≡_}
 use mathlib.Core.Bool.{Bool, true, false, cond, _&&_}
-use Prim.Native.Nat.{ℕ, zero, suc, _+_, _-_, _*_, _≤_}
+use Prim.Native.Nat.{ℕ, zero, suc, _+_, _-_, _*_, _≤_, max, min}
 use lib.Dec.{leb, ltb}
 use Rattle.counting.specs.Counting.{only, sum, largest}
 use Rattle.schedule.specs.Plan.{Sheet, finish}
@@ -11,6 +11,12 @@ use Rattle.schedule.specs.ListPlan.{PartPlan}
 unfoldable pub chain : Sheet → ℕ → ℕ → ℕ
 chain S zero j = 0
 chain S (suc k) j = S .minutes j + largest (S .jobs) (λ i. only (S .before j i) (chain S k i))
+
+-- the minute before which job j cannot start, as far as chains of at most k jobs tell that end with it: each job starts no earlier than its
+-- arrival and the ends of its earlier jobs
+unfoldable pub head : Sheet → ℕ → ℕ → ℕ
+head S zero j = 0
+head S (suc k) j = max (S .arrival j) (largest (S .jobs) (λ i. only (S .before i j) (head S k i + S .minutes i)))
 
 -- the module-minutes of job i from minute l on: what is left of it if it is placed, and all of it if not
 abbrev pub todo : Sheet → PartPlan → ℕ → ℕ → ℕ
@@ -29,9 +35,13 @@ abbrev pub Lasts : Sheet → PartPlan → (ℕ → ℕ) → (ℕ → ℕ) → Ty
 Lasts S P y Z = (X : ℕ → Bool) (x : ℕ) → ((k : ℕ) → X k ≡ true → P .placed k ≡ false)
     → sum (S .jobs) (λ k. only (X k) (S .minutes k)) ≤ x → sum (S .jobs) (λ k. only (X k) (y k)) ≤ Z x
 
--- a job of so many minutes, which starts from minute l on and ends by minute T, runs at minute m
-abbrev pub mustRun : ℕ → ℕ → ℕ → ℕ → Bool
-mustRun l T m minutes = leb T (m + minutes) && ltb m (l + minutes)
+-- a job of so many minutes runs at minute m, if it starts from a minute on, and early enough that a chain which begins with it ends by T
+abbrev pub mustRun : ℕ → ℕ → ℕ → ℕ → ℕ → Bool
+mustRun from chain T m minutes = leb T (m + chain) && ltb m (from + minutes)
+
+-- so many minutes of a job are behind minute a at least, if it starts from a minute on
+abbrev pub minutesBehind : ℕ → ℕ → ℕ → ℕ
+minutesBehind from a minutes = min minutes (from + minutes - a)
 
 -- what the minute t adds to the reach of a lane that is open up to minute T
 abbrev pub gain : (ℕ → ℕ) → ℕ → ℕ → ℕ

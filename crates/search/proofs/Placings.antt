@@ -6,7 +6,7 @@ use mathlib.Core.List.{List, [], _∷_, _++_, append-nil, append-assoc}
 use Prim.Native.Nat.{ℕ, suc, _+_, _≤_, _<_, zero-le}
 use native.Mathlib.Omega.{arith}
 use native.Mathlib.Nat.{not-suc-le-zero}
-use lib.ListN.{length, getD, take, length-append, replicate}
+use lib.ListN.{length, getD, take, length-append}
 use lib.Seq.{getD-at, getD-take}
 use Rattle.counting.proofs.Tests.{last-or-below, less-or-not}
 use Rattle.schedule.specs.Plan.{Sheet}
@@ -24,8 +24,7 @@ use Rattle.candidates.specs.Candidates.{Known, theoryPart, JobStart}
 use Rattle.candidates.proofs.Children.{first-known, first-word, word-length, child-known}
 use Rattle.preparing.specs.Preparing.{Tabled}
 use Rattle.listing.specs.declared.Found.{Found}
-use Rattle.search.specs.Search.{Remembered, Fails, Outcome, Searching, Lowest, Going, Placing, TieRuled}
-use Rattle.search.proofs.Whole.{none-settled}
+use Rattle.search.specs.Search.{Remembered, Fails, Outcome, Lowest, Going, Placing, TieRuled}
 
 -- ---- one job tried at a place
 
@@ -42,15 +41,12 @@ module _ {t prepared : List ℕ} {part : Part} {target : ℕ} {memory : List ℕ
       absurd (omega (arith, start .here r))
 
   pub place-enter : (low : s < 65535) {child : Part} → Placed t part j s child
-      → Searching t prepared child target memory (replicate 20 0) 0
+      → Going t prepared child target memory
   place-enter low {child} placed = record {
-    going = record {
-      low = g .low;
-      known = child-known (g .known) l start low placed;
-      tabled = g .tabled;
-      remembered = g .remembered;
-    };
-    settled-so = none-settled (sheetOf t) target (wordOf child);
+    low = g .low;
+    known = child-known (g .known) l start low placed;
+    tabled = g .tabled;
+    remembered = g .remembered;
   }
 
 -- ---- all jobs below one

@@ -25,7 +25,7 @@ use Rattle.sums.specs.Sums.{Rounded}
 use Rattle.listing.specs.declared.Found.{Found}
 use Rattle.listing.specs.Listing.{OrderOf}
 use Rattle.preparing.specs.Preparing.{Tabled}
-use Rattle.search.specs.Search.{Remembered, Outcome, SettledSo, Searching, keptAs, Lowering, Lowered, Lowest}
+use Rattle.search.specs.Search.{Remembered, Outcome, SettledSo, Going, keptAs, Lowering, Lowered, Lowest}
 use Rattle.search.proofs.Recalls.{remembered-less}
 
 -- ---- nothing is settled
@@ -44,11 +44,9 @@ kept-is h = record { size = h .size; order = h .order; end = h .end; low = h .lo
 
 -- an order that is to end by the target
 pub enter : {t prepared : List ℕ} {part : Part} {memory : List ℕ} (target : ℕ) → Fit t → Tabled t prepared → target < 65535
-    → Remembered (sheetOf t) memory (suc target) → FirstPart t part → Searching t prepared part target memory (replicate 20 0) 0
-enter {t} {part = part} target fit tabled low m first = record {
-  going = record { low = low; known = first-known t part fit first; tabled = tabled; remembered = m };
-  settled-so = none-settled (sheetOf t) target (wordOf part);
-}
+    → Remembered (sheetOf t) memory (suc target) → FirstPart t part → Going t prepared part target memory
+enter {t} {part = part} target fit tabled low m first =
+    record { low = low; known = first-known t part fit first; tabled = tabled; remembered = m }
 
 -- an order that ends by the target, and so earlier
 pub lower-hit : {S : Sheet} {best r : Found} (memory : List ℕ) {v : List ℕ} (target : ℕ) → OrderOf S best → target < best .end

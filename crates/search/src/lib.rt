@@ -142,6 +142,19 @@ fn try_children(
     visit(memory, settled, &child, same_now, target, jobs, prepared)
 }
 
+// The same from a part-plan for which nothing is settled, unless jobs arrive too late for the target.
+fn seek(memory: &mut [u8], part: &Part, target: u16, jobs: &Jobs, prepared: &Prepared) -> Found
+    requires { ⌜ Going (now jobs) (now prepared) (partIn (now part)) target (now memory) ⌝ }
+    ensures outcome { λ r. ⌜ Outcome (sheetOf (now (jobs .entry))) target (wordOf (partIn (now (part .entry)))) r ⌝ }
+    ensures remembered { λ _. ⌜ Remembered (sheetOf (now (jobs .entry))) (now (memory .exit)) (suc target) ⌝ }
+{
+    if areas::too_late(jobs, prepared, part, target) {
+        return none_found();
+    }
+    let mut settled = [0u32; MOST_JOBS];
+    visit(memory, &mut settled, part, 0, target, jobs, prepared)
+}
+
 // ---- the earliest end
 
 // The same order, where none ends earlier.
@@ -164,8 +177,7 @@ fn decide(memory: &mut [u8], target: u16, jobs: &Jobs, prepared: &Prepared) -> F
 {
     let goal = sums::rounded(jobs, target);
     let part = placement::first_part(jobs);
-    let mut settled = [0u32; MOST_JOBS];
-    visit(memory, &mut settled, &part, 0, goal, jobs, prepared)
+    seek(memory, &part, goal, jobs, prepared)
 }
 
 // An order that ends earlier, or the same one where there is none.
@@ -217,8 +229,7 @@ fn try_place(
     }
     let mut child = *part;
     placement::place(&mut child, jobs, j, start);
-    let mut settled = [0u32; MOST_JOBS];
-    visit(memory, &mut settled, &child, 0, target, jobs, prepared)
+    seek(memory, &child, target, jobs, prepared)
 }
 
 // An order that ends first, and at the next place has the least job that an order which ends first can have there.

@@ -17,7 +17,7 @@ abbrev pub row : List ℕ → List ℕ → List ℕ → Row
 row s figures shown = record { sheet = s; figures = figures; shown = shown }
 
 abbrev jobFigures : Job → List ℕ
-jobFigures j = j .«label_len» ∷ j .modules ∷ j .minutes ∷ j .earlier ∷ j .departure ∷ []
+jobFigures j = j .«label_len» ∷ j .modules ∷ j .minutes ∷ j .earlier ∷ j .departure ∷ j .arrival ∷ []
 
 -- the refusal, n, N and the figures of the jobs
 abbrev readFigures : Reading → List ℕ

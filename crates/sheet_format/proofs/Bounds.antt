@@ -11,7 +11,7 @@ use borrow.Author.Tests.{ltb-false, le-ltb, leb-true, leb-false, le-leb, eqb-fal
 use Rattle.counting.proofs.Tests.{less-or-not, or-left, or-right, not-of-false, same-test}
 use Rattle.sheet_format.specs.declared.Job.{Job}
 use Rattle.sheet_format.specs.Figures.{mostJobs, longestSheet, recordSize, trailerSize, longestLabel, widestJob, mostMinutes}
-use Rattle.sheet_format.specs.Figures.{lastDeparture}
+use Rattle.sheet_format.specs.Figures.{lastDeparture, lastArrival}
 use Rattle.sheet_format.specs.Format.{labelLength}
 use Rattle.sheet_format.specs.Checks.{outside, faulty}
 
@@ -71,6 +71,7 @@ pub record Legal (n : ℕ) (j : Job) : Type 0 where
   pub minutes-some : 1 ≤ j .minutes
   pub minutes-most : j .minutes ≤ mostMinutes
   pub departure : j .departure ≤ lastDeparture
+  pub arrival : j .arrival ≤ lastArrival
   pub earlier : j .earlier < 2 ^ n
 
 pub legal : (n : ℕ) (j : Job) → faulty n j ≡ false → Legal n j
@@ -79,6 +80,7 @@ legal n j e =
     let e₁ = or-right (outside 1 longestLabel (labelLength j)) _ e in
     let e₂ = or-right (outside 1 widestJob (j .modules)) _ e₁ in
     let e₃ = or-right (outside 1 mostMinutes (j .minutes)) _ e₂ in
+    let e₄ = or-right (outside 0 lastDeparture (j .departure)) _ e₃ in
     let a = inside 1 longestLabel (labelLength j) (or-left _ _ e) in
     let b = inside 1 widestJob (j .modules) (or-left _ _ e₁) in
     let c = inside 1 mostMinutes (j .minutes) (or-left _ _ e₂) in
@@ -90,5 +92,6 @@ legal n j e =
       minutes-some = c .0;
       minutes-most = c .1;
       departure = inside 0 lastDeparture (j .departure) (or-left _ _ e₃) .1;
-      earlier = leb-false (2 ^ n) (j .earlier) (or-right (outside 0 lastDeparture (j .departure)) _ e₃);
+      arrival = inside 0 lastArrival (j .arrival) (or-left _ _ e₄) .1;
+      earlier = leb-false (2 ^ n) (j .earlier) (or-right (outside 0 lastArrival (j .arrival)) _ e₄);
     }

@@ -29,14 +29,16 @@ record-read n j rest few sound =
     let m = bytesOf 2 (j .minutes) in
     let e = bytesOf 4 (j .earlier) in
     let d = bytesOf 2 (j .departure) in
-    let s : List ℕ = front ++ (m ++ (e ++ (d ++ rest))) in
+    let a = bytesOf 2 (j .arrival) in
+    let s : List ℕ = front ++ (m ++ (e ++ (d ++ (a ++ rest)))) in
     let small : j .earlier < 2 ^ 32 = lt-of-lt-of-le (l .earlier) (pow-mono {i = n} {j = 32} (omega arith)) in
-    let minutes : u16At s 2 ≡ j .minutes = number-next 2 2 (j .minutes) front (e ++ (d ++ rest)) refl (omega arith) in
-    let earlier : u32At s 4 ≡ j .earlier = number-next 4 4 (j .earlier) (front ++ m) (d ++ rest) refl small in
-    let departure : u16At s 8 ≡ j .departure = number-next 8 2 (j .departure) (front ++ (m ++ e)) rest refl (omega arith) in
-    let with : ℕ → ℕ → ℕ → Job =
-    λ x y z. record { «label_len» = j .«label_len»; modules = j .modules; minutes = x; earlier = y; departure = z } in
-    ap₂ (λ (x y : ℕ). with x y (u16At s 8)) minutes earlier ∙ ap (with (j .minutes) (j .earlier)) departure
+    let minutes : u16At s 2 ≡ j .minutes = number-next 2 2 (j .minutes) front (e ++ (d ++ (a ++ rest))) refl (omega arith) in
+    let earlier : u32At s 4 ≡ j .earlier = number-next 4 4 (j .earlier) (front ++ m) (d ++ (a ++ rest)) refl small in
+    let departure : u16At s 8 ≡ j .departure = number-next 8 2 (j .departure) (front ++ (m ++ e)) (a ++ rest) refl (omega arith) in
+    let arrival : u16At s 10 ≡ j .arrival = number-next 10 2 (j .arrival) (front ++ (m ++ (e ++ d))) rest refl (omega arith) in
+    let with : ℕ → ℕ → ℕ → ℕ → Job =
+    λ w x y z. record { «label_len» = j .«label_len»; modules = j .modules; minutes = w; earlier = x; departure = y; arrival = z } in
+    ap₂ (λ (w x : ℕ). with w x (u16At s 8) (u16At s 10)) minutes earlier ∙ ap₂ (with (j .minutes) (j .earlier)) departure arrival
 
 -- a trailer of figures that fit their bytes
 pub trailer-read : (offset n N : ℕ) → offset < 2 ^ 32 → n < 2 ^ 16 → N < 2 ^ 16
@@ -58,7 +60,7 @@ module _ (p q : List ℕ) (n : ℕ) (e : length p ≡ n) where
   unfolding recordAt
   record-behind =
       let z : byteAt (p ++ q) n ≡ byteAt q 0 = ap (byteAt (p ++ q)) (sym (add-zero n)) ∙ byte-behind 0 in
-      rw (z, byte-behind 1, number-behind p q n 2 2 e, number-behind p q n 4 4 e, number-behind p q n 8 2 e)
+      rw (z, byte-behind 1, number-behind p q n 2 2 e, number-behind p q n 4 4 e, number-behind p q n 8 2 e, number-behind p q n 10 2 e)
 
 -- ---- what is read is written
 
@@ -67,7 +69,7 @@ module _ (s : List ℕ) (bytes : (i : ℕ) → byteAt s i < 256) where
   unfolding recordBytes recordAt joined
   record-back at h =
       ap₂ (λ (x y : List ℕ). byteAt s at ∷ byteAt s (at + 1) ∷ (x ++ y)) (bytes-each s bytes (at + 2) 2)
-      (ap₂ _++_ (bytes-each s bytes (at + 4) 4) (bytes-each s bytes (at + 8) 2))
+      (ap₂ _++_ (bytes-each s bytes (at + 4) 4) (ap₂ _++_ (bytes-each s bytes (at + 8) 2) (bytes-each s bytes (at + 10) 2)))
       ∙ rw (segment s at recordSize h) (simp (add-assoc, add-zero))
 
   pub trailer-back : (at : ℕ) → at + trailerSize ≤ length s

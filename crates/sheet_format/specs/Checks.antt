@@ -10,7 +10,7 @@ use Rattle.counting.specs.Counting.{any}
 use Rattle.checking.specs.Checking.{Check}
 use Rattle.sheet_format.specs.declared.Job.{Job}
 use Rattle.sheet_format.specs.Figures.{mostJobs, mostModules, longestSheet, recordSize, trailerSize, longestLabel}
-use Rattle.sheet_format.specs.Figures.{firstLabelByte, lastLabelByte, space, widestJob, mostMinutes, lastDeparture}
+use Rattle.sheet_format.specs.Figures.{firstLabelByte, lastLabelByte, space, widestJob, mostMinutes, lastDeparture, lastArrival}
 use Rattle.words.specs.Words.{byteAt}
 use Rattle.sheet_format.specs.Format.{labelLength, labelLengths, labelIn, offsetOf, countOf, modulesOf}
 
@@ -18,7 +18,7 @@ use Rattle.sheet_format.specs.Format.{labelLength, labelLengths, labelIn
 unfoldable pub outside : ℕ → ℕ → ℕ → Bool
 outside low high x = ltb x low || ltb high x
 
--- 1. The sheet has fewer than 8 or more than 528 bytes.
+-- 1. The sheet has fewer than 8 or more than 568 bytes.
 abbrev pub wrongLength : List ℕ → Bool
 wrongLength s = outside trailerSize longestSheet (length s)
 
@@ -30,7 +30,7 @@ tooManyJobs n = ltb mostJobs n
 abbrev pub wrongModules : ℕ → Bool
 wrongModules N = outside 1 mostModules N
 
--- 4. The record offset plus 10n plus 8 is not the sheet's length.
+-- 4. The record offset plus 12n plus 8 is not the sheet's length.
 abbrev pub wrongOffset : List ℕ → Bool
 wrongOffset s = not (eqb (offsetOf s + recordSize * countOf s + trailerSize) (length s))
 
@@ -41,7 +41,8 @@ faulty n j =
     || (outside 1 widestJob (j .modules)
     || (outside 1 mostMinutes (j .minutes)
     || (outside 0 lastDeparture (j .departure)
-    || leb (2 ^ n) (j .earlier))))
+    || (outside 0 lastArrival (j .arrival)
+    || leb (2 ^ n) (j .earlier)))))
 
 -- 5. Some record has a field outside its range above, or an earlier-job bit at n or higher.
 abbrev pub someFaulty : ℕ → (ℕ → Job) → Bool

@@ -1,16 +1,16 @@
 -- The figures of job sheets (requirements, S and C). Each stands here or in `figures` once; src/layout.rt has a
 -- constant for each.
 use Prim.Native.Nat.{ℕ}
--- n is 0 to 20, N is 1 to 64, a job takes 1 to 1440 minutes
-pub use Rattle.figures.specs.Figures.{mostJobs, mostModules, mostMinutes}
+-- n is 0 to 20, N is 1 to 64, a job takes 1 to 1440 minutes, an arrival is 0 to 1440
+pub use Rattle.figures.specs.Figures.{mostJobs, mostModules, mostMinutes, lastArrival}
 
--- the longest sheet has 528 bytes
+-- the longest sheet has 568 bytes
 abbrev pub longestSheet : ℕ
-longestSheet = 528
+longestSheet = 568
 
--- a record has 10 bytes
+-- a record has 12 bytes
 abbrev pub recordSize : ℕ
-recordSize = 10
+recordSize = 12
 
 -- the trailer has 8 bytes, and the shortest sheet is a trailer alone
 abbrev pub trailerSize : ℕ

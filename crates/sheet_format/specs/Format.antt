@@ -7,7 +7,7 @@ use Rattle.words.specs.Words.{byteAt, u16At, u32At, bytesOf}
 use Rattle.sheet_format.specs.declared.Job.{Job}
 use Rattle.sheet_format.specs.Figures.{mostJobs, recordSize, trailerSize}
 
--- ---- a record: label length (1 byte), modules needed (1), minutes (2), earlier jobs (4), departure (2)
+-- ---- a record: label length (1 byte), modules needed (1), minutes (2), earlier jobs (4), departure (2), arrival (2)
 
 abbrev pub labelLength : Job → ℕ
 labelLength j = j .«label_len»
@@ -19,15 +19,17 @@ recordAt s at = record {
   minutes = u16At s (at + 2);
   earlier = u32At s (at + 4);
   departure = u16At s (at + 8);
+  arrival = u16At s (at + 10);
 }
 
 unfoldable pub recordBytes : Job → List ℕ
 recordBytes j =
-    labelLength j ∷ j .modules ∷ (bytesOf 2 (j .minutes) ++ (bytesOf 4 (j .earlier) ++ bytesOf 2 (j .departure)))
+    labelLength j ∷ j .modules
+    ∷ (bytesOf 2 (j .minutes) ++ (bytesOf 4 (j .earlier) ++ (bytesOf 2 (j .departure) ++ bytesOf 2 (j .arrival))))
 
 -- the empty record that stands in the places past the last job
 abbrev pub noJob : Job
-noJob = record { «label_len» = 0; modules = 0; minutes = 0; earlier = 0; departure = 0 }
+noJob = record { «label_len» = 0; modules = 0; minutes = 0; earlier = 0; departure = 0; arrival = 0 }
 
 -- ---- the trailer: offset of the first record (4 bytes), n (2), modules N in the cabinet (2)
 

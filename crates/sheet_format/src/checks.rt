@@ -11,6 +11,7 @@ use super::labels::wrong_labels;
 use super::layout::LAST_DEPARTURE;
 use super::layout::LONGEST_LABEL;
 use super::layout::WIDEST_JOB;
+use figures::LAST_ARRIVAL;
 use figures::MOST_JOBS;
 use figures::MOST_MINUTES;
 
@@ -41,10 +42,14 @@ pub fn faulty(count: usize, job: Job) -> bool
     let modules = outside(1, WIDEST_JOB, job.modules as usize);
     let minutes = outside(1, MOST_MINUTES, job.minutes as usize);
     let departure = outside(0, LAST_DEPARTURE, job.departure as usize);
+    let arrival = outside(0, LAST_ARRIVAL as usize, job.arrival as usize);
     let earlier = job.earlier >> count != 0;
     either(
         length,
-        either(modules, either(minutes, either(departure, earlier))),
+        either(
+            modules,
+            either(minutes, either(departure, either(arrival, earlier))),
+        ),
     )
 }
 

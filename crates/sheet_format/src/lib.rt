@@ -13,4 +13,5 @@ pub struct Job {
     pub minutes: u16,
     pub earlier: u32,
     pub departure: u16,
+    pub arrival: u16,
 }

@@ -39,6 +39,7 @@ fn no_job() -> Job
         minutes: 0,
         earlier: 0,
         departure: 0,
+        arrival: 0,
     }
 }
 
@@ -67,6 +68,7 @@ pub fn read_one(s: &[u8], at: usize) -> Job
         minutes: read16(s, at + 2),
         earlier: read32(s, at + 4),
         departure: read16(s, at + 8),
+        arrival: read16(s, at + 10),
     }
 }
 
@@ -139,6 +141,7 @@ fn write_one(part: &mut [u8], job: Job)
     write16(part, 2, job.minutes);
     write32(part, 4, job.earlier);
     write16(part, 8, job.departure);
+    write16(part, 10, job.arrival);
 }
 
 // The records of the first `count` jobs, one behind another.

@@ -7,9 +7,16 @@ use Rattle.tables.specs.Tables.{listFrom}
 abbrev pub tailsIn : List ℕ → List ℕ
 tailsIn p = p
 
+-- the minute before which each job cannot start
+abbrev pub headsFrom : ℕ
+headsFrom = 20
+
+abbrev pub headsIn : List ℕ → List ℕ
+headsIn p = listFrom headsFrom p
+
 -- three sets of related jobs for each job
 abbrev pub relatedFrom : ℕ
-relatedFrom = 20
+relatedFrom = 40
 
 abbrev pub relatedPlaces : ℕ
 relatedPlaces = 60

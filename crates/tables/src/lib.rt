@@ -6,7 +6,7 @@ ghost use lib.ListN.{getD};
 ghost use Rattle.figures.specs.Figures.{mostJobs};
 ghost use Rattle.tables.specs.Tables.{needAt, minutesAt, arrivalAt, earlierAt, countOf, modulesOf};
 ghost use Rattle.tables.specs.Part.{partIn};
-ghost use Rattle.tables.specs.Prepared.{relatedPlaces, worthPlaces, mostPlaces, lanesPlaces, tailsIn, relatedIn, worthIn, mostIn, lanesIn};
+ghost use Rattle.tables.specs.Prepared.{relatedPlaces, worthPlaces, mostPlaces, lanesPlaces, tailsIn, headsIn, relatedIn, worthIn, mostIn, lanesIn};
 
 // A number as an index.
 fn wide(x: u16) -> usize
@@ -193,19 +193,21 @@ pub fn left(part: &Part) -> u32
 
 // ---- the prepared table
 
-// What is made of the jobs once, side by side: the longest chain of each job, from RELATED on three sets for each job, from WORTH and MOST
-// on five weightings, and from LANES on the tables of the lanes.
-pub const PREPARED_PLACES: usize = 1615;
+// What is made of the jobs once, side by side: the longest chain of each job, from HEADS on the minute before which it cannot start, from
+// RELATED on three sets for each job, from WORTH and MOST on five weightings, and from LANES on the tables of the lanes.
+pub const PREPARED_PLACES: usize = 1635;
 
 pub type Prepared = [u32; PREPARED_PLACES];
 
-pub const RELATED: usize = 20;
+pub const HEADS: usize = 20;
 
-pub const WORTH: usize = 80;
+pub const RELATED: usize = 40;
 
-pub const MOST: usize = 180;
+pub const WORTH: usize = 100;
 
-pub const LANES: usize = 505;
+pub const MOST: usize = 200;
+
+pub const LANES: usize = 525;
 
 // The longest chain that begins with job j.
 pub fn tail(prepared: &Prepared, j: usize) -> u32
@@ -213,6 +215,14 @@ pub fn tail(prepared: &Prepared, j: usize) -> u32
     ensures { λ r. ⌜ r ≡ getD (tailsIn (now (prepared .entry))) j 0 ⌝ }
 {
     prepared[j]
+}
+
+// The minute before which job j cannot start.
+pub fn head(prepared: &Prepared, j: usize) -> u32
+    requires { ⌜ j < mostJobs ⌝ }
+    ensures { λ r. ⌜ r ≡ getD (headsIn (now (prepared .entry))) j 0 ⌝ }
+{
+    prepared[HEADS + j]
 }
 
 // Place i of the jobs' relations.

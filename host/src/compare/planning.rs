@@ -149,7 +149,7 @@ impl Planning {
         for _ in 0..times {
             let sheet = sheets::good(&mut self.random);
             let room = self.enough(MOST_JOBS);
-            let bytes = sheets::scrambled(&mut self.random, sheet);
+            let bytes = sheets::scrambled(&mut self.random, sheet.bytes());
             self.compare(&bytes, room);
         }
     }

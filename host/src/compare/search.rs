@@ -1,6 +1,6 @@
 //! The search in plain Rust against the library: the same order and end, whatever the memory and whichever rule is left out.
 use super::sheets;
-use crate::families::Family;
+use crate::families::{Arrivals, Family};
 use crate::lists::List;
 use crate::plain_search::{run_with, Found, Outcome, Rules, Tables};
 use crate::random::Random;
@@ -21,8 +21,19 @@ pub fn compare_each_left_out(family: &Family, seed: u64) {
     compare_with(family, seed, n, &Rules::each_left_out());
 }
 
+/// Plans a list of the family with arrivals, of 2 to 9 jobs, both ways.
+pub fn compare_arriving(family: &Family, seed: u64) {
+    let n = (seed % 8) as usize + 2;
+    for arrivals in Arrivals::ALL {
+        compare_lists(&family.arriving(seed, n, arrivals), seed, &[("no rule", Rules::default())]);
+    }
+}
+
 fn compare_with(family: &Family, seed: u64, n: usize, all: &[(&str, Rules)]) {
-    let list = family.list(seed, n);
+    compare_lists(&family.list(seed, n), seed, all);
+}
+
+fn compare_lists(list: &List, seed: u64, all: &[(&str, Rules)]) {
     let n = list.jobs.len();
     let length = MEMORY[(seed % MEMORY.len() as u64) as usize];
     let mut card = vec![0; card_length(n)];
@@ -31,7 +42,7 @@ fn compare_with(family: &Family, seed: u64, n: usize, all: &[(&str, Rules)]) {
     plan(&list.sheet(), &mut card, &mut work).unwrap_or_else(|refusal| panic!("{}: {refusal}", about()));
     for (left_out, rules) in all {
         work.fill(0xA5);
-        let found = found(run_with(&Tables::of(&list), &mut work, rules));
+        let found = found(run_with(&Tables::of(list), &mut work, rules));
         assert_eq!(found.order, card[12 * n..13 * n], "{}, {left_out} left out", about());
         assert_eq!(found.end.to_le_bytes(), card[13 * n + 4..13 * n + 6], "{}, {left_out} left out", about());
         assert!(work.iter().all(|byte| *byte == 0), "{}, {left_out} left out", about());
@@ -46,32 +57,27 @@ fn found(outcome: Outcome) -> Found {
     }
 }
 
-/// Jobs that arrive when they may not start yet: the search, with all rules or with one left out, against every order. Tells whether the
-/// arrivals bite, which is to say that without them there is another plan.
+/// A sheet of which some jobs arrive after minute 0, against every order: the card that planning leaves, byte for byte, and the search in
+/// plain Rust, with all rules or with one left out. Tells whether the arrivals bite, which is to say that without them there is another
+/// plan.
 pub fn compare_arrivals(random: &mut Random, all: &[(&str, Rules)]) -> bool {
-    let sheet = sheets::good(random);
-    let last = random.pick(&[1, 3, 10, 40]);
-    let step = random.pick(&[1, 1, 2, 5]);
-    let list = List { name: String::new(), modules: sheet.modules, jobs: sheet.jobs };
-    let mut read = reading::read(&list.sheet()).expect("a good sheet");
-    let mut tables = Tables::of(&list);
-    let without = planning::best(&read);
-    for (j, job) in read.jobs.iter_mut().enumerate() {
-        let late = random.percent(60);
-        job.arrival = if late { (random.between(0, last) * step) as u32 } else { 0 };
-        tables.arrival[j] = job.arrival as u16;
-    }
+    let sheet = sheets::arriving(random);
+    let bytes = sheet.bytes();
+    let mut read = reading::read(&bytes).expect("a good sheet");
     let best = planning::best(&read);
     let mut work = vec![0; random.pick(&MEMORY)];
+    let about = || format!("sheet {bytes:02x?}, {read:?}");
+    let mut card = vec![0; card_length(sheet.jobs.len())];
+    plan(&bytes, &mut card, &mut work).unwrap_or_else(|refusal| panic!("{}: {refusal}", about()));
+    assert_eq!(card, best.card(), "{}, memory {}", about(), work.len());
+    let tables = Tables::of(&List { name: String::new(), modules: sheet.modules, jobs: sheet.jobs });
     for (left_out, rules) in all {
         let found = found(run_with(&tables, &mut work, rules));
         let order: Vec<usize> = found.order.iter().map(|job| usize::from(*job)).collect();
-        assert_eq!(
-            (u32::from(found.end), &order),
-            (best.end, &best.order),
-            "{read:?}, {left_out} left out, memory {}",
-            work.len()
-        );
+        let (end, memory) = (u32::from(found.end), work.len());
+        assert_eq!((end, &order), (best.end, &best.order), "{}, {left_out} left out, memory {memory}", about());
     }
+    read.jobs.iter_mut().for_each(|job| job.arrival = 0);
+    let without = planning::best(&read);
     (best.end, &best.order) != (without.end, &without.order)
 }

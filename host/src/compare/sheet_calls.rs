@@ -25,7 +25,7 @@ fn in_reference(job: &Job) -> reading::Job {
         minutes: job.minutes.into(),
         earlier: (0..32).filter(|i| job.earlier & 1 << i != 0).collect(),
         departure: job.departure.into(),
-        arrival: 0,
+        arrival: job.arrival.into(),
     }
 }
 
@@ -96,8 +96,7 @@ impl Sheets {
         self.answers[number as usize] += 1;
         for against in [Against::End, Against::Front] {
             let before = self.noise(room);
-            let padding = self.noise(2);
-            let records: Vec<u8> = jobs.iter().flat_map(|job| as_lent(job, &padding)).collect();
+            let records: Vec<u8> = jobs.iter().flat_map(as_lent).collect();
             let lent_jobs = self.jobs.lend(against, &records).as_ptr();
             let lent_labels = self.labels.lend(against, labels);
             let out = self.sheet.lend(against, &before);
@@ -147,7 +146,7 @@ impl Sheets {
     pub fn scrambled_reading(&mut self, times: usize) {
         for _ in 0..times {
             let sheet = sheets::good(&mut self.random);
-            let bytes = sheets::scrambled(&mut self.random, sheet);
+            let bytes = sheets::scrambled(&mut self.random, sheet.bytes());
             self.compare_reading(&bytes);
         }
     }
@@ -199,13 +198,13 @@ impl Sheets {
     }
 }
 
-/// A job record as C has it in memory: two bytes stand behind the departure.
-fn as_lent(job: &Job, padding: &[u8]) -> Vec<u8> {
+/// A job record as C has it in memory, without a gap.
+fn as_lent(job: &Job) -> Vec<u8> {
     let mut bytes = vec![job.label_len, job.modules];
     bytes.extend(job.minutes.to_le_bytes());
     bytes.extend(job.earlier.to_le_bytes());
     bytes.extend(job.departure.to_le_bytes());
-    bytes.extend(padding);
+    bytes.extend(job.arrival.to_le_bytes());
     assert_eq!(bytes.len(), size_of::<Job>());
     bytes
 }

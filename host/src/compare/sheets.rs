@@ -9,12 +9,22 @@ pub fn good(random: &mut Random) -> Sheet {
     of_size(random, n)
 }
 
+/// Such a sheet whose jobs arrive when others run: few minutes, and more than half of the jobs after minute 0.
+pub fn arriving(random: &mut Random) -> Sheet {
+    let mut sheet = good(random);
+    let (steps, step) = random.pick(&[(1, 1), (3, 1), (10, 1), (40, 1), (8, 5)]);
+    let arrivals = Arrivals { percent: 75, steps, step };
+    sheet.jobs.iter_mut().for_each(|job| job.arrival = arrivals.draw(random));
+    sheet
+}
+
 /// Such a sheet of n jobs.
 pub fn of_size(random: &mut Random, n: usize) -> Sheet {
     let most = random.pick(&[1, 2, 2, 3, 4, 5, 8, 64]);
     let modules = random.between(1, most);
     let long = n < 6 && random.percent(10);
     let longest = if long { 1440 } else { random.pick(&[1, 2, 5, 12, 30]) };
+    let arrivals = Arrivals::some(random);
     let mut jobs: Vec<Job> = (0..n)
         .map(|_| Job {
             label_len: random.pick(&[1, 2, 3, 8, 15, 16]),
@@ -22,12 +32,32 @@ pub fn of_size(random: &mut Random, n: usize) -> Sheet {
             minutes: random.between(1, longest) as u16,
             earlier: 0,
             departure: random.between(0, 2880) as u16,
+            arrival: arrivals.draw(random),
         })
         .collect();
     let percent = random.pick(&[0, 0, 10, 30, 60, 100]);
     mark_earlier(random, &mut jobs, percent);
     let labels: Vec<u8> = jobs.iter().flat_map(|job| label(random, job.label_len.into())).collect();
     Sheet { offset: labels.len() as u32, count: n as u16, modules: modules as u16, labels, jobs }
+}
+
+/// How the jobs of a sheet arrive: so many of a hundred after minute 0, in steps, up to a last one.
+struct Arrivals {
+    percent: u32,
+    steps: u32,
+    step: u32,
+}
+
+impl Arrivals {
+    fn some(random: &mut Random) -> Arrivals {
+        let (steps, step) = random.pick(&[(1, 1), (3, 1), (10, 1), (40, 1), (8, 5), (1, 1440), (1440, 1)]);
+        Arrivals { percent: random.pick(&[0, 60, 60, 100]), steps, step }
+    }
+
+    fn draw(&self, random: &mut Random) -> u16 {
+        let late = random.percent(self.percent);
+        (if late { random.between(0, self.steps) * self.step } else { 0 }) as u16
+    }
 }
 
 /// A label of so many bytes, with spaces inside alone.
@@ -52,7 +82,7 @@ pub fn damaged(random: &mut Random, mut sheet: Sheet, checks: &[u32]) -> Vec<u8>
         if random.percent(50) {
             bytes.truncate(random.place(8));
         } else {
-            let longer = random.pick(&[529, 530, 700]) - bytes.len();
+            let longer = random.pick(&[569, 570, 700]) - bytes.len();
             bytes.splice(0..0, vec![b'z'; longer]);
         }
     }
@@ -78,9 +108,8 @@ pub fn put_fault(random: &mut Random, sheet: &mut Sheet, check: u32) {
     }
 }
 
-/// Some bytes of the sheet changed, no matter which.
-pub fn scrambled(random: &mut Random, sheet: Sheet) -> Vec<u8> {
-    let mut bytes = sheet.bytes();
+/// The sheet with some bytes changed, no matter which.
+pub fn scrambled(random: &mut Random, mut bytes: Vec<u8>) -> Vec<u8> {
     for _ in 0..random.between(1, 3) {
         let place = random.place(bytes.len());
         bytes[place] = if random.percent(50) { bytes[place] ^ (1 << random.place(8)) } else { random.word() as u8 };
@@ -107,13 +136,14 @@ fn misplace(random: &mut Random, sheet: &mut Sheet) {
 }
 
 fn wrong_field(random: &mut Random, job: &mut Job, n: u16) {
-    match random.place(6) {
+    match random.place(7) {
         0 => job.label_len = 0,
         1 => job.label_len = outside(random, 17).min(255) as u8,
         2 => job.modules = 0,
         3 => job.minutes = if random.percent(30) { 0 } else { outside(random, 1441) },
         4 => job.earlier |= 1 << random.between(u32::from(n).min(31), 31),
-        _ => job.departure = outside(random, 2881),
+        5 => job.departure = outside(random, 2881),
+        _ => job.arrival = outside(random, 1441),
     }
 }
 

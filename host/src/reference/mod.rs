@@ -1,5 +1,6 @@
 //! Independent implementations, written from docs/REQUIREMENTS.md alone: slow, plain and literal.
 pub mod desk;
+pub mod older;
 pub mod planning;
 pub mod reading;
 pub mod writing;

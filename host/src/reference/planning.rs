@@ -12,17 +12,21 @@ pub struct Slot {
 
 /// The card of the sheet's plan, or the number of the first check that fails; `room` is the lent card's length.
 pub fn plan(bytes: &[u8], room: usize) -> Result<Vec<u8>, u32> {
-    let sheet = read(bytes)?;
+    plan_read(&read(bytes)?, room)
+}
+
+/// The same of a sheet that reads: checks 8 to 10.
+pub fn plan_read(sheet: &Sheet, room: usize) -> Result<Vec<u8>, u32> {
     if sheet.jobs.iter().any(|job| job.modules > sheet.modules) {
         return Err(8);
     }
-    if some_job_precedes_itself(&sheet) {
+    if some_job_precedes_itself(sheet) {
         return Err(9);
     }
     if room < 13 * sheet.jobs.len() + 8 {
         return Err(10);
     }
-    Ok(card(&best(&sheet).slots))
+    Ok(best(sheet).card())
 }
 
 /// The plan of a sheet of which 1 to 9 do not fail.
@@ -56,6 +60,13 @@ pub struct Finished {
     pub end: u32,
     pub order: Vec<usize>,
     slots: Vec<Slot>,
+}
+
+impl Finished {
+    /// The bytes of its card.
+    pub fn card(&self) -> Vec<u8> {
+        card(&self.slots)
+    }
 }
 
 /// Goes on from the jobs placed so far to every order of all jobs in which each follows its earlier jobs.

@@ -10,7 +10,7 @@ pub struct Job {
     /// The numbers of the jobs that must have ended first.
     pub earlier: Vec<usize>,
     pub departure: u32,
-    /// The first minute at which it may start; 0 of every job of a sheet.
+    /// The first minute at which it may start.
     pub arrival: u32,
 }
 
@@ -23,14 +23,14 @@ pub struct Sheet {
 }
 
 /// A number of up to eight bytes, little-endian.
-fn number(bytes: &[u8]) -> u64 {
+pub(super) fn number(bytes: &[u8]) -> u64 {
     bytes.iter().rev().fold(0, |value, byte| value * 256 + u64::from(*byte))
 }
 
 /// The sheet's jobs and N, or the number of the first check that fails.
 pub fn read(bytes: &[u8]) -> Result<Sheet, u32> {
     let length = bytes.len() as u64;
-    if !(8..=528).contains(&length) {
+    if !(8..=568).contains(&length) {
         return Err(1);
     }
     let (front, trailer) = bytes.split_at(bytes.len() - 8);
@@ -43,11 +43,11 @@ pub fn read(bytes: &[u8]) -> Result<Sheet, u32> {
     if modules == 0 || modules > 64 {
         return Err(3);
     }
-    if offset + 10 * n + 8 != length {
+    if offset + 12 * n + 8 != length {
         return Err(4);
     }
     let (labels, records) = front.split_at(offset as usize);
-    let records: Vec<&[u8]> = records.chunks(10).collect();
+    let records: Vec<&[u8]> = records.chunks(12).collect();
     if records.iter().any(|record| outside(record, n)) {
         return Err(5);
     }
@@ -89,10 +89,12 @@ pub(super) fn outside(record: &[u8], n: u64) -> bool {
     let minutes = number(&record[2..4]);
     let earlier = number(&record[4..8]);
     let departure = number(&record[8..10]);
+    let arrival = number(&record[10..12]);
     !(1..=16).contains(&label_length)
         || !(1..=255).contains(&modules)
         || !(1..=1440).contains(&minutes)
         || departure > 2880
+        || arrival > 1440
         || (n..32).any(|bit| earlier >> bit & 1 == 1)
 }
 
@@ -104,6 +106,6 @@ fn job(record: &[u8]) -> Job {
         minutes: number(&record[2..4]) as u32,
         earlier: (0..32).filter(|bit| earlier >> bit & 1 == 1).collect(),
         departure: number(&record[8..10]) as u32,
-        arrival: 0,
+        arrival: number(&record[10..12]) as u32,
     }
 }

@@ -28,12 +28,13 @@ pub fn write(jobs: &[Job], labels: &[u8], modules: u16, room: usize) -> Result<V
     Ok(sheet)
 }
 
-/// Label length (1 byte), modules (1), minutes (2), earlier jobs (4), departure (2).
+/// Label length (1 byte), modules (1), minutes (2), earlier jobs (4), departure (2), arrival (2).
 fn record(job: &Job) -> Vec<u8> {
     let mut bytes = vec![job.label_len, job.modules];
     bytes.extend(little_endian(job.minutes.into(), 2));
     bytes.extend(little_endian(job.earlier, 4));
     bytes.extend(little_endian(job.departure.into(), 2));
+    bytes.extend(little_endian(job.arrival.into(), 2));
     bytes
 }
 

@@ -14,11 +14,11 @@ use Rattle.overlaps.proofs.all_hold.Statement.{statement}
 use Rattle.overlaps.proofs.all_hold.Tie as tie
 
 abbrev Inv-loop : tie.InvT-loop
-Inv-loop jobs set l target m total₀ todo₀ total todo =
-    Walk set (countOf jobs) todo × Weighed set (countOf jobs) (mustHold jobs l target m) todo total
+Inv-loop jobs prepared set l target m total₀ todo₀ total todo =
+    Walk set (countOf jobs) todo × Weighed set (countOf jobs) (mustHold jobs prepared l target m) todo total
 
 abbrev μ-loop : tie.MeasureT-loop
-μ-loop jobs set l target m total₀ todo₀ total todo = ones todo
+μ-loop jobs prepared set l target m total₀ todo₀ total todo = ones todo
 
 count-requires : tie.Need-count-requires Inv-loop μ-loop
 count-requires c κs = search needs
@@ -36,55 +36,54 @@ lowest32-requires : tie.Need-lowest32-requires Inv-loop μ-loop
 lowest32-requires c κs = pos-of-ne-zero (c .loop-test .taken)
 
 need-requires : tie.Need-need-requires Inv-loop μ-loop
-need-requires c κs =
-    let loop = c .before .before .loop in
-    let pre = c .before .before .before .before .before .pre in
-    omega (arith, pre .few, loop .inv .0 .below (c .lowest32 .result) (c .lowest32 .ensures .1))
+need-requires c κs = omega (arith, c .before .before .before .before .before .pre .few, c .before .before .loop .inv .0 .below (c .lowest32 .result) (c .lowest32 .ensures .1))
 
 minutes-requires : tie.Need-minutes-requires Inv-loop μ-loop
 minutes-requires c κs =
-    let lowest32 = c .before .lowest32 in
-    let loop = c .before .before .before .loop in
-    let pre = c .before .before .before .before .before .before .pre in
-    omega (arith, pre .few, loop .inv .0 .below (lowest32 .result) (lowest32 .ensures .1))
+    let low = c .before .lowest32 in
+    omega (arith, c .before .before .before .before .before .before .pre .few, c .before .before .before .loop .inv .0 .below (low .result) (low .ensures .1))
+
+first-start-requires : tie.Need-first-start-requires Inv-loop μ-loop
+first-start-requires c κs =
+    let low = c .before .before .lowest32 in
+    omega (arith, c .before .before .before .before .before .before .before .pre .few, c .before .before .before .before .loop .inv .0 .below (low .result) (low .ensures .1))
+
+tail-requires : tie.Need-tail-requires Inv-loop μ-loop
+tail-requires c κs =
+    let low = c .before .before .before .lowest32 in
+    omega (arith, c .before .before .before .before .before .before .before .before .pre .few, c .before .before .before .before .before .loop .inv .0 .below (low .result) (low .ensures .1))
 
 must-hold-requires : tie.Need-must-hold-requires Inv-loop μ-loop
 must-hold-requires c κs = search needs
 
 add-total : tie.Need-add-total Inv-loop μ-loop
 add-total c =
-    let lowest32 = c .before .before .before .lowest32 in
-    let loop = c .before .before .before .before .before .loop in
-    let a = c .before .before .before .before .before .before .before .before .args in
-    let pre = c .before .before .before .before .before .before .before .before .pre in
-    let k = lowest32 .result in
-    let member = lowest32 .ensures .1 in
-    let low = loop .inv .0 .below k member in
-    let small = weighed-small (loop .inv .1) k low member mostModules (hold-small pre (a .l) (a .target) (a .m)) in
-    let held = rw (c .before .before .need .ensures, c .before .minutes .ensures) at (c .must-hold .ensures) in
-    record { fits = omega (arith, held, pre .few, small) }
+    let low = c .before .before .before .before .before .lowest32 in
+    let loop = c .before .before .before .before .before .before .before .loop in
+    let start = (c .before .before .before .before .before .before .before .before) .before .before in
+    let a = start .args in
+    let inside = loop .inv .0 .below (low .result) (low .ensures .1) in
+    let small = weighed-small (loop .inv .1) (low .result) inside (low .ensures .1) mostModules
+    (hold-small (start .pre) (a .prepared .now) (a .l) (a .target) (a .m)) in
+    let held = rw (c .before .before .before .before .need .ensures, c .before .before .before .minutes .ensures, c .before .before .first-start .ensures, c .before .tail .ensures) at (c .must-hold .ensures) in
+    record { fits = omega (arith, held, start .pre .few, small) }
 
 without-lowest32-requires : tie.Need-without-lowest32-requires Inv-loop μ-loop
-without-lowest32-requires c κs = pos-of-ne-zero (c .before .before .before .before .loop-test .taken)
+without-lowest32-requires c κs = pos-of-ne-zero (c .before .before .before .before .before .before .loop-test .taken)
 
 loop-less : tie.Need-loop-less Inv-loop μ-loop
 loop-less c =
-    let lowest32 = c .before .before .before .before .lowest32 in
-    let loop = c .before .before .before .before .before .before .loop in
-    let low = lowest32 .ensures in
-    rw (c .without-lowest32 .ensures _ (low .1) (low .2)) (walk-less (loop .todo) (lowest32 .result) (low .1))
+    let low = c .before .before .before .before .before .before .lowest32 in
+    rw (c .without-lowest32 .ensures _ (low .ensures .1) (low .ensures .2)) (walk-less (c .before .before .before .before .before .before .before .before .loop .todo) (low .result) (low .ensures .1))
 
 loop-again : tie.Need-loop-again Inv-loop μ-loop
 loop-again c =
-    let lowest32 = c .before .before .before .before .lowest32 in
-    let loop = c .before .before .before .before .before .before .loop in
-    let need = c .before .before .before .need .ensures in
-    let minutes = c .before .before .minutes .ensures in
-    let k = lowest32 .result in
-    let member = lowest32 .ensures .1 in
-    let low = loop .inv .0 .below k member in
-    rw (c .without-lowest32 .ensures _ member (lowest32 .ensures .2), c .before .must-hold .ensures, need, minutes)
-    (walk-next k (loop .inv .0), weighed-more (loop .inv .1) k low member)
+    let low = c .before .before .before .before .before .before .lowest32 in
+    let loop = c .before .before .before .before .before .before .before .before .loop in
+    let member = low .ensures .1 in
+    let inside = loop .inv .0 .below (low .result) member in
+    rw (c .without-lowest32 .ensures _ member (low .ensures .2), c .before .must-hold .ensures, c .before .before .before .before .before .need .ensures, c .before .before .before .before .minutes .ensures, c .before .before .before .first-start .ensures, c .before .before .tail .ensures)
+    (walk-next (low .result) (loop .inv .0), weighed-more (loop .inv .1) (low .result) inside member)
 
 returns : tie.Need-returns Inv-loop μ-loop
 returns c = weighed-all (c .before .loop .inv .1) (omega (arith, c .loop-test .left))
@@ -101,6 +100,8 @@ all-hold-spec =
     lowest32-requires
     need-requires
     minutes-requires
+    first-start-requires
+    tail-requires
     must-hold-requires
     add-total
     without-lowest32-requires

@@ -17,17 +17,17 @@ add-if2 c = search needs
 returns : tie.Need-returns
 returns c =
     let a = c .before .before .args in
-    rw (le-leb (a .target) (a .m + a .minutes) (c .before .if1 .taken), lt-ltb (a .m) (a .l + a .minutes) (c .if2 .taken)) refl
+    rw (le-leb (a .target) (a .m + a .tail) (c .before .if1 .taken), lt-ltb (a .m) (a .first + a .minutes) (c .if2 .taken)) refl
 
 returns-2 : tie.Need-returns-2
 returns-2 c =
     let a = c .before .before .args in
-    rw (le-ltb (a .m) (a .l + a .minutes) (c .if2 .left), and-false (leb (a .target) (a .m + a .minutes))) refl
+    rw (le-ltb (a .m) (a .first + a .minutes) (c .if2 .left), and-false (leb (a .target) (a .m + a .tail))) refl
 
 returns-3 : tie.Need-returns-3
 returns-3 c =
     let a = c .before .args in
-    rw (lt-leb (a .target) (a .m + a .minutes) (c .if1 .left)) refl
+    rw (lt-leb (a .target) (a .m + a .tail) (c .if1 .left)) refl
 
 pub must-hold-spec : {M : Type 1} → statement M
 must-hold-spec = tie.close (tie.spec add-if1 add-if2 returns returns-2 returns-3)

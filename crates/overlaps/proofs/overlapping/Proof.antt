@@ -13,10 +13,10 @@ use Rattle.overlaps.proofs.overlapping.Statement.{statement}
 use Rattle.overlaps.proofs.overlapping.Tie as tie
 
 abbrev Inv-loop : tie.InvT-loop
-Inv-loop jobs part gone free l target todo₀ todo = Walk (partIn part .unplaced) (countOf jobs) todo
+Inv-loop jobs prepared part gone free l target todo₀ todo = Walk (partIn part .unplaced) (countOf jobs) todo
 
 abbrev μ-loop : tie.MeasureT-loop
-μ-loop jobs part gone free l target todo₀ todo = ones todo
+μ-loop jobs prepared part gone free l target todo₀ todo = ones todo
 
 unplaced-requires : tie.Need-unplaced-requires Inv-loop μ-loop
 unplaced-requires c κs = search needs
@@ -33,30 +33,26 @@ loop-holds c = rw (c .below32 .ensures, c .before .count .ensures, c .before .be
 lowest32-requires : tie.Need-lowest32-requires Inv-loop μ-loop
 lowest32-requires c κs = pos-of-ne-zero (c .loop-test .taken)
 
-minutes-requires : tie.Need-minutes-requires Inv-loop μ-loop
-minutes-requires c κs =
-    let loop = c .before .before .loop in
-    let pre = c .before .before .before .before .before .before .pre in
-    omega (arith, loop .inv .below _ (c .lowest32 .ensures .1), pre .0 .few)
-
 no-room-for-requires : tie.Need-no-room-for-requires Inv-loop μ-loop
-no-room-for-requires c κs = c .before .before .before .before .before .before .before .pre
+no-room-for-requires c κs =
+    let pre = c .before .before .before .before .before .before .pre in
+    (pre .0, (pre .1, omega (arith, c .before .before .loop .inv .below _ (c .lowest32 .ensures .1), pre .0 .few)))
 
 returns : tie.Need-returns Inv-loop μ-loop
 returns c = λ e. c .before .no-room-for .ensures (c .if1 .taken)
 
 without-lowest32-requires : tie.Need-without-lowest32-requires Inv-loop μ-loop
-without-lowest32-requires c κs = pos-of-ne-zero (c .before .before .before .before .loop-test .taken)
+without-lowest32-requires c κs = pos-of-ne-zero (c .before .before .before .loop-test .taken)
 
 loop-less : tie.Need-loop-less Inv-loop μ-loop
 loop-less c =
-    let low = c .before .before .before .before .lowest32 .ensures in
+    let low = c .before .before .before .lowest32 .ensures in
     rw (c .without-lowest32 .ensures _ (low .1) (low .2)) (walk-less _ _ (low .1))
 
 loop-again : tie.Need-loop-again Inv-loop μ-loop
 loop-again c =
-    let low = c .before .before .before .before .lowest32 .ensures in
-    rw (c .without-lowest32 .ensures _ (low .1) (low .2)) (walk-next _ (c .before .before .before .before .before .before .loop .inv))
+    let low = c .before .before .before .lowest32 .ensures in
+    rw (c .without-lowest32 .ensures _ (low .1) (low .2)) (walk-next _ (c .before .before .before .before .before .loop .inv))
 
 returns-2 : tie.Need-returns-2 Inv-loop μ-loop
 returns-2 c = λ e. clash false e refl
@@ -72,7 +68,6 @@ overlapping-spec =
     below32-requires
     loop-holds
     lowest32-requires
-    minutes-requires
     no-room-for-requires
     returns
     without-lowest32-requires

@@ -3,9 +3,10 @@ use mathlib.Core.Path.{_≡_}
 use mathlib.Core.Logic.{inl}
 use native.Mathlib.Omega.{arith}
 use lib.ListN.{length}
-use Rattle.tables.specs.Prepared.{relatedIn}
+use Rattle.tables.specs.Prepared.{headsIn, relatedIn}
 use Rattle.relations.proofs.Chaining.{chains-same}
 use Rattle.relations.proofs.Pairs.{related-same}
+use Rattle.heads.proofs.Advancing.{heads-same}
 use Rattle.weights.proofs.Knapsack.{weighted-alike}
 use Rattle.values.proofs.Laws.{laned-alike}
 use Rattle.preparing.proofs.Filling.{put-is, kept-from}
@@ -31,6 +32,7 @@ returns c =
     let new = c .put .last .0 in
     record {
       chains = chains-same new (fit .few) (λ j l. put .kept .outside j (inl (omega arith))) (begun .chains);
+      heads = heads-same (headsIn new) (fit .few) (kept-from (put .kept) (inl (omega arith))) (begun .heads);
       related = related-same (a .jobs .now) (relatedIn (a .prepared .now)) (relatedIn new) (fit .few) (kept-from (put .kept) (inl (omega arith))) (begun .related);
       weighted = weighted-alike fit (kept-from (put .kept) (inl (omega arith))) (kept-from (put .kept) (inl (omega arith))) (begun .weighted);
       laned = laned-alike fit (put-is put) (lanes-of .ensures);

@@ -3,6 +3,7 @@ use mathlib.Core.Path.{_≡_, _∙_}
 use mathlib.Core.Logic.{inl}
 use native.Mathlib.Omega.{arith}
 use lib.ListN.{length}
+use Rattle.tables.specs.Prepared.{worthFrom, lanesFrom}
 use Rattle.weights.proofs.Knapsack.{weighted-alike}
 use Rattle.preparing.proofs.Filling.{put-is, kept-from, kept-both}
 use borrow.Author.Needs.{needs}
@@ -27,7 +28,7 @@ returns c =
     let worth = rw n at (c .before .before .before .before .before .put .ensures) in
     let most = rw m at (c .put16 .ensures) in
     let fit = past .before .before .before .pre .1 in (
-      kept-both 80 505 (worth .kept) (most .kept) (omega arith) (omega arith) (omega arith) (omega arith),
+      kept-both worthFrom lanesFrom (worth .kept) (most .kept) (omega arith) (omega arith) (omega arith) (omega arith),
       weighted-alike fit (λ k l. kept-from (most .kept) (inl (omega arith)) k l ∙ put-is worth k l) (put-is most) (made .ensures),
     )
 

@@ -3,7 +3,6 @@ use Prim.Native.Nat.{suc, _<_}
 use native.Mathlib.Omega.{arith}
 use lib.Count.{ones}
 use Rattle.tables.specs.Part.{partIn}
-use Rattle.tables.specs.Prepared.{tailsIn}
 use Rattle.bounds.proofs.Cuts.{bounding, hopeless-cut}
 use Rattle.search.proofs.Turns.{recall-cut}
 use borrow.Author.Needs.{needs}
@@ -21,7 +20,7 @@ returns c =
     let a = c .before .before .before .args in
     let g = pre .0 in
     let left : 0 < ones (partIn (a .part .now) .unplaced) = omega (arith, g .known .is .figures .sizes, pre .1 .1) in
-    let cut = hopeless-cut (g .known) (pre .1 .0) (tailsIn (a .prepared .now)) (a .target) (g .tabled .chains) left (c .before .hopeless .ensures (c .if1 .taken)) in
+    let cut = hopeless-cut (g .known) (pre .1 .0) (a .prepared .now) (a .target) (g .tabled .chains) (g .tabled .heads) left (c .before .hopeless .ensures (c .if1 .taken)) in
     λ _. cut
 
 count-requires : tie.Need-count-requires

@@ -3,12 +3,13 @@ use mathlib.Core.Path.{ap, _∙_}
 use Prim.Native.Nat.{ℕ}
 use lib.ListN.{replicate, length-replicate}
 use Rattle.search.proofs.Whole.{earliest-end}
+use Rattle.tables.specs.Prepared.{preparedSize}
 use borrow.Author.Needs.{needs}
 use Rattle.search.proofs.earliest.Statement.{statement}
 use Rattle.search.proofs.earliest.Tie as tie
 
 least-order-requires : tie.Need-least-order-requires
-least-order-requires c κs = (length-replicate {A = ℕ} 1615 0, c .before .before .before .pre)
+least-order-requires c κs = (length-replicate {A = ℕ} preparedSize 0, c .before .before .before .pre)
 
 clear-requires : tie.Need-clear-requires
 clear-requires c κs = search needs

@@ -4,6 +4,7 @@ use Prim.Native.Nat.{ℕ}
 use lib.ListN.{length, replicate, length-replicate}
 use Rattle.tables.specs.Tables.{sheetOf}
 use Rattle.search.proofs.Recalls.{remembered-none}
+use Rattle.tables.specs.Prepared.{preparedSize}
 use borrow.Author.Needs.{needs}
 use Rattle.search.proofs.ends_by.Statement.{statement}
 use Rattle.search.proofs.ends_by.Tie as tie
@@ -12,7 +13,7 @@ clear-requires : tie.Need-clear-requires
 clear-requires c κs = search needs
 
 begin-requires : tie.Need-begin-requires
-begin-requires c κs = (length-replicate {A = ℕ} 1615 0, c .before .before .before .before .before .before .pre)
+begin-requires c κs = (length-replicate {A = ℕ} preparedSize 0, c .before .before .before .before .before .before .pre)
 
 some-ends-by-requires : tie.Need-some-ends-by-requires
 some-ends-by-requires c κs =

@@ -4,12 +4,13 @@ use Prim.Native.Nat.{ℕ, suc}
 use lib.ListN.{length, replicate, length-replicate}
 use Rattle.tables.specs.Tables.{sheetOf}
 use Rattle.search.proofs.Recalls.{remembered-none}
+use Rattle.tables.specs.Prepared.{preparedSize}
 use borrow.Author.Needs.{needs}
 use Rattle.search.proofs.run.Statement.{statement}
 use Rattle.search.proofs.run.Tie as tie
 
 least-order-requires : tie.Need-least-order-requires
-least-order-requires c κs = (length-replicate {A = ℕ} 1615 0, c .before .before .before .pre)
+least-order-requires c κs = (length-replicate {A = ℕ} preparedSize 0, c .before .before .before .pre)
 
 clear-requires : tie.Need-clear-requires
 clear-requires c κs = search needs

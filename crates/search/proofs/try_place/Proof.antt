@@ -25,27 +25,27 @@ place-requires c κs =
     let start = c .before .before .before .start-or-none .ensures in
     child-placeable (g .known) (pre .1) start (start-low (g .known) start (c .before .before .if1 .left))
 
-visit-requires : tie.Need-visit-requires
-visit-requires c κs =
-    let goes-on = c .before .before .before .before .before .before in
-    let pre = goes-on .before .before .before .pre in
+seek-requires : tie.Need-seek-requires
+seek-requires c κs =
+    let goes-on = c .before .before .before .before .before in
+    let pre = c .before .before .before .before .before .before .before .before .pre in
     let g = pre .0 in
     let start = goes-on .before .start-or-none .ensures in
-    place-enter g (pre .1) start (start-low (g .known) start (goes-on .if1 .left)) (c .before .before .before .place .ensures)
+    place-enter g (pre .1) start (start-low (g .known) start (goes-on .if1 .left)) (c .before .before .place .ensures)
 
 same-length : tie.Need-same-length
-same-length c = c .before .before .visit .kept .0
+same-length c = c .before .before .seek .kept .0
 
 returns-2 : tie.Need-returns-2
 returns-2 c =
-    let placed = c .before .before .before .before .before .before in
+    let placed = c .before .before .before .before .before in
     let goes-on = placed .before .before .before in
     let pre = goes-on .before .before .before .pre in
     let g = pre .0 in
     let start = goes-on .before .start-or-none .ensures in
     let word = child-word (g .known) (pre .1) start (start-low (g .known) start (goes-on .if1 .left)) (placed .place .ensures) in
-    let visit = c .before .before .visit .ensures in
-    (rw word at (visit .0), visit .1 .1)
+    let seek = c .before .before .seek .ensures in
+    (rw word at (seek .0), seek .1)
 
 pub try-place-spec : {M : Type 1} → statement M
 try-place-spec =
@@ -55,6 +55,6 @@ try-place-spec =
     none-found-requires
     returns
     place-requires
-    visit-requires
+    seek-requires
     same-length
     returns-2)

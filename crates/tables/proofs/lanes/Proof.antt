@@ -1,5 +1,6 @@
 -- `tables::lanes` meets its contract.
 use mathlib.Core.Path.{sym}
+use Rattle.tables.specs.Prepared.{lanesFrom}
 use Rattle.tables.proofs.Laws.{at-from}
 use borrow.Author.Needs.{needs}
 use Rattle.tables.proofs.lanes.Statement.{statement}
@@ -15,7 +16,7 @@ element-copy-out-result : tie.Need-element-copy-out-result
 element-copy-out-result c = search needs
 
 returns : tie.Need-returns
-returns c = sym (at-from 505 (c .before .args .prepared .now) (c .before .args .i))
+returns c = sym (at-from lanesFrom (c .before .args .prepared .now) (c .before .args .i))
 
 pub lanes-spec : {M : Type 1} → statement M
 lanes-spec = tie.close (tie.spec add-result mul-result element-copy-out-result returns)

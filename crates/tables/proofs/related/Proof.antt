@@ -1,5 +1,6 @@
 -- `tables::related` meets its contract.
 use mathlib.Core.Path.{sym}
+use Rattle.tables.specs.Prepared.{relatedFrom}
 use Rattle.tables.proofs.Laws.{at-from}
 use borrow.Author.Needs.{needs}
 use Rattle.tables.proofs.related.Statement.{statement}
@@ -15,7 +16,7 @@ element-copy-out-result : tie.Need-element-copy-out-result
 element-copy-out-result c = search needs
 
 returns : tie.Need-returns
-returns c = sym (at-from 20 (c .before .args .prepared .now) (c .before .args .i))
+returns c = sym (at-from relatedFrom (c .before .args .prepared .now) (c .before .args .i))
 
 pub related-spec : {M : Type 1} → statement M
 related-spec = tie.close (tie.spec add-result mul-result element-copy-out-result returns)

@@ -14,20 +14,24 @@ struct Row {
 pub fn measure(options: &Options) {
     for group in &options.groups {
         for memory in options.memory_or(&[1 << 20]) {
-            print_table(group, memory, options.limit, &rows(group, memory, options.limit));
+            let mut rows = rows(&Rules::each_left_out(), group, memory, options.limit);
+            if memory > 0 {
+                rows.push(row("memory", Rules::default(), group, 0, options.limit));
+            }
+            print_table(group, memory, options.limit, &rows);
         }
     }
 }
 
-/// All rules first, then each left out, then no memory.
-fn rows(group: &Group, memory: usize, limit: u64) -> Vec<Row> {
-    let all = Rules::default();
-    let mut rows = vec![row("-", all, group, memory, limit)];
-    rows.extend(Rules::each_left_out().into_iter().map(|(name, rules)| row(name, rules, group, memory, limit)));
-    if memory > 0 {
-        rows.push(row("memory", all, group, 0, limit));
-    }
-    rows
+/// The group with the rules that look at arrivals, and with each of them left out.
+pub fn of_arrivals(group: &Group, memory: usize, limit: u64) {
+    print_table(group, memory, limit, &rows(&Rules::each_of_arrivals_left_out(), group, memory, limit));
+}
+
+/// All rules first, then each left out.
+fn rows(left_out: &[(&'static str, Rules)], group: &Group, memory: usize, limit: u64) -> Vec<Row> {
+    let all = [("-", Rules::default())];
+    all.iter().chain(left_out).map(|(name, rules)| row(name, *rules, group, memory, limit)).collect()
 }
 
 fn row(left_out: &'static str, rules: Rules, group: &Group, memory: usize, limit: u64) -> Row {

@@ -34,6 +34,7 @@ fn main() {
     for part in &options.parts {
         match part {
             Part::Plans => planning::measure(&options),
+            Part::Arrivals => planning::measure_arrivals(&options),
             Part::Ablation => ablation::measure(&options),
             Part::Gecode => gecode::measure(&options),
             Part::Stack => stack_need::measure(),

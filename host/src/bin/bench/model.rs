@@ -9,13 +9,16 @@ pub fn of(list: &List) -> String {
     let figures = |of: &dyn Fn(usize) -> u32| (0..n).map(|j| of(j).to_string()).collect::<Vec<_>>().join(",");
     let need = figures(&|j| list.jobs[j].modules.into());
     let minutes = figures(&|j| list.jobs[j].minutes.into());
+    let arrival = figures(&|j| list.jobs[j].arrival.into());
     let modules = list.modules;
     let mut model = format!(
         "include \"cumulative.mzn\";\n\
          array[1..{n}] of int: need = [{need}];\n\
          array[1..{n}] of int: minutes = [{minutes}];\n\
-         array[1..{n}] of var 0..sum(minutes): start;\n\
-         var 0..sum(minutes): end;\n\
+         array[1..{n}] of int: arrival = [{arrival}];\n\
+         array[1..{n}] of var 0..max(arrival) + sum(minutes): start;\n\
+         var 0..max(arrival) + sum(minutes): end;\n\
+         constraint forall(j in 1..{n})(arrival[j] <= start[j]);\n\
          constraint cumulative(start, minutes, need, {modules});\n\
          constraint forall(j in 1..{n})(start[j] + minutes[j] <= end);\n\
          constraint sum(j in 1..{n})(need[j] * minutes[j]) <= {modules} * end;\n"
@@ -31,8 +34,9 @@ pub fn of(list: &List) -> String {
 
 #[test]
 fn a_model_says_which_jobs_wait() {
-    let list = &depot_host::lists::read("two 2 4\n1 5 0\n3 7 1\n").unwrap()[0];
+    let list = &depot_host::lists::read("two 2 4\n1 5 0 30\n3 7 1\n").unwrap()[0];
     let model = of(list);
     assert!(model.contains("need = [1,3]") && model.contains("minutes = [5,7]") && model.contains("start, minutes, need, 4)"));
+    assert!(model.contains("arrival = [30,0]") && model.contains("(arrival[j] <= start[j])"), "{model}");
     assert!(model.contains("constraint start[1] + minutes[1] <= start[2];"), "{model}");
 }

@@ -1,12 +1,14 @@
 //! What the command line asks for.
 use crate::picture::TINTS;
-use depot_host::{families, lists, lists::List, units};
+use depot_host::families::{self, Arrivals, Family};
+use depot_host::{lists, lists::List, units};
 use std::fs;
 use std::time::Duration;
 
 #[derive(Clone, Copy, PartialEq, Eq)]
 pub enum Part {
     Plans,
+    Arrivals,
     Ablation,
     Gecode,
     Stack,
@@ -23,6 +25,8 @@ pub struct Group {
 pub struct Options {
     pub parts: Vec<Part>,
     pub groups: Vec<Group>,
+    /// Those whose jobs arrive later.
+    pub arriving: Vec<Group>,
     memory: Option<Vec<usize>>,
     pub cutoff: Duration,
     pub limit: u64,
@@ -31,11 +35,17 @@ pub struct Options {
     pub svg: Option<String>,
 }
 
+/// Sizes and seed of the lists where none are asked for; those with arrivals have a seed on which nothing was tuned.
+const SIZES: [usize; 2] = [10, 12];
+const SEED: u64 = 1;
+const ARRIVING_SIZES: [usize; 3] = [14, 16, 20];
+const ARRIVING_SEED: u64 = 8_117;
+
 /// What is read before the lists are made.
 struct Asked {
-    sizes: Vec<usize>,
+    sizes: Option<Vec<usize>>,
     family: String,
-    seed: u64,
+    seed: Option<u64>,
     file: Option<String>,
 }
 
@@ -45,6 +55,7 @@ impl Options {
         let mut options = Options {
             parts: Vec::new(),
             groups: Vec::new(),
+            arriving: Vec::new(),
             memory: None,
             cutoff: Duration::from_secs(1),
             limit: 300_000,
@@ -52,25 +63,26 @@ impl Options {
             bare: false,
             svg: None,
         };
-        let mut asked = Asked { sizes: vec![10, 12], family: String::new(), seed: 1, file: None };
+        let mut asked = Asked { sizes: None, family: String::new(), seed: None, file: None };
         let mut words = words.iter();
         while let Some(word) = words.next() {
             let mut value = || words.next().ok_or(format!("{word} needs a value"));
             match word.as_str() {
                 "plans" => options.parts.push(Part::Plans),
+                "arrivals" => options.parts.push(Part::Arrivals),
                 "ablation" => options.parts.push(Part::Ablation),
                 "gecode" => options.parts.push(Part::Gecode),
                 "stack" => options.parts.push(Part::Stack),
                 "sheets" => options.parts.push(Part::Sheets),
                 "desk" => options.parts.push(Part::Desk),
-                "--sizes" => asked.sizes = numbers(value()?, size)?,
+                "--sizes" => asked.sizes = Some(numbers(value()?, size)?),
                 "--family" => asked.family = value()?.clone(),
-                "--seed" => asked.seed = value()?.parse().map_err(|_| "--seed takes a number")?,
+                "--seed" => asked.seed = Some(value()?.parse().map_err(|_| "--seed takes a number")?),
                 "--lists" => asked.file = Some(value()?.clone()),
                 "--memory" => options.memory = Some(numbers(value()?, units::bytes)?),
                 "--cutoff" => options.cutoff = seconds(value()?).ok_or("--cutoff takes seconds above 0")?,
                 "--limit" => options.limit = value()?.parse().map_err(|_| "--limit takes a number")?,
-                "--full" => asked.sizes = vec![10, 12, 14, 16, 20],
+                "--full" => asked.sizes = Some(vec![10, 12, 14, 16, 20]),
                 "--svg" => options.svg = Some(value()?.clone()),
                 "--each" => options.each = true,
                 "--bare" => options.bare = true,
@@ -87,6 +99,9 @@ impl Options {
         if options.parts.iter().any(|part| matches!(part, Part::Plans | Part::Ablation | Part::Gecode)) {
             options.groups = asked.groups()?;
         }
+        if options.parts.contains(&Part::Arrivals) {
+            options.arriving = asked.arriving()?;
+        }
         Ok(Some(options))
     }
 
@@ -98,23 +113,54 @@ impl Options {
 
 impl Asked {
     fn groups(&self) -> Result<Vec<Group>, String> {
-        let has_family = |name: &str| name.contains(&self.family);
         if let Some(file) = &self.file {
-            let text = fs::read_to_string(file).map_err(|why| format!("{file}: {why}"))?;
-            let mut lists = lists::read(&text).map_err(|why| format!("{file}: {why}"))?;
-            lists.retain(|list| has_family(&list.name));
-            let name = file.rsplit('/').next().unwrap_or(file).to_string();
-            return Ok(vec![Group { name, lists }]);
+            return Ok(vec![self.of_file(file)?]);
         }
-        let families: Vec<_> = families::all().into_iter().filter(|family| has_family(family.name())).collect();
+        let families = self.families()?;
+        let seed = self.seed.unwrap_or(SEED);
+        let group = |n: usize| {
+            let lists = families.iter().map(|family| family.list(seed, n)).collect();
+            Group { name: format!("n = {n}"), lists }
+        };
+        Ok(self.sizes.clone().unwrap_or(SIZES.to_vec()).into_iter().map(group).collect())
+    }
+
+    /// Lists whose jobs arrive later; those of a file have arrivals of their own.
+    fn arriving(&self) -> Result<Vec<Group>, String> {
+        if let Some(file) = &self.file {
+            return Ok(vec![self.of_file(file)?]);
+        }
+        let families = self.families()?;
+        let seed = self.seed.unwrap_or(ARRIVING_SEED);
+        let group = |arrivals: Arrivals, n: usize| {
+            let lists = families.iter().map(|family| family.arriving(seed, n, arrivals)).collect();
+            Group { name: format!("{}, n = {n}", arrivals.name()), lists }
+        };
+        let sizes = self.sizes.clone().unwrap_or(ARRIVING_SIZES.to_vec());
+        Ok(Arrivals::ALL
+            .into_iter()
+            .flat_map(|arrivals| sizes.iter().map(move |n| (arrivals, *n)))
+            .map(|(a, n)| group(a, n))
+            .collect())
+    }
+
+    fn has_family(&self, name: &str) -> bool {
+        name.contains(&self.family)
+    }
+
+    fn of_file(&self, file: &str) -> Result<Group, String> {
+        let text = fs::read_to_string(file).map_err(|why| format!("{file}: {why}"))?;
+        let mut lists = lists::read(&text).map_err(|why| format!("{file}: {why}"))?;
+        lists.retain(|list| self.has_family(&list.name));
+        Ok(Group { name: file.rsplit('/').next().unwrap_or(file).to_string(), lists })
+    }
+
+    fn families(&self) -> Result<Vec<Family>, String> {
+        let families: Vec<_> = families::all().into_iter().filter(|family| self.has_family(family.name())).collect();
         if families.is_empty() {
             return Err(format!("no family's name has '{}'", self.family));
         }
-        let group = |n: &usize| {
-            let lists = families.iter().map(|family| family.list(self.seed, *n)).collect();
-            Group { name: format!("n = {n}"), lists }
-        };
-        Ok(self.sizes.iter().map(group).collect())
+        Ok(families)
     }
 }
 

@@ -1,4 +1,5 @@
 //! Planning: a line for each group of lists and each length of the working memory.
+use crate::ablation;
 use crate::child::{call, Side, Took};
 use crate::options::{Group, Options};
 use crate::picture::{self, Line, Panel};
@@ -16,13 +17,30 @@ struct Solved {
     plain: Option<Took>,
 }
 
-pub fn measure(options: &Options) {
-    let cutoff = options.cutoff;
+/// Lists whose jobs arrive later: the library beside the plain search, and that with the rules that look at arrivals left out.
+pub fn measure_arrivals(options: &Options) {
+    print_heads(options);
+    for group in &options.arriving {
+        for memory in options.memory_or(&[1 << 20]) {
+            measure_with(group, memory, options);
+        }
+    }
+    for group in &options.arriving {
+        options.memory_or(&[1 << 20]).into_iter().for_each(|memory| ablation::of_arrivals(group, memory, options.limit));
+    }
+}
+
+fn print_heads(options: &Options) {
     println!(
         "planning, cut-off {} s; times in seconds of the processor, 'rate' in millions of part-plans a second",
-        cutoff.as_secs_f64()
+        options.cutoff.as_secs_f64()
     );
     println!("{:14} {:>7} {HEADS} {:>14} {:>6} {:>7}", "lists", "memory", "part-plans", "rate", "/plain");
+}
+
+pub fn measure(options: &Options) {
+    let cutoff = options.cutoff;
+    print_heads(options);
     let panels: Vec<Panel> = options.groups.iter().map(|group| measure_group(group, options)).collect();
     if let Some(file) = &options.svg {
         fs::write(file, picture::draw(&panels, cutoff.as_secs_f64())).unwrap_or_else(|why| panic!("{file}: {why}"));
@@ -33,14 +51,20 @@ pub fn measure(options: &Options) {
 fn measure_group(group: &Group, options: &Options) -> Panel {
     let mut panel = Panel { name: group.name.clone(), lists: group.lists.len(), lines: Vec::new() };
     for memory in options.memory_or(&MEMORY) {
-        let runs: Vec<Option<Solved>> = group.lists.iter().map(|list| solve(list, memory, options)).collect();
-        if options.each {
-            group.lists.iter().zip(&runs).for_each(|(list, run)| print_one(list, run));
-        }
-        print_line(group, memory, &runs, options.cutoff);
+        let runs = measure_with(group, memory, options);
         panel.lines.push(Line { name: memory_in_words(memory), times: times(&runs, options.cutoff).ended });
     }
     panel
+}
+
+/// The group's line with this working memory.
+fn measure_with(group: &Group, memory: usize, options: &Options) -> Vec<Option<Solved>> {
+    let runs: Vec<Option<Solved>> = group.lists.iter().map(|list| solve(list, memory, options)).collect();
+    if options.each {
+        group.lists.iter().zip(&runs).for_each(|(list, run)| print_one(list, run));
+    }
+    print_line(group, memory, &runs, options.cutoff);
+    runs
 }
 
 fn memory_in_words(bytes: usize) -> String {

@@ -20,14 +20,14 @@ const TO_DO: [(Refusal, &str, &str); 20] = [
     (
         Refusal::RecordField,
         READING_AND_WRITING,
-        "Correct the job: label of 1 to 16 characters, modules 1 to 255, minutes 1 to 1440, departure 0 to 2880, and only jobs of the \
-         same list in 'after'. 'depot sheet' names the line and the column.",
+        "Correct the job: label of 1 to 16 characters, modules 1 to 255, minutes 1 to 1440, departure 0 to 2880, arrival 0 to 1440, \
+         and only jobs of the same list in 'after'. 'depot sheet' names the line and the column.",
     ),
     (Refusal::LabelLengths, READING_AND_WRITING, "The file was damaged, or a program wrote wrong label lengths. Make it again from the list."),
     (Refusal::LabelByte, READING_AND_WRITING, "Write labels in plain letters, digits and signs, without accents, and with spaces inside alone."),
     (Refusal::OverWide, "planning", "Give the job fewer modules, or plan it on a larger cabinet: as it stands it has no plan. 'depot plan' names the job."),
     (Refusal::Circular, "planning", "Take one 'after' out of the circle: as it stands no job of it can start. 'depot plan' names a circle."),
-    (Refusal::BufferTooShort, "planning, writing", "A fault of the calling program: lend 13 bytes for each job and 8 for a card, 528 for every sheet."),
+    (Refusal::BufferTooShort, "planning, writing", "A fault of the calling program: lend 13 bytes for each job and 8 for a card, 568 for every sheet."),
     (Refusal::ListLengths, "opening, changes", "Give 2 to 8 controllers, each with a share and a ceiling; in a change as many as the desk has."),
     (Refusal::DeskFigures, "opening, changes", "Choose a limit of 0.1 to 40,000 kW, ceilings within it, and for each controller a share within its ceiling."),
     (Refusal::SharesExceedLimit, "opening, changes", "Lower the shares until they add up to the limit or less: what is assured must fit on the feeder at once."),

@@ -21,11 +21,12 @@ Exit status: 0 answered; 1 refused, or the list has faults; 2 wrong usage, or a 
 const LIST_FORMAT: &str = "
 A list is a text with a line for each job:
 
-  cabinet,16                              the modules in the cabinet, 1 to 64
-  start,21:00                             the plan's start as a time of day; may be left out
-  label,modules,minutes,after,departure   the header; the columns may stand in any order
-  B101,4,120,,05:30                       a job
-  B102,2,90,B101 #3,510                   a job that waits for the job B101 and for job 3
+  cabinet,16                                      the modules in the cabinet, 1 to 64
+  start,21:00                                     the plan's start as a time of day; may be left out
+  label,modules,minutes,after,departure,arrival   the header; the columns may stand in any order
+  B101,4,120,,05:30                               a job
+  B102,2,90,B101 #3,510                           a job that waits for the job B101 and for job 3
+  B103,4,60,,05:45,22:10                          a job whose bus is on the road until 22:10
 
   label      1 to 16 letters, digits, signs or spaces, neither first nor last a space; two jobs may bear one label
   modules    that the job needs, 1 to 255
@@ -34,6 +35,8 @@ A list is a text with a line for each job:
              a label with a space in it stands in double quotes: \"N 417 B\" B101; the column may be left out
   departure  a minute counted from the start, 0 to 2880; with a line 'start' also a time: 05:30 is the first from the start on,
              05:30+1 the one on the day after the start's
+  arrival    the minute before which the job does not start, 0 to 1440, or a time as for the departure; nothing is 0, and the column
+             may be left out; a departure may lie before the arrival
 
 Up to 20 jobs. Fields are separated by commas, or all by semicolons; one with such a sign or a double quote in it stands in double
 quotes, with a double quote written twice. Lines that begin with # and a space are remarks.
@@ -43,7 +46,8 @@ const PLAN: &str = "\
 usage: depot plan LIST.csv|SHEET [OPTION..]
 
 Shows the plan that ends first of all valid plans, by the tie rule. A name that ends in .csv is a list, every other a job sheet;
-- is a sheet on standard input. Departures do not steer the plan; they tell who is late.
+- is a sheet on standard input. Departures do not steer the plan; they tell who is late. Of plans that end alike the order of the lines
+decides: put buses that are there first, and those that are on the road behind them, by their arrivals.
 
   --start HH:MM    the plan's start as a time of day, in place of the list's; the list's times of day count from it
   --raw            exactly the printing program's lines
@@ -67,7 +71,7 @@ usage: depot list SHEET [--start HH:MM] [-o FILE] [--json]
 
 Shows a job sheet as a list, which 'depot sheet' takes back. - is standard input.
 
-  --start HH:MM    departures as times of day, counted from this start
+  --start HH:MM    arrivals and departures as times of day, counted from this start
   -o FILE          to a file
   --json           for programs; 'after' has job numbers
 ";

@@ -14,6 +14,7 @@ mod plan_text;
 mod plan_verb;
 mod planned;
 mod pointer;
+mod road;
 mod search;
 mod sheet_verbs;
 mod style;

@@ -1,7 +1,8 @@
 //! The plan as a page in one file: the picture and the table, for a screen, light or dark, and for paper.
 use crate::chart;
-use crate::plan_text::{cells, summary, RIGHT};
+use crate::plan_text::{columns, summary, Column};
 use crate::planned::Planned;
+use crate::road;
 use depot_host::drawing::markup::escaped;
 
 const RULES: &str = "\
@@ -23,29 +24,32 @@ pub fn text(plan: &Planned) -> String {
     let light = chart::page_rules(&chart::LIGHT);
     let dark = chart::page_rules(&chart::DARK);
     let order: Vec<&str> = plan.order.iter().map(|job| plan.jobs[usize::from(*job)].label.as_str()).collect();
+    let notes = road::notes(plan).join(" ");
     format!(
         "<!DOCTYPE html>\n<html lang=\"en\">\n<head>\n<meta charset=\"utf-8\">\n\
          <meta name=\"viewport\" content=\"width=device-width, initial-scale=1\">\n<meta name=\"color-scheme\" content=\"light dark\">\n\
          <title>{title}</title>\n<style>{RULES}{light}@media screen and (prefers-color-scheme:dark){{{dark}}}</style>\n</head>\n<body>\n\
          <main>\n{}<section class=\"table\">\n<h2>{title}</h2>\n<p>{}</p>\n{}</section>\n</main>\n\
-         <footer>{}<p>No valid plan of this sheet ends earlier: start, end and modules of every job are those \
+         <footer>{}{}<p>No valid plan of this sheet ends earlier: start, end and modules of every job are those \
          of the proved planner's card.</p></footer>\n</body>\n</html>\n",
         chart::part(plan),
         escaped(&summary(plan).join(" ")),
         table(plan),
-        if order.is_empty() { String::new() } else { format!("<p>Starting order: {}.</p>", escaped(&order.join(", "))) }
+        if order.is_empty() { String::new() } else { format!("<p>Starting order: {}.</p>", escaped(&order.join(", "))) },
+        if notes.is_empty() { String::new() } else { format!("<p>{}</p>", escaped(&notes)) }
     )
 }
 
 fn table(plan: &Planned) -> String {
     let mut html = String::from("<div class=\"scroll\">\n<table>\n");
-    for (place, row) in cells(plan).iter().enumerate() {
+    let columns = columns(plan);
+    for place in 0..=plan.jobs.len() {
         let late = place > 0 && plan.jobs[place - 1].is_late();
         let tag = if place == 0 { "th" } else { "td" };
         html += if late { "<tr class=\"late\">" } else { "<tr>" };
-        for (cell, right) in row.iter().zip(RIGHT) {
-            let class = if right { " class=\"right\"" } else { "" };
-            html += &format!("<{tag}{class}>{}</{tag}>", escaped(cell));
+        for Column { cells, right } in &columns {
+            let class = if *right { " class=\"right\"" } else { "" };
+            html += &format!("<{tag}{class}>{}</{tag}>", escaped(&cells[place]));
         }
         html += "</tr>\n";
     }

@@ -30,10 +30,12 @@ fn job(plan: &Planned, number: usize, planned: &PlannedJob) -> String {
         ("start", row.start.to_string()),
         ("end", row.end.to_string()),
         ("departure", job.departure.to_string()),
+        ("arrival", job.arrival.to_string()),
         ("lateness", planned.lateness().to_string()),
     ];
     if plan.has_start {
-        let times = [("start_time", row.start), ("end_time", row.end), ("departure_time", job.departure)];
+        let times =
+            [("start_time", row.start), ("end_time", row.end), ("departure_time", job.departure), ("arrival_time", job.arrival)];
         members.extend(times.map(|(name, minute)| (name, time(plan, minute))));
     }
     json::object(&members)

@@ -1,5 +1,6 @@
 //! The plan for eyes, and the printing program's lines.
 use crate::planned::{lateness_in_words, ranges, Planned, PlannedJob};
+use crate::road;
 use crate::style::Style;
 use std::fmt::Write;
 
@@ -21,7 +22,19 @@ pub fn summary(plan: &Planned) -> Vec<String> {
     if plan.jobs.is_empty() {
         return vec![format!("{}: nothing to plan; the plan ends at minute 0.", plan.size())];
     }
-    vec![format!("{}. The last is full at {}.", plan.size(), plan.end_in_words()), late_in_words(plan, NAMED)]
+    let mut lines = vec![format!("{}. The last is full at {}.", plan.size(), plan.end_in_words()), late_in_words(plan, NAMED)];
+    lines.extend(road_in_words(plan));
+    lines
+}
+
+/// How many buses are still on the road at the plan's start, and when the last of them arrives.
+fn road_in_words(plan: &Planned) -> Option<String> {
+    let (all, road) = (plan.jobs.len(), plan.on_the_road().count());
+    let last = plan.in_words(plan.on_the_road().map(|job| job.job.arrival).max()?);
+    Some(match road {
+        1 => format!("1 of {all} buses is still on the road at the start; it arrives at {last}."),
+        _ => format!("{road} of {all} buses are still on the road at the start; the last arrives at {last}."),
+    })
 }
 
 /// How many jobs are late, and which; so many of them are named.
@@ -40,38 +53,37 @@ pub fn late_in_words(plan: &Planned, named: usize) -> String {
     format!("{count}{}{}.", if names.is_empty() { "" } else { ": " }, names.join(", "))
 }
 
-/// The columns of the table, a text for each cell; the first row is the header.
-pub fn cells(plan: &Planned) -> Vec<[String; COLUMNS]> {
-    let clock = if plan.has_start { "clock" } else { "h:mm" };
-    let header = ["job", "label", "modules", "on", "start", clock, "end", clock, "departs", clock, "lateness"];
-    let mut rows = vec![header.map(String::from)];
-    rows.extend(plan.jobs.iter().enumerate().map(|(number, job)| row(plan, number, job)));
-    rows
+/// The cells of a column, of which the first is its head, and whether they stand at the right.
+pub struct Column {
+    pub cells: Vec<String>,
+    pub right: bool,
 }
 
-fn row(plan: &Planned, number: usize, planned: &PlannedJob) -> [String; COLUMNS] {
-    let PlannedJob { label, job, row } = planned;
-    let time = |minute: u16| plan.clock.time(minute.into());
-    [
-        number.to_string(),
-        label.clone(),
-        job.modules.to_string(),
-        ranges(&row.module_numbers()),
-        row.start.to_string(),
-        time(row.start),
-        row.end.to_string(),
-        time(row.end),
-        job.departure.to_string(),
-        time(job.departure),
-        lateness_in_words(planned.lateness()),
-    ]
+/// The columns of the table; the last is the lateness. Arrivals have theirs where some bus is still on the road at the start.
+pub fn columns(plan: &Planned) -> Vec<Column> {
+    let column = |head: &str, right: bool, cell: &dyn Fn(usize, &PlannedJob) -> String| {
+        let cells = plan.jobs.iter().enumerate().map(|(number, job)| cell(number, job));
+        Column { cells: [head.to_string()].into_iter().chain(cells).collect(), right }
+    };
+    let moment = |head: &str, of: &dyn Fn(&PlannedJob) -> u16| {
+        let clock = if plan.has_start { "clock" } else { "h:mm" };
+        [column(head, true, &|_, job| of(job).to_string()), column(clock, false, &|_, job| plan.clock.time(of(job).into()))]
+    };
+    let mut columns = vec![
+        column("job", true, &|number, _| number.to_string()),
+        column("label", false, &|_, job| job.label.clone()),
+        column("modules", true, &|_, job| job.job.modules.to_string()),
+        column("on", false, &|_, job| ranges(&job.row.module_numbers())),
+    ];
+    if plan.has_arrivals() {
+        columns.extend(moment("arrives", &|job| job.job.arrival));
+    }
+    columns.extend(moment("start", &|job| job.row.start));
+    columns.extend(moment("end", &|job| job.row.end));
+    columns.extend(moment("departs", &|job| job.job.departure));
+    columns.push(column("lateness", true, &|_, job| lateness_in_words(job.lateness())));
+    columns
 }
-
-/// How many columns there are; the last is the lateness.
-const COLUMNS: usize = 11;
-
-/// The columns whose cells stand at the right.
-pub const RIGHT: [bool; COLUMNS] = [true, false, true, false, true, false, true, false, true, false, true];
 
 /// The plan as a table for people.
 pub fn table(plan: &Planned, style: Style) -> String {
@@ -79,13 +91,13 @@ pub fn table(plan: &Planned, style: Style) -> String {
     if plan.jobs.is_empty() {
         return text;
     }
-    let cells = cells(plan);
-    let widths: Vec<usize> = (0..COLUMNS).map(|column| cells.iter().map(|row| row[column].len()).max().unwrap_or(0)).collect();
+    let columns = columns(plan);
     text.push('\n');
-    for (place, row) in cells.iter().enumerate() {
+    for place in 0..=plan.jobs.len() {
         let mut line = String::new();
-        for ((cell, width), right) in row.iter().zip(&widths).zip(RIGHT) {
-            let padded = if right { format!("{cell:>width$}") } else { format!("{cell:<width$}") };
+        for Column { cells, right } in &columns {
+            let (cell, width) = (&cells[place], cells.iter().map(String::len).max().unwrap_or(0));
+            let padded = if *right { format!("{cell:>width$}") } else { format!("{cell:<width$}") };
             write!(line, "  {padded}").unwrap();
         }
         let line = line.trim_end();
@@ -101,5 +113,8 @@ pub fn table(plan: &Planned, style: Style) -> String {
     }
     let order: Vec<&str> = plan.order.iter().map(|job| plan.jobs[usize::from(*job)].label.as_str()).collect();
     writeln!(text, "\nStarting order: {}.\nNo valid plan of this sheet ends earlier.", order.join(", ")).unwrap();
+    for note in road::notes(plan) {
+        writeln!(text, "{note}").unwrap();
+    }
     text
 }

@@ -53,6 +53,11 @@ impl PlannedJob {
     pub fn is_late(&self) -> bool {
         self.lateness() > 0
     }
+
+    /// Whether its bus is still on the road at the plan's start.
+    pub fn is_on_the_road(&self) -> bool {
+        self.job.arrival > 0
+    }
 }
 
 /// A plan: what the sheet says of each job, and what the card says of it.
@@ -87,6 +92,15 @@ impl Planned {
         self.jobs.iter().filter(|job| job.is_late())
     }
 
+    pub fn on_the_road(&self) -> impl Iterator<Item = &PlannedJob> {
+        self.jobs.iter().filter(|job| job.is_on_the_road())
+    }
+
+    /// Whether some bus is still on the road at the plan's start.
+    pub fn has_arrivals(&self) -> bool {
+        self.on_the_road().next().is_some()
+    }
+
     /// How many of what, in words.
     pub fn size(&self) -> String {
         let plural = |count: usize, one: &str| format!("{count} {one}{}", if count == 1 { "" } else { "s" });
@@ -95,11 +109,24 @@ impl Planned {
 
     /// The plan's end, in words.
     pub fn end_in_words(&self) -> String {
-        let minute = self.end.into();
+        self.in_words(self.end)
+    }
+
+    /// A minute, in words.
+    pub fn in_words(&self, minute: u16) -> String {
+        let time = self.clock.time(minute.into());
         if self.has_start {
-            return format!("minute {minute}, {}", self.clock.time(minute));
+            return format!("minute {minute}, {time}");
         }
-        format!("minute {minute}, {} after the start", self.clock.time(minute))
+        format!("minute {minute}, {time} after the start")
+    }
+
+    /// A minute in short: the time of day, or the minute where there is none.
+    pub fn in_short(&self, minute: u16) -> String {
+        if self.has_start {
+            return self.clock.time(minute.into());
+        }
+        format!("minute {minute}")
     }
 }
 

@@ -58,6 +58,7 @@ fn in_json(reading: &Reading, labels: &[String]) -> String {
             ("minutes", job.minutes.to_string()),
             ("after", json::numbers(&after)),
             ("departure", job.departure.to_string()),
+            ("arrival", job.arrival.to_string()),
         ])
     };
     let jobs = json::list(reading.jobs.iter().zip(labels).map(job));

@@ -1,7 +1,8 @@
 //! Compares the library with the other implementations as long as it is asked to; the tests do the same a fixed number of times.
-use depot_host::compare::{desk::Answers, planning::Planning, search, sheet_calls::Sheets, sheet_calls::WRITING};
-use depot_host::families;
+use depot_host::compare::{desk::Answers, older::Older, planning::Planning, search, sheet_calls::Sheets, sheet_calls::WRITING};
+use depot_host::plain_search::Rules;
 use depot_host::random::Random;
+use depot_host::{families, LONGEST_SHEET};
 use std::time::{Duration, Instant, SystemTime, UNIX_EPOCH};
 use std::{env, panic, process};
 
@@ -83,14 +84,21 @@ fn round(seed: u64, compared: &mut Compared) {
     (1..=9).for_each(|check| planning.damaged(check, FAULTS));
     planning.short_cards(FAULTS);
     planning.scrambled(2 * FAULTS);
-    planning.noisy((seed % 461) as usize);
+    planning.noisy(any_length(seed));
     compared.planned += planning.compared;
+
+    let mut older = Older::new(seed);
+    older.good(FAULTS);
+    (5..=9).for_each(|check| older.damaged(check, FAULTS));
+    older.short_cards(FAULTS);
+    older.scrambled(FAULTS);
+    compared.planned += older.answers.iter().sum::<usize>();
 
     let mut sheets = Sheets::new(seed);
     sheets.good_reading(SHEETS);
     (1..=7).for_each(|check| sheets.damaged_reading(check, FAULTS));
     sheets.scrambled_reading(SHEETS);
-    sheets.noisy_reading((seed % 461) as usize);
+    sheets.noisy_reading(any_length(seed));
     sheets.good_writing(SHEETS);
     WRITING.iter().for_each(|check| sheets.damaged_writing(*check, FAULTS));
     compared.read += 3 * SHEETS + 13 * FAULTS + 1;
@@ -100,10 +108,21 @@ fn round(seed: u64, compared: &mut Compared) {
     (0..DESKS).for_each(|_| answers.on_a_desk(&mut random));
     compared.desk_calls += answers.calls();
 
+    let all_rules = [("no rule", Rules::default())];
+    for _ in 0..SHEETS {
+        search::compare_arrivals(&mut random, &all_rules);
+        compared.planned += 1;
+    }
     for family in families::all() {
         search::compare(&family, seed);
-        compared.searches += 1;
+        search::compare_arriving(&family, seed);
+        compared.searches += 3;
     }
+}
+
+/// A length of bytes that may be a sheet, or just too long.
+fn any_length(seed: u64) -> usize {
+    (seed % (LONGEST_SHEET as u64 + 13)) as usize
 }
 
 /// One round of larger sheets, from this seed.

@@ -32,9 +32,18 @@ add-read16-2 c = search needs
 read16-requires-2 : tie.Need-read16-requires-2
 read16-requires-2 c κs = search needs
 
+add-read16-3 : tie.Need-add-read16-3
+add-read16-3 c = search needs
+
+read16-requires-3 : tie.Need-read16-requires-3
+read16-requires-3 c κs = search needs
+
 returns : tie.Need-returns
 unfolding recordAt
-returns c = rw (c .before .before .read16 .ensures, c .before .read32 .ensures, c .read162 .ensures) refl
+returns c =
+    let third = c .before in
+    let second = third .before in
+    rw (second .before .read16 .ensures, second .read32 .ensures, third .read162 .ensures, c .read163 .ensures) refl
 
 pub read-one-spec : {M : Type 1} → statement M
 read-one-spec =
@@ -49,4 +58,6 @@ read-one-spec =
     read32-requires
     add-read16-2
     read16-requires-2
+    add-read16-3
+    read16-requires-3
     returns)

@@ -1,5 +1,7 @@
-//! The bars: a job's modules from its start to its end, the part behind a missed departure hatched, one label each.
+//! The bars: a job's modules from its start to its end, the part behind a missed departure hatched, one label each. The edge at which a
+//! job starts is thick where that is its arrival.
 use super::frame::{self, Frame};
+use super::marks;
 use super::tints::classes;
 use super::words::{self, Side, Word, BOLD};
 use crate::planned::{lateness_in_words, ranges, runs, Planned, PlannedJob};
@@ -71,9 +73,11 @@ fn label(plan: &Planned, job: &PlannedJob, area: &Area) -> Label {
     Label::Outside
 }
 
-/// The labels that stand below the bars, and where their leaders begin.
-fn outside(plan: &Planned, frame: &Frame) -> (Vec<Word>, Vec<f64>) {
-    let mut all = (Vec::new(), Vec::new());
+/// The words that stand below the bars, arrivals and labels that have no room in their bars, and where their leaders begin.
+fn below(plan: &Planned, frame: &Frame) -> (Vec<Word>, Vec<f64>) {
+    let words = marks::arrival_words(plan);
+    let from = vec![frame.bottom(); words.len()];
+    let mut all = (words, from);
     for job in &plan.jobs {
         let areas = areas(plan, frame, job);
         let area = bearer(&areas);
@@ -89,7 +93,7 @@ fn outside(plan: &Planned, frame: &Frame) -> (Vec<Word>, Vec<f64>) {
 pub fn callouts_height(plan: &Planned, departures: f64) -> f64 {
     let mut height = 0.0;
     loop {
-        let needed = words::fan_height(&outside(plan, &Frame::of(plan, departures, height)).0);
+        let needed = words::fan_height(&below(plan, &Frame::of(plan, departures, height)).0);
         if needed <= height {
             return height;
         }
@@ -103,8 +107,8 @@ pub fn draw(plan: &Planned, frame: &Frame) -> String {
     let jobs = || plan.jobs.iter().zip(&classes);
     jobs().for_each(|(job, class)| svg += &bar(plan, frame, job, class));
     jobs().for_each(|(job, class)| svg += &joins(plan, frame, job, class));
-    let (words, from) = outside(plan, frame);
-    svg += &words::fan(&words, &from, frame.bottom(), Side::Below, frame::WORDS_LEFT, frame::WORDS_RIGHT);
+    let (words, from) = below(plan, frame);
+    svg += &words::fan(&words, &from, frame.bottom(), Side::Below, frame::WORDS_LEFT, frame::words_right(plan));
     jobs().for_each(|(job, class)| {
         let areas = areas(plan, frame, job);
         let area = bearer(&areas);
@@ -127,6 +131,9 @@ fn bar(plan: &Planned, frame: &Frame, job: &PlannedJob, class: &str) -> String {
             let late = x + wide - from;
             writeln!(svg, "<rect class=\"hatched\" x=\"{from:.1}\" y=\"{y:.1}\" width=\"{late:.1}\" height=\"{high:.1}\"/>")
                 .unwrap();
+        }
+        if job.is_on_the_road() && job.job.arrival == job.row.start {
+            writeln!(svg, "<rect class=\"mark\" x=\"{x:.1}\" y=\"{y:.1}\" width=\"3\" height=\"{high:.1}\"/>").unwrap();
         }
     }
     svg + "</g>\n"
@@ -174,8 +181,9 @@ fn halo(class: &str, area: &Area, y: f64, wide: f64, size: f64) -> String {
 fn in_words(plan: &Planned, job: &PlannedJob) -> String {
     let time = |minute: u16| plan.clock.time(minute.into());
     let (row, departure) = (&job.row, job.job.departure);
+    let arrives = if job.is_on_the_road() { format!(", arrives {}", time(job.job.arrival)) } else { String::new() };
     format!(
-        "{}: modules {}, {} to {}, departs {}, {}",
+        "{}: modules {}{arrives}, {} to {}, departs {}, {}",
         job.label,
         ranges(&row.module_numbers()),
         time(row.start),

@@ -4,12 +4,13 @@ use std::fmt::Write;
 
 /// The rules for a picture on this paper.
 pub fn rules(palette: &Palette) -> String {
-    let Palette { ink, soft, bars, late, end, .. } = palette;
+    let Palette { paper, ink, soft, bars, late, end, .. } = palette;
     let words = colours::rules(palette);
     let mut css = format!(
         "{words}.chart .leader{{stroke:{soft};stroke-width:0.7;fill:none}}\
          .chart .join{{stroke-width:1.2;stroke-dasharray:2 2;fill:none}}\
          .chart .mark{{fill:{ink};stroke:none}}\
+         .chart .arrival-mark{{fill:{paper};stroke:{ink};stroke-width:1.3}}\
          .chart .late-mark{{stroke:{1};stroke-width:2.2;fill:none}}\
          .chart .bar{{stroke-width:1.2}}\
          .chart .bar.late{{fill:{0};stroke:{1};stroke-width:2}}\

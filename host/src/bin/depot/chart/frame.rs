@@ -9,11 +9,15 @@ const TOP: f64 = 96.0;
 const MOST_HEIGHT: f64 = 790.0;
 const LEFT: f64 = 74.0;
 const KEY: f64 = 356.0;
+/// What a column of arrivals adds to the key.
+pub const ARRIVALS: f64 = 50.0;
 const GAP: f64 = 26.0;
 /// Below the bars: the axis with its two lines, the end's words, the legend.
 const AXIS: f64 = 34.0;
 const END_WORDS: f64 = 22.0;
 const LEGEND: f64 = 30.0;
+/// A second line of the legend.
+pub const LEGEND_LINE: f64 = 17.0;
 const TALLEST_ROW: f64 = 40.0;
 pub const KEY_ROW: f64 = 22.0;
 
@@ -26,6 +30,7 @@ pub struct Frame {
     pub minutes: f64,
     pub callouts: f64,
     pub key_left: f64,
+    legend_lines: f64,
     jobs: usize,
 }
 
@@ -34,27 +39,38 @@ pub fn is_far(plan: &Planned, departure: u16) -> bool {
     f64::from(departure) > 1.6 * f64::from(plan.end)
 }
 
+/// The left end of the key, which is wider where it has arrivals.
+fn key_left(plan: &Planned) -> f64 {
+    WIDTH - MARGIN - KEY - if plan.has_arrivals() { ARRIVALS } else { 0.0 }
+}
+
 /// The right end of the bars.
-pub const RIGHT: f64 = WIDTH - MARGIN - KEY - GAP;
+fn right(plan: &Planned) -> f64 {
+    key_left(plan) - GAP
+}
+
 /// What words beside their places may reach.
 pub const WORDS_LEFT: f64 = LEFT - 4.0;
-pub const WORDS_RIGHT: f64 = WIDTH - MARGIN - KEY - 6.0;
+
+pub fn words_right(plan: &Planned) -> f64 {
+    key_left(plan) - 6.0
+}
 
 /// The last minute that the picture shows: there is room behind every end and departure for the job's words.
 pub fn last_minute(plan: &Planned) -> f64 {
     let mut last = f64::from(plan.end).max(1.0);
     for job in &plan.jobs {
-        let room = WORDS_RIGHT - LEFT - words::reach(&format!("{} late", job.label));
+        let room = words_right(plan) - LEFT - words::reach(&format!("{} late", job.label));
         let departure = if is_far(plan, job.job.departure) { 0 } else { job.job.departure };
         let minute = f64::from(departure.max(job.row.end));
-        last = last.max(minute).max(minute * (RIGHT - LEFT) / room);
+        last = last.max(minute).max(minute * (right(plan) - LEFT) / room);
     }
     last
 }
 
 /// Where a minute lies.
 pub fn x(plan: &Planned, minute: f64) -> f64 {
-    LEFT + (RIGHT - LEFT) * minute / last_minute(plan)
+    LEFT + (right(plan) - LEFT) * minute / last_minute(plan)
 }
 
 impl Frame {
@@ -62,17 +78,19 @@ impl Frame {
     pub fn of(plan: &Planned, departures: f64, callouts: f64) -> Frame {
         let modules = f64::from(plan.modules);
         let top = TOP + 12.0 + departures;
-        let room = MOST_HEIGHT - top - callouts - AXIS - END_WORDS - LEGEND;
+        let legend_lines = if plan.has_arrivals() { LEGEND_LINE } else { 0.0 };
+        let room = MOST_HEIGHT - top - callouts - AXIS - END_WORDS - LEGEND - legend_lines;
         let row = (room / modules).min(TALLEST_ROW);
         Frame {
             left: LEFT,
-            right: RIGHT,
+            right: right(plan),
             top,
             row,
             modules,
             minutes: last_minute(plan),
             callouts,
-            key_left: RIGHT + GAP,
+            key_left: key_left(plan),
+            legend_lines,
             jobs: plan.jobs.len(),
         }
     }
@@ -110,6 +128,6 @@ impl Frame {
 
     pub fn height(&self) -> f64 {
         let key = self.key_top() + KEY_ROW * (self.jobs as f64 + 1.0) + MARGIN;
-        (self.legend() + 16.0).max(key).ceil()
+        (self.legend() + self.legend_lines + 16.0).max(key).ceil()
     }
 }

@@ -68,7 +68,7 @@ pub fn departures(plan: &Planned, frame: &Frame) -> String {
     let line = frame.top;
     let words = departure_words(plan);
     let mut svg = words::anchored("soft", "end", frame.left - 12.0, line - 4.0, "departs");
-    svg += &words::fan(&words, &vec![line; words.len()], line, Side::Above, frame::WORDS_LEFT, frame::WORDS_RIGHT);
+    svg += &words::fan(&words, &vec![line; words.len()], line, Side::Above, frame::WORDS_LEFT, frame::words_right(plan));
     for (job, word) in shown(plan).iter().zip(&words) {
         svg += &mark(word.at, line, job.is_late());
     }
@@ -90,6 +90,26 @@ fn mark(x: f64, line: f64, late: bool) -> String {
         );
     }
     format!("<path class=\"mark\" d=\"M{:.1} {up:.1}L{:.1} {up:.1}L{x:.1} {down:.1}Z\"/>\n", x - 4.5, x + 4.5)
+}
+
+/// The words of the arrivals, below the bars.
+pub fn arrival_words(plan: &Planned) -> Vec<Word> {
+    let word = |job: &PlannedJob| Word {
+        at: frame::x(plan, job.job.arrival.into()),
+        text: format!("{} arrives", job.label),
+        late: false,
+    };
+    plan.on_the_road().map(word).collect()
+}
+
+/// A hollow triangle below the bars for each bus that is still on the road at the start.
+pub fn arrivals(plan: &Planned, frame: &Frame) -> String {
+    plan.on_the_road().map(|job| arrival_mark(frame::x(plan, job.job.arrival.into()), frame.bottom() + 1.0)).collect()
+}
+
+/// The mark of an arrival, with its point here.
+pub fn arrival_mark(x: f64, y: f64) -> String {
+    format!("<path class=\"arrival-mark\" d=\"M{x:.1} {y:.1}l-4.5 8h9Z\"/>\n")
 }
 
 pub fn end_line(plan: &Planned, frame: &Frame) -> String {

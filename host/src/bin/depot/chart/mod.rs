@@ -43,6 +43,7 @@ fn picture(plan: &Planned, style: &str) -> String {
     svg += &marks::grid(plan, &frame);
     svg += &bars::draw(plan, &frame);
     svg += &marks::departures(plan, &frame);
+    svg += &marks::arrivals(plan, &frame);
     svg += &marks::end_line(plan, &frame);
     svg += &key::draw(plan, &frame);
     svg + "</svg>\n"

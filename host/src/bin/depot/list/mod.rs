@@ -12,7 +12,7 @@ pub use reader::read;
 pub use writer::text;
 
 /// The columns of a list.
-pub const COLUMNS: [&str; 5] = ["label", "modules", "minutes", "after", "departure"];
+pub const COLUMNS: [&str; 6] = ["label", "modules", "minutes", "after", "departure", "arrival"];
 
 /// What a list says.
 #[derive(Debug)]

@@ -8,10 +8,15 @@ use crate::clock::{whole, Clock, START_ALLOWED};
 use crate::outcome::Trouble;
 use depot_host::{Job, MOST_JOBS};
 
-const OPTIONAL: &str = "after";
+/// Columns that may be left out: then no job waits for another, and all buses are there from the start.
+const OPTIONAL: [&str; 2] = ["after", "arrival"];
 
-/// The place of that column among all.
+/// The place of the first of them among all columns.
 const AFTER: usize = 3;
+
+/// The last minutes of an arrival and of a departure, and in words.
+const ARRIVAL: (u32, &str) = (1440, "24 hours");
+const DEPARTURE: (u32, &str) = (2880, "48 hours");
 
 /// The column of each field, and where each column stands.
 struct Header {
@@ -142,8 +147,10 @@ impl Reader {
             }
         }
         for (name, place) in COLUMNS.iter().zip(&columns) {
-            if place.is_none() && *name != OPTIONAL {
-                let allowed = "a header line with label, modules, minutes, departure and, where jobs wait for others, after";
+            if place.is_none() && !OPTIONAL.contains(name) {
+                let allowed =
+                    "a header line with label, modules, minutes, departure; after where jobs wait for others; arrival where \
+                               buses are still on the road";
                 self.faults.put(line, None, format!("no column '{name}'"), allowed);
             }
         }
@@ -154,7 +161,7 @@ impl Reader {
         let header = self.header.as_ref().expect("a row stands behind the header");
         let columns = header.columns.clone();
         let width = columns.iter().flatten().max().map_or(0, |last| last + 1);
-        if columns.iter().zip(COLUMNS).any(|(place, name)| place.is_none() && name != OPTIONAL) {
+        if columns.iter().zip(COLUMNS).any(|(place, name)| place.is_none() && !OPTIONAL.contains(&name)) {
             return;
         }
         if fields.len() > width {
@@ -169,13 +176,15 @@ impl Reader {
         }
         let modules = self.number(line, at(1), field(1), 1, 255);
         let minutes = self.number(line, at(2), field(2), 1, 1440);
-        let departure = self.departure(line, at(4), field(4));
+        let departure = self.moment(line, at(4), field(4), DEPARTURE);
+        let arrival = if field(5).is_empty() { 0 } else { self.moment(line, at(5), field(5), ARRIVAL) };
         let job = Job {
             label_len: label.len().min(255) as u8,
             modules: modules as u8,
             minutes: minutes as u16,
             earlier: 0,
             departure: departure as u16,
+            arrival: arrival as u16,
         };
         let quoted = columns[AFTER].is_some_and(|place| quoted.get(place) == Some(&true));
         self.entries.push(Entry { line, label: label.into(), job, after: Field { text: field(AFTER).into(), quoted } });
@@ -190,16 +199,18 @@ impl Reader {
         })
     }
 
-    /// A minute counted from the start, or a time of day where the list has its start.
-    fn departure(&mut self, line: usize, column: Option<(usize, &str)>, word: &str) -> u32 {
+    /// A minute counted from the start, up to the last one, or a time of day where the list has its start.
+    fn moment(&mut self, line: usize, column: Option<(usize, &str)>, word: &str, (last, hours): (u32, &str)) -> u32 {
         if !word.contains(':') {
-            return self.number(line, column, word, 0, 2880);
+            return self.number(line, column, word, 0, last);
         }
-        let read = self.clock.and_then(|clock| clock.minute(word)).filter(|minute| *minute <= 2880);
+        let read = self.clock.and_then(|clock| clock.minute(word)).filter(|minute| *minute <= last);
         read.unwrap_or_else(|| {
             let allowed = match self.clock {
-                None => "a minute from 0 to 2880; a time of day only behind a line 'start,hh:mm'",
-                Some(_) => "a minute from 0 to 2880, or a time hh:mm (hh:mm+1 on the next day) within 48 hours from the start",
+                None => format!("a minute from 0 to {last}; a time of day only behind a line 'start,hh:mm'"),
+                Some(_) => {
+                    format!("a minute from 0 to {last}, or a time hh:mm (hh:mm+1 on the next day) within {hours} from the start")
+                }
             };
             self.faults.put(line, column, shown(word), allowed);
             0

@@ -9,7 +9,7 @@ use Rattle.counting.specs.Counting.{sum}
 use Rattle.counting.proofs.Sums.{sum-same, sum-zero, sum-up}
 use Rattle.tables.specs.Part.{Part}
 use Rattle.placement.specs.Profile.{heldAfter}
-use Rattle.bounds.specs.Bounds.{HeldAfter}
+use Rattle.areas.specs.Areas.{HeldAfter}
 
 -- the sum over the first i
 pub record Summing (p : Part) (l total i : ℕ) : Type 0 where

@@ -1,14 +1,14 @@
--- `bounds::held_after` meets its contract.
+-- `areas::held_after` meets its contract.
 use Prim.Native.Nat.{ℕ, _-_}
 use mathlib.Core.Path.{_≡_, ap, _∙_}
 use Prim.Native.Nat.{ℕ, _-_, _<_}
 use native.Mathlib.Omega.{arith}
 use Rattle.tables.specs.Part.{partIn}
 use Rattle.placement.specs.Profile.{heldAfter}
-use Rattle.bounds.proofs.Areas.{Summing, summing-start, summing-fits, summing-step}
+use Rattle.areas.proofs.Summing.{Summing, summing-start, summing-fits, summing-step}
 use borrow.Author.Needs.{needs}
-use Rattle.bounds.proofs.held_after.Statement.{statement}
-use Rattle.bounds.proofs.held_after.Tie as tie
+use Rattle.areas.proofs.held_after.Statement.{statement}
+use Rattle.areas.proofs.held_after.Tie as tie
 
 abbrev Inv-loop : tie.InvT-loop
 Inv-loop part l count total₀ i₀ total i = (count ≡ partIn part .placed) × Summing (partIn part) l total i

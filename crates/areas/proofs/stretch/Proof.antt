@@ -1,10 +1,10 @@
--- `bounds::stretch` meets its contract.
+-- `areas::stretch` meets its contract.
 use mathlib.Core.Path.{_≡_}
 use Prim.Native.Nat.{_-_}
 use native.Mathlib.Omega.{arith}
 use borrow.Author.Needs.{needs}
-use Rattle.bounds.proofs.stretch.Statement.{statement}
-use Rattle.bounds.proofs.stretch.Tie as tie
+use Rattle.areas.proofs.stretch.Statement.{statement}
+use Rattle.areas.proofs.stretch.Tie as tie
 
 returns : tie.Need-returns
 returns c =

@@ -1,11 +1,11 @@
--- `bounds::crowded` meets its contract.
+-- `areas::crowded` meets its contract.
 use Prim.Native.Nat.{_+_, _*_, _<_}
 use native.Mathlib.Omega.{arith}
 use native.Mathlib.Nat.{mul-le-mul-right}
 use borrow.Author.Tests.{ltb-true}
 use borrow.Author.Needs.{needs}
-use Rattle.bounds.proofs.crowded.Statement.{statement}
-use Rattle.bounds.proofs.crowded.Tie as tie
+use Rattle.areas.proofs.crowded.Statement.{statement}
+use Rattle.areas.proofs.crowded.Tie as tie
 
 mul-result : tie.Need-mul-result
 mul-result c =

@@ -1,0 +1,3 @@
+-- Laws of the area bounds.
+pub mod Summing
+pub mod Late

@@ -1,0 +1,2 @@
+-- Module-minutes that have no room up to a target.
+pub mod Areas

@@ -1,0 +1,2 @@
+-- The minutes before which jobs cannot start.
+pub mod Heads

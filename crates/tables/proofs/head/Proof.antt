@@ -1,0 +1,22 @@
+-- `tables::head` meets its contract.
+use mathlib.Core.Path.{sym}
+use Rattle.tables.specs.Prepared.{headsFrom}
+use Rattle.tables.proofs.Laws.{at-from}
+use borrow.Author.Needs.{needs}
+use Rattle.tables.proofs.head.Statement.{statement}
+use Rattle.tables.proofs.head.Tie as tie
+
+add-result : tie.Need-add-result
+add-result c = search needs
+
+mul-result : tie.Need-mul-result
+mul-result c = search needs
+
+element-copy-out-result : tie.Need-element-copy-out-result
+element-copy-out-result c = search needs
+
+returns : tie.Need-returns
+returns c = sym (at-from headsFrom (c .before .args .prepared .now) (c .before .args .j))
+
+pub head-spec : {M : Type 1} → statement M
+head-spec = tie.close (tie.spec add-result mul-result element-copy-out-result returns)
