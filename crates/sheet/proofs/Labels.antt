@@ -11,7 +11,7 @@ use borrow.Author.Tests.{leb-false, le-leb, lt-leb, ne-eqb, eqb-true}
 use Rattle.counting.specs.Counting.{sum}
 use Rattle.counting.proofs.Sums.{sum-up}
 use Rattle.checking.specs.Checking.{firstFailing}
-use Rattle.checking.proofs.Order.{all-passed, none-failing, first-in-front, first-behind}
+use Rattle.checking.proofs.Order.{all-passed, both-passed, none-failing, first-in-front, first-behind}
 use Rattle.sheet_format.specs.Figures.{recordSize}
 use Rattle.sheet_format.specs.Format.{recordAt, labelLength, labelLengths, jobFrom, jobOf, offsetOf, countOf}
 use Rattle.sheet_format.specs.Checks.{noSuchJob}
@@ -44,10 +44,9 @@ module _ (s : List ℕ) (job : ℕ) where
   pub there : (k : ℕ) → k ≡ labelRefusal s job → k ≡ 0 → There
   unfolding sum
   there k e z =
-      let p = all-passed (labelChecks s job) refl (sym e ∙ z) in
-      let r = reads s (none-failing (readChecks s)
-      (p .0, (p .1 .0, (p .1 .1 .0, (p .1 .1 .1 .0, (p .1 .1 .1 .1 .0, (p .1 .1 .1 .1 .1 .0, (p .1 .1 .1 .1 .1 .1 .0, tt)))))))) in
-      let l = leb-false (countOf s) job (p .1 .1 .1 .1 .1 .1 .1 .0) in
+      let p = both-passed (readChecks s) ((14, noSuchJob (countOf s) job) ∷ []) (all-passed (labelChecks s job) refl (sym e ∙ z)) in
+      let r = reads s (none-failing (readChecks s) (p .0)) in
+      let l = leb-false (countOf s) job (p .1 .0) in
       record {
         sheet = r;
         below = l;

@@ -3,22 +3,22 @@ ghost use mathlib.Core.Path.{_≡_};
 ghost use Prim.Native.Nat.{_+_, _*_, _≤_};
 ghost use lib.ListN.{length};
 ghost use Rattle.sheet_format.specs.Figures.{mostJobs, recordSize, trailerSize, longestLabel};
-ghost use Rattle.sheet_format.specs.Format.{jobsIn, sheetBytes};
+ghost use Rattle.sheet_format.specs.Format.{jobsIn, sheetBytes, cabinet};
 ghost use Rattle.sheet.specs.Read.{refused, reading};
 ghost use Rattle.sheet.specs.Write.{over, writeRefusal, writeAnswer, writeLeaves};
 use figures::MOST_JOBS;
-use figures::MOST_MODULES;
 pub use sheet_format::Job;
 use sheet_format::layout::RECORD_SIZE;
 use sheet_format::layout::TRAILER_SIZE;
 
-// What reading answers: refusal 0 with the jobs, n and N, or the number of the refusal with all else 0.
+// What reading answers: refusal 0 with the jobs, n, N and the changeover, or the number of the refusal with all else 0.
 #[repr(C)]
 pub struct Reading {
     pub refusal: u32,
     pub jobs: [Job; MOST_JOBS],
     pub count: usize,
     pub modules: u16,
+    pub changeover: u16,
 }
 
 // Where a label lies: refusal 0 with its offset in the sheet and its length, or the number of the refusal with all else 0.
@@ -45,10 +45,11 @@ fn refused(refusal: u32) -> Reading
         jobs,
         count: 0,
         modules: 0,
+        changeover: 0,
     }
 }
 
-// The jobs of a sheet, or the first refusal of 1 to 7.
+// The jobs of a sheet, or the first refusal of 1, 2, 3, 19 and 4 to 7.
 pub fn read(sheet: &[u8]) -> Reading
     ensures { λ r. ⌜ r ≡ reading (now (sheet .entry)) ⌝ }
 {
@@ -75,24 +76,24 @@ pub fn read(sheet: &[u8]) -> Reading
         jobs,
         count,
         modules: sheet_format::trailer::modules(sheet),
+        changeover: sheet_format::trailer::changeover(sheet),
     }
 }
 
-// The first refusal of 2, 3, 5, 6, 7 and 10, for a lent buffer of `room` bytes, or 0.
+// The first refusal of 2, 3, 19, 5, 6, 7 and 10, for a lent buffer of `room` bytes, or 0.
 fn write_refusal(
     jobs: [Job; MOST_JOBS],
     count: usize,
     labels: &[u8],
     modules: u16,
+    changeover: u16,
     room: usize,
 ) -> u32
-    ensures { λ r. ⌜ r ≡ writeRefusal (jobsIn jobs) count (now (labels .entry)) modules room ⌝ }
+    ensures { λ r. ⌜ r ≡ writeRefusal (jobsIn jobs) count (now (labels .entry)) (cabinet modules changeover) room ⌝ }
 {
-    if MOST_JOBS < count {
-        return 2;
-    }
-    if sheet_format::checks::outside(1, MOST_MODULES, modules as usize) {
-        return 3;
+    let wrong = sheet_format::checks::figures_refusal(count, modules, changeover);
+    if wrong != 0 {
+        return wrong;
     }
     let found = sheet_format::records::survey(jobs, count);
     let refusal = sheet_format::checks::content_refusal(
@@ -117,19 +118,26 @@ fn write_parts(
     count: usize,
     labels: &[u8],
     modules: u16,
+    changeover: u16,
     out: &mut [u8],
 ) -> usize
     requires { ⌜ (count ≤ mostJobs) × (length (now labels) ≤ count * longestLabel)
         × (length (now labels) + recordSize * count + trailerSize ≤ length (now out)) ⌝ }
     ensures { λ r. ⌜ (r ≡ length (now (labels .entry)) + recordSize * count + trailerSize)
-        × (now (out .exit) ≡ over (sheetBytes (jobsIn jobs) count (now (labels .entry)) modules) (now (out .entry))) ⌝ }
+        × (now (out .exit) ≡ over (sheetBytes (jobsIn jobs) count (now (labels .entry)) (cabinet modules changeover)) (now (out .entry))) ⌝ }
 {
     let offset = labels.len();
     let end = offset + RECORD_SIZE * count;
     let length = end + TRAILER_SIZE;
     sheet_format::records::write_labels(&mut out[..offset], labels);
     sheet_format::records::write_all(&mut out[offset..end], jobs, count);
-    sheet_format::trailer::write(&mut out[end..length], offset as u32, count as u16, modules);
+    sheet_format::trailer::write(
+        &mut out[end..length],
+        offset as u32,
+        count as u16,
+        modules,
+        changeover,
+    );
     length
 }
 
@@ -139,17 +147,18 @@ pub fn write(
     count: usize,
     labels: &[u8],
     modules: u16,
+    changeover: u16,
     out: &mut [u8],
 ) -> Written
-    ensures { λ r. ⌜ (r ≡ writeAnswer (jobsIn jobs) count (now (labels .entry)) modules (now (out .entry)))
-        × (now (out .exit) ≡ writeLeaves (jobsIn jobs) count (now (labels .entry)) modules (now (out .entry))) ⌝ }
+    ensures { λ r. ⌜ (r ≡ writeAnswer (jobsIn jobs) count (now (labels .entry)) (cabinet modules changeover) (now (out .entry)))
+        × (now (out .exit) ≡ writeLeaves (jobsIn jobs) count (now (labels .entry)) (cabinet modules changeover) (now (out .entry))) ⌝ }
 {
-    let refusal = write_refusal(jobs, count, labels, modules, out.len());
+    let refusal = write_refusal(jobs, count, labels, modules, changeover, out.len());
     if refusal != 0 {
         return Written { refusal, length: 0 };
     }
     Written {
         refusal: 0,
-        length: write_parts(jobs, count, labels, modules, out),
+        length: write_parts(jobs, count, labels, modules, changeover, out),
     }
 }

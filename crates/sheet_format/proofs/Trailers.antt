@@ -1,16 +1,40 @@
--- Which of 1, 2, 3, 19 and 4 a trailer gets.
+-- Which of 1, 2, 3, 19 and 4 a trailer gets, and what 2, 3 and 19 say where they pass.
 use mathlib.Core.Path.{_≡_, refl, sym, ap, _∙_}
 use mathlib.Core.Bool.{true, false, not, cond}
 use mathlib.Core.List.{List, [], _∷_}
 use Prim.Native.Nat.{ℕ, _+_, _*_, _≤_}
 use lib.ListN.{length}
-use borrow.Author.Tests.{eq-eqb, ne-eqb}
+use borrow.Author.Tests.{ltb-false, le-ltb, eq-eqb, ne-eqb}
 use Rattle.checking.specs.Checking.{firstFailing}
-use Rattle.checking.proofs.Order.{all-passed, first-in-front, first-behind}
-use Rattle.sheet_format.specs.Figures.{longestSheet, recordSize, trailerSize}
-use Rattle.sheet_format.specs.Format.{offsetOf, countOf, modulesOf, changeoverOf, cabinet, cabinetOf}
+use Rattle.checking.proofs.Order.{Passed, all-passed, first-in-front, first-behind}
+use Rattle.sheet_format.specs.Figures.{mostJobs, mostModules, longestChangeover, longestSheet, recordSize, trailerSize}
+use Rattle.sheet_format.specs.Format.{offsetOf, countOf, modulesOf, changeoverOf, Cabinet, cabinet, cabinetOf}
 use Rattle.sheet_format.specs.Checks.{wrongLength, wrongOffset, figureChecks, trailerChecks}
-use Rattle.sheet_format.proofs.Bounds.{inside}
+use Rattle.sheet_format.proofs.Bounds.{inside, not-outside}
+
+pub record FiguresFit (n : ℕ) (C : Cabinet) : Type 0 where
+  pub few : n ≤ mostJobs
+  pub some : 1 ≤ C .modules
+  pub most : C .modules ≤ mostModules
+  pub rests : C .changeover ≤ longestChangeover
+
+pub figures-fit : (n : ℕ) (C : Cabinet) → firstFailing (figureChecks n C) ≡ 0 → FiguresFit n C
+figures-fit n C e =
+    let p = all-passed (figureChecks n C) refl e in
+    let m = inside 1 mostModules (C .modules) (p .1 .0) in
+    record {
+      few = ltb-false mostJobs n (p .0);
+      some = m .0;
+      most = m .1;
+      rests = ltb-false longestChangeover (C .changeover) (p .1 .1 .0);
+    }
+
+-- and the other way round
+pub fit-passed : (n : ℕ) (C : Cabinet) → FiguresFit n C → Passed (figureChecks n C)
+fit-passed n C f = (
+  le-ltb mostJobs n (f .few),
+  (not-outside 1 mostModules (C .modules) (f .some) (f .most), (le-ltb longestChangeover (C .changeover) (f .rests), tt)),
+)
 
 pub long-enough : (s : List ℕ) → wrongLength s ≡ false → trailerSize ≤ length s
 long-enough s e = inside trailerSize longestSheet (length s) e .0
