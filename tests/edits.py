@@ -1,5 +1,5 @@
 #!/usr/bin/env python3
-"""Whether every must-fail edit still meets its crate: it says which sentence it breaks, and what it replaces stands in its file.
+"""Whether every must-fail edit still meets its crate: it says which sentence it breaks, and what it replaces stands once in its file.
 
 The prover tries the edits at the end of a long run; an edit that a change has left behind is found here in a second.
 """
@@ -20,10 +20,12 @@ def faults(edit):
         yield f'changes {source.relative_to(ROOT)}, which is not there'
         return
     changed = source.read_text()
-    for old, new in re.findall(r'^old: (.*?)\nnew: (.*?)(?=\nold: |\s*\Z)', text, re.MULTILINE | re.DOTALL):
-        if old == new or old not in changed:
-            yield f'replaces what does not stand in {source.relative_to(ROOT)}: {old.strip()}'
+    for old, new in re.findall(r'^old: (.*)\nnew: (.*)$', text, re.MULTILINE):
+        if old == new or changed.count(old) != 1:
+            yield f'replaces what does not stand once in {source.relative_to(ROOT)}: {old.strip()}'
         changed = changed.replace(old, new, 1)
+    if not re.fullmatch(r'(# .*\n)+file: .*\n(old: .*\nnew: .*\n)+', text):
+        yield 'has lines beside its remark, its file, and its pairs of old and new'
 
 
 def main():
