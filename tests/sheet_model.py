@@ -238,13 +238,14 @@ use Rattle.words.specs.Words.{numberAt}
 use Rattle.sheet_format.specs.Format.{recordAt}
 use Rattle.sheet_format.specs.Checks.{outside, faulty, wrongLabel}
 use Rattle.older_sheets.specs.Older as older
+use Rattle.older_sheets.specs.Older.{beforeArrivals, beforeChangeovers}
 use Rattle.older_sheets.specs.Relaid.{relaid}
 use Rattle.older_sheets.proofs.Rows.{Row, row, found, told}
 """
 OLDER_FOOT = """
 pub rows-right : found rows ≡ told rows
 unfolding
-    rows found told relaid firstFailing outside faulty older.faulty wrongLabel any sum joined recordAt older.recordAt numberAt
+    rows found told relaid firstFailing outside faulty wrongLabel any sum joined recordAt older.recordAt numberAt
 rows-right = refl
 """
 
