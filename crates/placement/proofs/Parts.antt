@@ -123,6 +123,12 @@ module _ (t : List ℕ) (fit : Fit t) where
     pub free-short : (i : ℕ) → i < jobs → P .placed i ≡ true → finish S (P .plan) i + S .rest ≤ lastFree
     free-short i l e = omega (arith, end-short i l e, fit .rests)
 
+    -- the same by a job's number, placed or not
+    pub ends-fit : (i : ℕ) → i < jobs → getD (p .ends) i 0 + S .rest ≤ lastFree
+    ends-fit i l =
+        let end = only-within (P .placed i) (finish S (P .plan) i) lastEnd (end-short i l) in
+        omega (arith, F .ends i l, fit .rests)
+
     pub last-short : p .last ≤ lastEnd
     last-short =
         let ends = largest-le jobs (λ i. only (P .placed i) (finish S (P .plan) i)) lastEnd
