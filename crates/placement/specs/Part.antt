@@ -69,7 +69,7 @@ pub record Numbers (last free placed gone unplaced left : ℕ) (r : List ℕ) : 
 -- the single numbers of p with job j placed there
 pub record NumbersWith (t : List ℕ) (p : Part) (j start : ℕ) (r : List ℕ) : Type 0 where
   pub last : getD r 0 0 ≡ start
-  -- how many have ended by then, and how many modules are free beside the new job
+  -- how many have given theirs back by then, and how many modules are free beside the new job
   pub ended : ProfileOf p (getD r 3 0) (getD r 1 0 + needAt t j) (modulesOf t) start
   pub placed : getD r 2 0 ≡ p .placed + 1
   pub unplaced : wholeAt r 4 ≡ withoutBit (p .unplaced) j

@@ -9,7 +9,7 @@ use lib.ListN.{length, getD, take, set, replicate, length-drop}
 use lib.Seq.{getD-drop, getD-take, getD-set-same, getD-set-other, length-take-le, ext-getD}
 use Rattle.counting.specs.Counting.{sum}
 use Rattle.counting.proofs.Sums.{sum-most}
-use Rattle.tables.specs.Tables.{listFrom, needAt, minutesAt, keptAt, countOf, changeoverOf, Fit}
+use Rattle.tables.specs.Tables.{listFrom, needAt, minutesAt, keptAt, mostKept, countOf, changeoverOf, Fit}
 
 pub zeros : (n i : ℕ) → _≡_ {A = ℕ} (getD (replicate n 0) i 0) 0
 zeros zero i = refl
@@ -43,7 +43,7 @@ from-set-other k t i n v d =
 
 module _ (t : List ℕ) (fit : Fit t) where
   -- how long one job keeps its modules from others
-  pub kept-short : (i : ℕ) → i < countOf t → keptAt t i ≤ 1470
+  pub kept-short : (i : ℕ) → i < countOf t → keptAt t i ≤ mostKept
   kept-short i l = omega (arith, fit .keeps i l, fit .short i l, fit .rests)
 
   -- the module-minutes that it keeps from others

@@ -48,12 +48,15 @@ modulesOf t = getD t 101 0
 abbrev pub changeoverOf : List ℕ → ℕ
 changeoverOf t = getD t 102 0
 
--- how long job j keeps its modules from others: its minutes and the changeover
+-- how long job j keeps its modules from others: its minutes and the changeover; and how long a job does at most
 abbrev pub keptFrom : ℕ
 keptFrom = 103
 
 abbrev pub keptAt : List ℕ → ℕ → ℕ
 keptAt t j = getD t (keptFrom + j) 0
+
+abbrev pub mostKept : ℕ
+mostKept = mostMinutes + longestChangeover
 
 -- the sheet of the table
 abbrev pub sheetOf : List ℕ → Sheet

@@ -1,12 +1,13 @@
 // The three tables that the search is lent, and what stands at their places: the job table, what a sheet says of its jobs; the part-plan;
 // and the prepared table, what is made of the jobs once. A set of jobs in a table of 16-bit numbers takes two places, its lower half first.
 ghost use mathlib.Core.Path.{_≡_};
-ghost use Prim.Native.Nat.{_+_, _*_, _<_};
+ghost use Prim.Native.Nat.{_+_, _*_, _<_, min};
 ghost use lib.ListN.{getD};
-ghost use Rattle.figures.specs.Figures.{mostJobs};
+ghost use Rattle.figures.specs.Figures.{mostJobs, noMinute};
 ghost use Rattle.tables.specs.Tables.{needAt, minutesAt, arrivalAt, earlierAt, countOf, modulesOf, changeoverOf, keptAt};
 ghost use Rattle.tables.specs.Part.{partIn};
 ghost use Rattle.tables.specs.Prepared.{relatedPlaces, worthPlaces, mostPlaces, lanesPlaces, tailsIn, headsIn, relatedIn, worthIn, mostIn, lanesIn};
+use figures::NO_MINUTE;
 
 // A number as an index.
 fn wide(x: u16) -> usize
@@ -63,6 +64,17 @@ pub fn changeover(jobs: &Jobs) -> u16
     ensures { λ r. ⌜ r ≡ changeoverOf (now (jobs .entry)) ⌝ }
 {
     jobs[CHANGEOVER]
+}
+
+// The minute by which a plan that ends by minute t has given back all modules, or NO_MINUTE where that is no minute.
+pub fn closing(jobs: &Jobs, t: u16) -> u16
+    ensures { λ r. ⌜ r ≡ min (t + changeoverOf (now (jobs .entry))) noMinute ⌝ }
+{
+    let close = (t as u32) + (changeover(jobs) as u32);
+    if close < (NO_MINUTE as u32) {
+        return close as u16;
+    }
+    NO_MINUTE
 }
 
 // The modules that job j needs.
