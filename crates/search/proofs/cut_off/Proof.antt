@@ -12,7 +12,7 @@ use Rattle.search.proofs.cut_off.Tie as tie
 hopeless-requires : tie.Need-hopeless-requires
 hopeless-requires c κs =
     let g = c .before .pre .0 in
-    ((g .known .fit, (g .tabled .weighted, g .tabled .laned)), bounding (g .known) (c .before .pre .1 .0) (g .low))
+    ((g .known .fit, (g .tabled .weighted, g .tabled .laned)), bounding (g .known) (c .before .pre .1 .0))
 
 returns : tie.Need-returns
 returns c =
