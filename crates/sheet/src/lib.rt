@@ -36,7 +36,8 @@ pub struct Written {
     pub length: usize,
 }
 
-fn refused(refusal: u32) -> Reading
+// What a refused reading answers.
+pub fn refused(refusal: u32) -> Reading
     ensures { λ r. ⌜ r ≡ refused refusal ⌝ }
 {
     let jobs = sheet_format::records::no_jobs();
@@ -58,18 +59,12 @@ pub fn read(sheet: &[u8]) -> Reading
     }
     let offset = sheet_format::trailer::offset(sheet) as usize;
     let count = sheet_format::trailer::count(sheet) as usize;
-    let found = sheet_format::records::read_all(sheet, offset, count);
-    let jobs = found.jobs;
-    let refusal = sheet_format::checks::content_refusal(
-        jobs,
-        count,
-        found.faulty,
-        found.total,
-        &sheet[..offset],
-    );
+    let found = sheet_format::pass::read_all(sheet, offset, count);
+    let refusal = found.refusal;
     if refusal != 0 {
         return refused(refusal);
     }
+    let jobs = found.jobs;
     Reading {
         refusal: 0,
         jobs,

@@ -2,6 +2,7 @@
 pub mod checks;
 pub mod labels;
 pub mod layout;
+pub mod pass;
 pub mod records;
 pub mod trailer;
 
