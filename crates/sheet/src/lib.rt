@@ -1,16 +1,25 @@
 // Job sheets: reading and writing. The label of a job is the crate `labels`.
 ghost use mathlib.Core.Path.{_≡_};
+ghost use mathlib.Core.List.{[], _∷_};
 ghost use Prim.Native.Nat.{_+_, _*_, _≤_};
 ghost use lib.ListN.{length};
+ghost use Rattle.checking.specs.Checking.{firstFailing};
 ghost use Rattle.sheet_format.specs.Figures.{mostJobs, recordSize, trailerSize, longestLabel};
-ghost use Rattle.sheet_format.specs.Format.{jobsIn, sheetBytes};
+ghost use Rattle.sheet_format.specs.Format.{jobsIn, sheetBytes, offsetOf, countOf, modulesOf};
+ghost use Rattle.sheet_format.specs.Checks.{trailerChecks};
 ghost use Rattle.sheet.specs.Read.{refused, reading};
 ghost use Rattle.sheet.specs.Write.{over, writeRefusal, writeAnswer, writeLeaves};
 use figures::MOST_JOBS;
 use figures::MOST_MODULES;
 pub use sheet_format::Job;
+use sheet_format::checks::either;
+use sheet_format::checks::faulty;
+use sheet_format::labels::wrong_between;
 use sheet_format::layout::RECORD_SIZE;
 use sheet_format::layout::TRAILER_SIZE;
+use sheet_format::records::label_length;
+use sheet_format::records::no_jobs;
+use sheet_format::records::read_one;
 
 // What reading answers: refusal 0 with the jobs, n and N, or the number of the refusal with all else 0.
 #[repr(C)]
@@ -40,12 +49,61 @@ pub struct Written {
 pub fn refused(refusal: u32) -> Reading
     ensures { λ r. ⌜ r ≡ refused refusal ⌝ }
 {
-    let jobs = sheet_format::records::no_jobs();
+    let jobs = no_jobs();
     Reading {
         refusal,
         jobs,
         count: 0,
         modules: 0,
+    }
+}
+
+// The first of 5 to 7 that fails, or 0.
+fn first_failing(faulty: bool, uneven: bool, wrong: bool) -> u32
+    ensures { λ r. ⌜ r ≡ firstFailing ((5, faulty) ∷ (6, uneven) ∷ (7, wrong) ∷ []) ⌝ }
+{
+    if faulty {
+        return 5;
+    }
+    if uneven {
+        return 6;
+    }
+    if wrong {
+        return 7;
+    }
+    0
+}
+
+// One pass over the records, each with its label: what reading answers where 1 to 4 pass. A label is looked at where it is
+// no longer than a label can be and ends within the labels; where it is not, 5 or 6 fails.
+fn read_records(sheet: &[u8], offset: usize, count: usize, modules: u16) -> Reading
+    requires { ⌜ (firstFailing (trailerChecks (now sheet)) ≡ 0)
+        × (offset ≡ offsetOf (now sheet)) × (count ≡ countOf (now sheet)) × (modules ≡ modulesOf (now sheet)) ⌝ }
+    ensures { λ r. ⌜ r ≡ reading (now (sheet .entry)) ⌝ }
+{
+    let mut jobs = no_jobs();
+    let mut total: usize = 0;
+    let mut found = false;
+    let mut wrong = false;
+    let mut i = 0;
+    while i < count {
+        let job = read_one(sheet, offset + RECORD_SIZE * i);
+        jobs[i] = job;
+        let to = total + label_length(job);
+        found = either(found, faulty(count, job));
+        wrong = either(wrong, wrong_between(&sheet[..offset], total, to));
+        total = to;
+        i += 1;
+    }
+    let refusal = first_failing(found, total != offset, wrong);
+    if refusal != 0 {
+        return refused(refusal);
+    }
+    Reading {
+        refusal: 0,
+        jobs,
+        count,
+        modules,
     }
 }
 
@@ -59,18 +117,8 @@ pub fn read(sheet: &[u8]) -> Reading
     }
     let offset = sheet_format::trailer::offset(sheet) as usize;
     let count = sheet_format::trailer::count(sheet) as usize;
-    let found = sheet_format::pass::read_all(sheet, offset, count);
-    let refusal = found.refusal;
-    if refusal != 0 {
-        return refused(refusal);
-    }
-    let jobs = found.jobs;
-    Reading {
-        refusal: 0,
-        jobs,
-        count,
-        modules: sheet_format::trailer::modules(sheet),
-    }
+    let modules = sheet_format::trailer::modules(sheet);
+    read_records(sheet, offset, count, modules)
 }
 
 // The first refusal of 2, 3, 5, 6, 7 and 10, for a lent buffer of `room` bytes, or 0.

@@ -54,16 +54,17 @@ module _ (n : ℕ) (f g : ℕ → Job) (same : (i : ℕ) → i < n → f i ≡ g
 
 -- ---- 5 to 7 by what one pass found
 
--- whether 7 fails is asked where the lengths add up: 6 stands before it
+-- whether 7 fails is asked where no record is faulty and the lengths add up: 5 and 6 stand before it
 pub content-found : (n : ℕ) (jobs : ℕ → Job) (labels : List ℕ) (total offset : ℕ) (some wrong : Bool)
     → length labels ≡ offset → some ≡ someFaulty n jobs → total ≡ labelLengths n jobs
-    → (total ≤ offset → wrong ≡ wrongLabels n jobs labels)
+    → (some ≡ false → total ≤ offset → wrong ≡ wrongLabels n jobs labels)
     → firstFailing ((5, some) ∷ (6, not (eqb total offset)) ∷ (7, wrong) ∷ []) ≡ firstFailing (contentChecks n jobs labels)
 unfolding firstFailing
-content-found n jobs labels total offset some wrong long found sum last = rw (← found, ← sum, long) (go (eqb total offset) refl)
+content-found n jobs labels total offset some wrong long found sum last = rw (← found, ← sum, long) (go some refl (eqb total offset) refl)
   where
-    go : (even : Bool) → eqb total offset ≡ even
+    go : (b : Bool) → some ≡ b → (even : Bool) → eqb total offset ≡ even
         → firstFailing ((5, some) ∷ (6, not (eqb total offset)) ∷ (7, wrong) ∷ [])
         ≡ firstFailing ((5, some) ∷ (6, not (eqb total offset)) ∷ (7, wrongLabels n jobs labels) ∷ [])
-    go true e = rw (last (omega (arith, eqb-true total offset e)))
-    go false e = rw e
+    go true es even e = rw es
+    go false es true e = rw (last es (omega (arith, eqb-true total offset e)))
+    go false es false e = rw e

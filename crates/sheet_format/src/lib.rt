@@ -2,7 +2,6 @@
 pub mod checks;
 pub mod labels;
 pub mod layout;
-pub mod pass;
 pub mod records;
 pub mod trailer;
 

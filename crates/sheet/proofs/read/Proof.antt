@@ -1,8 +1,7 @@
 -- `sheet::read` meets its contract.
 use mathlib.Core.Path.{_∙_}
-use native.Mathlib.Omega.{arith}
 use borrow.Author.Needs.{needs}
-use Rattle.sheet.proofs.Answers.{trailer, content-is, answer-is, refused-early, refused-late, read-whole}
+use Rattle.sheet.proofs.Answers.{trailer, refused-early}
 use Rattle.sheet.proofs.read.Statement.{statement}
 use Rattle.sheet.proofs.read.Tie as tie
 
@@ -33,51 +32,17 @@ count-requires c κs =
 cast-count : tie.Need-cast-count
 cast-count c = search needs
 
-read-all-requires : tie.Need-read-all-requires
-read-all-requires c κs =
-    let t = trailer (c .before .before .before .before .before .args .sheet .now) (c .before .before .before .refusal .result)
-    (c .before .before .before .refusal .ensures) (c .before .before .if1 .left) in
-    (omega (arith, c .count .ensures), omega (arith, c .count .ensures, c .before .offset .ensures))
-
-refused-requires-2 : tie.Need-refused-requires-2
-refused-requires-2 c κs = search needs
-
-returns-2 : tie.Need-returns-2
-returns-2 c =
-    let all = c .before .before in
-    let count = all .before in
-    let offset = count .before in
-    let passed = offset .before in
-    let early = passed .before in
-    let s = early .before .before .args .sheet .now in
-    let r = all .read-all in
-    let k = content-is s (count .count .result) (offset .offset .result) (r .result .refusal) (count .count .ensures) (offset .offset .ensures)
-    (r .ensures .1) in
-    c .refused2 .ensures
-    ∙ refused-late s (early .refusal .result) (early .refusal .ensures) (passed .if1 .left) (r .result .refusal) k (c .before .if2 .taken)
-
 modules-requires : tie.Need-modules-requires
 modules-requires c κs =
-    let passed = c .before .before .before .before .before in
+    let passed = c .before .before in
     let early = passed .before in
-    let s = early .before .before .args .sheet .now in
-    trailer s (early .refusal .result) (early .refusal .ensures) (passed .if1 .left) .long
+    trailer (early .before .before .args .sheet .now) (early .refusal .result) (early .refusal .ensures) (passed .if1 .left) .long
 
-returns-3 : tie.Need-returns-3
-returns-3 c =
-    let late = c .before .before in
-    let all = late .before in
-    let count = all .before in
-    let offset = count .before in
-    let passed = offset .before in
-    let early = passed .before in
-    let s = early .before .before .args .sheet .now in
-    let r = all .read-all in
-    let k = content-is s (count .count .result) (offset .offset .result) (r .result .refusal) (count .count .ensures) (offset .offset .ensures)
-    (r .ensures .1) in
-    answer-is s (count .count .result) (offset .offset .result) (c .modules .result) (r .result .jobs)
-    (count .count .ensures) (offset .offset .ensures) (c .modules .ensures) (r .ensures .0)
-    ∙ read-whole s (early .refusal .result) (early .refusal .ensures) (passed .if1 .left) (r .result .refusal) k (late .if2 .left)
+read-records-requires : tie.Need-read-records-requires
+read-records-requires c κs = search needs
+
+returns-2 : tie.Need-returns-2
+returns-2 c = search needs
 
 pub read-spec : {M : Type 1} → statement M
 read-spec =
@@ -90,8 +55,6 @@ read-spec =
     cast-offset
     count-requires
     cast-count
-    read-all-requires
-    refused-requires-2
-    returns-2
     modules-requires
-    returns-3)
+    read-records-requires
+    returns-2)

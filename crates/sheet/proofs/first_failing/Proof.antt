@@ -1,7 +1,7 @@
--- `sheet_format::pass::first_failing` meets its contract.
+-- `sheet::first_failing` meets its contract.
 use Rattle.checking.specs.Checking.{firstFailing}
-use Rattle.sheet_format.proofs.pass.first_failing.Statement.{statement}
-use Rattle.sheet_format.proofs.pass.first_failing.Tie as tie
+use Rattle.sheet.proofs.first_failing.Statement.{statement}
+use Rattle.sheet.proofs.first_failing.Tie as tie
 
 returns : tie.Need-returns
 unfolding firstFailing
