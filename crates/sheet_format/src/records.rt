@@ -4,7 +4,7 @@ ghost use Prim.Native.Nat.{_+_, _*_, _≤_};
 ghost use lib.ListN.{length};
 ghost use Rattle.counting.specs.Counting.{joined};
 ghost use Rattle.sheet_format.specs.Figures.{mostJobs, recordSize};
-ghost use Rattle.sheet_format.specs.Format.{noJob, noJobs, jobsIn, jobFrom, labelLength, labelLengths};
+ghost use Rattle.sheet_format.specs.Format.{noJob, noJobs, jobsIn, labelLength, labelLengths};
 ghost use Rattle.sheet_format.specs.Format.{recordAt, recordBytes};
 ghost use Rattle.sheet_format.specs.Checks.{someFaulty};
 use super::Job;
@@ -66,14 +66,14 @@ pub fn read_one(s: &[u8], at: usize) -> Job
 }
 
 // Where the label of a job begins: the lengths of the labels before it, summed.
-pub fn label_start(sheet: &[u8], offset: usize, job: usize) -> usize
-    requires { ⌜ (job ≤ mostJobs) × (offset + recordSize * job ≤ length (now sheet)) ⌝ }
-    ensures { λ r. ⌜ (r ≡ labelLengths job (jobFrom (now (sheet .entry)) offset)) × (r ≤ 255 * job) ⌝ }
+pub fn label_start(jobs: [Job; MOST_JOBS], job: usize) -> usize
+    requires { ⌜ job ≤ mostJobs ⌝ }
+    ensures { λ r. ⌜ (r ≡ labelLengths job (jobsIn jobs)) × (r ≤ 255 * job) ⌝ }
 {
     let mut total: usize = 0;
     let mut i = 0;
     while i < job {
-        total += sheet[offset + RECORD_SIZE * i] as usize;
+        total += label_length(jobs[i]);
         i += 1;
     }
     total

@@ -56,8 +56,9 @@ either-requires c κs = search needs
 
 slice-aggregate-wrong-between : tie.Need-slice-aggregate-wrong-between Inv-loop μ-loop
 slice-aggregate-wrong-between c =
-    let v = c .before .before .before .before .before .before .loop in
-    let a = c .before .before .before .before .before .before .before .before .before .args in
+    let test = c .before .before .before .before .before in
+    let v = test .before .loop in
+    let a = test .before .before .before .before .args in
     sym (labels-long (a .sheet .now) (a .offset) (a .count) (v .i) (v .jobs) (v .total) (v .found) (v .wrong) (v .inv))
 
 wrong-between-requires : tie.Need-wrong-between-requires Inv-loop μ-loop
