@@ -7,6 +7,7 @@ ghost use Rattle.sheet.specs.Label.{labelRefusal, labelOf, labelAt, labelPlace,
 use figures::MOST_JOBS;
 use sheet::LabelPlace;
 use sheet::Reading;
+use sheet_format::checks::either;
 use sheet_format::records::label_length;
 use sheet_format::records::label_start;
 
@@ -18,10 +19,7 @@ fn place_refusal(found: Reading, job: usize) -> u32
     if refusal != 0 {
         return refusal;
     }
-    if found.count <= job {
-        return 14;
-    }
-    if MOST_JOBS <= job {
+    if either(found.count <= job, MOST_JOBS <= job) {
         return 14;
     }
     0

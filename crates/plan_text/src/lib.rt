@@ -40,14 +40,8 @@ fn with_row(text: Text, sheet: &[u8], card: &[u8], found: Reading, j: usize, dep
     let start = words::read16(card, at);
     let end = words::read16(card, at + ROW_END);
     let modules = words::read64(card, at + ROW_MODULES);
-    with_line(
-        text,
-        label_in(sheet, found, j),
-        start,
-        end,
-        departure,
-        modules,
-    )
+    let label = label_in(sheet, found, j);
+    with_line(text, label, start, end, departure, modules)
 }
 
 // The text with a line per job, in sheet order.

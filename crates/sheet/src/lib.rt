@@ -1,6 +1,5 @@
 // Job sheets: reading and writing. The label of a job is the crate `labels`.
 ghost use mathlib.Core.Path.{_≡_};
-ghost use mathlib.Core.List.{[], _∷_};
 ghost use Prim.Native.Nat.{_+_, _*_, _≤_};
 ghost use lib.ListN.{length};
 ghost use Rattle.checking.specs.Checking.{firstFailing};
@@ -58,53 +57,41 @@ pub fn refused(refusal: u32) -> Reading
     }
 }
 
-// The first of 5 to 7 that fails, or 0.
-fn first_failing(faulty: bool, uneven: bool, wrong: bool) -> u32
-    ensures { λ r. ⌜ r ≡ firstFailing ((5, faulty) ∷ (6, uneven) ∷ (7, wrong) ∷ []) ⌝ }
-{
-    if faulty {
-        return 5;
-    }
-    if uneven {
-        return 6;
-    }
-    if wrong {
-        return 7;
-    }
-    0
-}
-
-// One pass over the records, each with its label: what reading answers where 1 to 4 pass. A label is looked at where it is
-// no longer than a label can be and ends within the labels; where it is not, 5 or 6 fails.
+// One pass over the records, each with its label: what reading answers where 1 to 4 pass. A label is looked at where it ends within the
+// labels; where one does not, 6 fails.
 fn read_records(sheet: &[u8], offset: usize, count: usize, modules: u16) -> Reading
     requires { ⌜ (firstFailing (trailerChecks (now sheet)) ≡ 0)
         × (offset ≡ offsetOf (now sheet)) × (count ≡ countOf (now sheet)) × (modules ≡ modulesOf (now sheet)) ⌝ }
     ensures { λ r. ⌜ r ≡ reading (now (sheet .entry)) ⌝ }
 {
-    let mut jobs = no_jobs();
-    let mut total: usize = 0;
-    let mut found = false;
-    let mut wrong = false;
-    let mut i = 0;
-    while i < count {
-        let job = read_one(sheet, offset + RECORD_SIZE * i);
-        jobs[i] = job;
-        let to = total + label_length(job);
-        found = either(found, faulty(count, job));
-        wrong = either(wrong, wrong_between(&sheet[..offset], total, to));
-        total = to;
-        i += 1;
-    }
-    let refusal = first_failing(found, total != offset, wrong);
-    if refusal != 0 {
-        return refused(refusal);
-    }
-    Reading {
+    let jobs = no_jobs();
+    let mut answer = Reading {
         refusal: 0,
         jobs,
         count,
         modules,
+    };
+    let mut total: usize = 0;
+    let mut wrong = false;
+    let mut i = 0;
+    while i < count {
+        let job = read_one(sheet, offset + RECORD_SIZE * i);
+        if faulty(count, job) {
+            return refused(5);
+        }
+        answer.jobs[i] = job;
+        let to = total + label_length(job);
+        wrong = either(wrong, wrong_between(&sheet[..offset], total, to));
+        total = to;
+        i += 1;
     }
+    if total != offset {
+        return refused(6);
+    }
+    if wrong {
+        return refused(7);
+    }
+    answer
 }
 
 // The jobs of a sheet, or the first refusal of 1 to 7.

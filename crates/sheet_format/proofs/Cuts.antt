@@ -1,17 +1,15 @@
 -- Labels cut from the labels run together: where they lie, and that the checks of labels depend on the first n jobs alone.
 use mathlib.Core.Path.{_≡_, refl, ap, ap₂, _∙_}
-use mathlib.Core.Bool.{Bool, true, false, not}
+use mathlib.Core.Bool.{Bool, false, not}
 use mathlib.Core.List.{List, [], _∷_}
 use Prim.Native.Nat.{ℕ, suc, _+_, _≤_, _<_}
 use native.Mathlib.Nat.{le-trans}
 use native.Mathlib.Omega.{arith}
 use lib.Dec.{eqb}
 use lib.ListN.{length, take, drop}
-use borrow.Author.Tests.{eqb-true}
 use Rattle.counting.specs.Counting.{sum, any}
 use Rattle.counting.proofs.Sums.{sum-same, sum-up}
 use Rattle.counting.proofs.Ranges.{any-same}
-use Rattle.checking.specs.Checking.{firstFailing}
 use Rattle.sheet_format.specs.declared.Job.{Job}
 use Rattle.sheet_format.specs.Format.{labelLength, labelLengths, labelIn}
 use Rattle.sheet_format.specs.Checks.{faulty, someFaulty, wrongLabel, wrongLabels, contentChecks}
@@ -51,20 +49,3 @@ module _ (n : ℕ) (f g : ℕ → Job) (same : (i : ℕ) → i < n → f i ≡ g
       ap₂ (λ (a : Bool) (t : ℕ). (5, a) ∷ (6, not (eqb t (length labels))) ∷ (7, wrongLabels n f labels) ∷ [])
       faulty-same (lengths-same n (omega arith))
       ∙ ap (λ (b : Bool). (5, someFaulty n g) ∷ (6, not (eqb (labelLengths n g) (length labels))) ∷ (7, b) ∷ []) (labels-same labels)
-
--- ---- 5 to 7 by what one pass found
-
--- whether 7 fails is asked where no record is faulty and the lengths add up: 5 and 6 stand before it
-pub content-found : (n : ℕ) (jobs : ℕ → Job) (labels : List ℕ) (total offset : ℕ) (some wrong : Bool)
-    → length labels ≡ offset → some ≡ someFaulty n jobs → total ≡ labelLengths n jobs
-    → (some ≡ false → total ≤ offset → wrong ≡ wrongLabels n jobs labels)
-    → firstFailing ((5, some) ∷ (6, not (eqb total offset)) ∷ (7, wrong) ∷ []) ≡ firstFailing (contentChecks n jobs labels)
-unfolding firstFailing
-content-found n jobs labels total offset some wrong long found sum last = rw (← found, ← sum, long) (go some refl (eqb total offset) refl)
-  where
-    go : (b : Bool) → some ≡ b → (even : Bool) → eqb total offset ≡ even
-        → firstFailing ((5, some) ∷ (6, not (eqb total offset)) ∷ (7, wrong) ∷ [])
-        ≡ firstFailing ((5, some) ∷ (6, not (eqb total offset)) ∷ (7, wrongLabels n jobs labels) ∷ [])
-    go true es even e = rw es
-    go false es true e = rw (last es (omega (arith, eqb-true total offset e)))
-    go false es false e = rw e

@@ -2,7 +2,7 @@
 ghost use mathlib.Core.Path.{_≡_};
 ghost use Prim.Native.Nat.{_-_, _≤_};
 ghost use lib.ListN.{length, take, drop};
-ghost use Rattle.sheet_format.specs.Figures.{mostJobs, longestLabel};
+ghost use Rattle.sheet_format.specs.Figures.{mostJobs};
 ghost use Rattle.sheet_format.specs.Format.{jobsIn, labelLengths};
 ghost use Rattle.sheet_format.specs.Checks.{wrongBytes, wrongLabel, wrongLabels};
 use super::Job;
@@ -10,7 +10,6 @@ use super::checks::either;
 use super::checks::outside;
 use super::layout::FIRST_LABEL_BYTE;
 use super::layout::LAST_LABEL_BYTE;
-use super::layout::LONGEST_LABEL;
 use super::layout::SPACE;
 use super::records::label_length;
 use figures::MOST_JOBS;
@@ -44,16 +43,12 @@ pub fn wrong_label(label: &[u8]) -> bool
     either(wrong_bytes(label), either(first, last))
 }
 
-// Whether the label between two places is wrong. One that ends past the labels, or is longer than a label can be, is not looked at.
+// Whether the label between two places is wrong. One that ends past the labels is not looked at.
 pub fn wrong_between(labels: &[u8], from: usize, to: usize) -> bool
     requires { ⌜ from ≤ to ⌝ }
-    ensures { λ r. ⌜ (to - from ≤ longestLabel → to ≤ length (now (labels .entry))
-        → r ≡ wrongLabel (take (to - from) (drop from (now (labels .entry))))) ⌝ }
+    ensures { λ r. ⌜ (to ≤ length (now (labels .entry)) → r ≡ wrongLabel (take (to - from) (drop from (now (labels .entry))))) ⌝ }
 {
     if labels.len() < to {
-        return false;
-    }
-    if LONGEST_LABEL < to - from {
         return false;
     }
     wrong_label(&labels[from..to])

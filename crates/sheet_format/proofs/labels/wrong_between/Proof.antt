@@ -5,13 +5,7 @@ use Rattle.sheet_format.proofs.labels.wrong_between.Statement.{statemen
 use Rattle.sheet_format.proofs.labels.wrong_between.Tie as tie
 
 returns : tie.Need-returns
-returns c = λ short l. absurd (omega (arith, c .if1 .taken))
-
-sub-if2 : tie.Need-sub-if2
-sub-if2 c = search needs
-
-returns-2 : tie.Need-returns-2
-returns-2 c = λ short l. absurd (omega (arith, c .if2 .taken))
+returns c = λ l. absurd (omega (arith, c .if1 .taken))
 
 sub-wrong-label : tie.Need-sub-wrong-label
 sub-wrong-label c = search needs
@@ -25,18 +19,16 @@ part-wrong-label-end c = search needs
 wrong-label-requires : tie.Need-wrong-label-requires
 wrong-label-requires c κs = search needs
 
-returns-3 : tie.Need-returns-3
-returns-3 c = λ short l. c .wrong-label .ensures
+returns-2 : tie.Need-returns-2
+returns-2 c = search needs
 
 pub wrong-between-spec : {M : Type 1} → statement M
 wrong-between-spec =
     tie.close
     (tie.spec
     returns
-    sub-if2
-    returns-2
     sub-wrong-label
     part-wrong-label-start
     part-wrong-label-end
     wrong-label-requires
-    returns-3)
+    returns-2)
