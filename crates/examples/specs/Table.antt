@@ -129,4 +129,20 @@ table =
     (160 ∷ 5 ∷ 170 ∷ 5 ∷ 1 ∷ 0 ∷ 0 ∷ 0 ∷ 0 ∷ 0 ∷ 0 ∷ 0
     ∷ 0
     ∷ 12 ∷ 0 ∷ 0 ∷ 0 ∷ 170 ∷ 5 ∷ 1 ∷ 0 ∷ [])
+    -- F-4: E1 with a changeover of 5: B starts 5 minutes behind the ends of A and C, and the plan's end has no rest behind it
+    ∷ call (restingWith (entry 1 10 0 30 ∷ entry 2 20 0 25 ∷ entry 1 10 0 30 ∷ []) 2 5) (replicate 47 7) 0
+    (0 ∷ 0 ∷ 10 ∷ 0 ∷ 1 ∷ 0 ∷ 0 ∷ 0 ∷ 0 ∷ 0 ∷ 0 ∷ 0
+    ∷ 15 ∷ 0 ∷ 35 ∷ 0 ∷ 3 ∷ 0 ∷ 0 ∷ 0 ∷ 0 ∷ 0 ∷ 0 ∷ 0
+    ∷ 0 ∷ 0 ∷ 10 ∷ 0 ∷ 2 ∷ 0 ∷ 0 ∷ 0 ∷ 0 ∷ 0 ∷ 0 ∷ 0
+    ∷ 0 ∷ 2 ∷ 1
+    ∷ 36 ∷ 0 ∷ 0 ∷ 0 ∷ 35 ∷ 0 ∷ 3 ∷ 0 ∷ [])
+    -- "A wait on an earlier job … counted without it": B, after A, starts as A ends, on the module that does not rest
+    ∷ call (restingWith (entry 1 10 0 30 ∷ entry 1 10 1 30 ∷ []) 2 5) (replicate 34 7) 0
+    (0 ∷ 0 ∷ 10 ∷ 0 ∷ 1 ∷ 0 ∷ 0 ∷ 0 ∷ 0 ∷ 0 ∷ 0 ∷ 0
+    ∷ 10 ∷ 0 ∷ 20 ∷ 0 ∷ 2 ∷ 0 ∷ 0 ∷ 0 ∷ 0 ∷ 0 ∷ 0 ∷ 0
+    ∷ 0 ∷ 1
+    ∷ 24 ∷ 0 ∷ 0 ∷ 0 ∷ 20 ∷ 0 ∷ 2 ∷ 0 ∷ [])
+    -- "19 when the changeover is above 30"
+    ∷ call (restingWith (entry 1 1 0 0 ∷ []) 1 30) (7 ∷ []) 10 (7 ∷ [])
+    ∷ call (restingWith (entry 1 1 0 0 ∷ []) 1 31) (7 ∷ []) 19 (7 ∷ [])
     ∷ []

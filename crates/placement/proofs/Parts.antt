@@ -31,12 +31,16 @@ use Rattle.schedule.proofs.Occupied.{room-sum}
 use Rattle.schedule.proofs.Jumps.{start-here}
 use Rattle.tables.proofs.Ends.{ends-short}
 use Rattle.schedule.proofs.Prefixes.{part-count, part-more, follows-more}
-use Rattle.tables.specs.Tables.{sheetOf, needAt, minutesAt, keptAt, arrivalAt, earlierAt, countOf, modulesOf, changeoverOf, Fit}
+use Rattle.tables.specs.Tables.{sheetOf, needAt, minutesAt, keptAt, mostKept, arrivalAt, earlierAt, countOf, modulesOf, changeoverOf, Fit}
 use Rattle.tables.specs.Part.{Part}
 use Rattle.tables.proofs.Laws.{job-area, all-minutes}
 use Rattle.placement.specs.Profile.{heldAt, heldAfter, heldFrom, heldOf, heldSince}
 use Rattle.placement.specs.Part.{waits, StartFor, Figures, IsPart, Placeable, Placed, isReady, FirstPart}
 use Rattle.placement.proofs.Inserts.{inserted-sum}
+
+-- the minute from which all modules are free
+abbrev lastFree : ℕ
+lastFree = lastEnd + longestChangeover
 
 module _ (t : List ℕ) (fit : Fit t) where
   abbrev S : Sheet
@@ -116,14 +120,11 @@ module _ (t : List ℕ) (fit : Fit t) where
     pub end-short : (i : ℕ) → i < jobs → P .placed i ≡ true → finish S (P .plan) i ≤ lastEnd
     end-short = ends-short t fit w (is .follows)
 
-    -- and its modules are free again
-    abbrev lastFree : ℕ
-    lastFree = lastEnd + longestChangeover
-
+    -- its modules are free again a changeover later
     pub free-short : (i : ℕ) → i < jobs → P .placed i ≡ true → finish S (P .plan) i + S .rest ≤ lastFree
     free-short i l e = omega (arith, end-short i l e, fit .rests)
 
-    -- the same by a job's number, placed or not
+    -- the same of the ends in code, 0 for a job that is not placed
     pub ends-fit : (i : ℕ) → i < jobs → getD (p .ends) i 0 + S .rest ≤ lastFree
     ends-fit i l =
         let end = only-within (P .placed i) (finish S (P .plan) i) lastEnd (end-short i l) in
@@ -149,9 +150,9 @@ module _ (t : List ℕ) (fit : Fit t) where
 
     pub left-small : p .left ≤ 2000000
     left-small =
-        let most = sum-most jobs (λ i. only (not (P .placed i)) (S .need i * (S .minutes i + S .rest))) (64 * 1470)
+        let most = sum-most jobs (λ i. only (not (P .placed i)) (S .need i * (S .minutes i + S .rest))) (64 * mostKept)
         (λ i l. le-trans (only-le (not (P .placed i)) (S .need i * (S .minutes i + S .rest))) (rw (fit .keeps i l) at (job-area t fit i l))) in
-        let all : jobs * (64 * 1470) ≤ 20 * (64 * 1470) = mul-le-mul-right (64 * 1470) (fit .few) in
+        let all : jobs * (64 * mostKept) ≤ 20 * (64 * mostKept) = mul-le-mul-right (64 * mostKept) (fit .few) in
         omega (arith, F .left)
 
     -- ---- which jobs may come next
