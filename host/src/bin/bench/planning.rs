@@ -43,7 +43,7 @@ fn print_heads(options: &Options) {
         "planning, cut-off {} s; times in seconds of the processor, 'rate' in millions of part-plans a second",
         options.cutoff.as_secs_f64()
     );
-    println!("{:14} {:>7} {HEADS} {:>14} {:>6} {:>7}", "lists", "memory", "part-plans", "rate", "/plain");
+    println!("{:15} {:>7} {HEADS} {:>14} {:>6} {:>7}", "lists", "memory", "part-plans", "rate", "/plain");
 }
 
 pub fn measure(options: &Options) {
@@ -112,7 +112,7 @@ fn print_line(group: &Group, memory: usize, runs: &[Option<Solved>], cutoff: Dur
     let library: f64 = both.iter().map(|(library, _)| library.seconds).sum();
     let plain: f64 = both.iter().map(|(_, plain)| plain.seconds).sum();
     println!(
-        "{:14} {:>7} {} {visited:>14} {:>6.2} {:>7.2}",
+        "{:15} {:>7} {} {visited:>14} {:>6.2} {:>7.2}",
         group.name,
         in_bytes(memory),
         times(runs, cutoff),
