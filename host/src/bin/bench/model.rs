@@ -3,7 +3,8 @@ use depot_host::lists::List;
 use std::fmt::Write;
 
 /// Jobs that share the modules, which rest for the changeover behind each, and wait for each other; the end is lowered. The area, which
-/// every end has to cover, is said as well. The starts are narrowed by halves, the one with the fewest left first: of seven forms, tried on a few lists of 10 jobs, none solved more.
+/// every end has to cover, is said as well. The starts are narrowed by halves, the one with the fewest left first: of seven forms, tried
+/// on a few lists of 10 jobs, none solved more.
 pub fn of(list: &List) -> String {
     let n = list.jobs.len();
     let figures = |of: &dyn Fn(usize) -> u32| (0..n).map(|j| of(j).to_string()).collect::<Vec<_>>().join(",");
