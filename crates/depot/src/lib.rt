@@ -19,8 +19,8 @@ ghost use Rattle.depot.specs.Version.{version};
 
 // ---- the version
 
-// 0.5.0
-const VERSION: u32 = 5000;
+// 0.6.0
+const VERSION: u32 = 6000;
 
 // The number of this library's version; the header has the same.
 #[no_mangle]
