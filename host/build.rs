@@ -1,8 +1,9 @@
-//! Links the static library of the proved crates.
+//! Links the static library of the proved crates, and to tests and benchmark the reader of before.
 use std::path::Path;
 use std::{env, process};
 
 const LIBRARY: &str = "libdepot.a";
+const READER_OF_BEFORE: &str = "libtwo_pass.a";
 
 fn main() {
     let package = env::var("CARGO_MANIFEST_DIR").expect("cargo names the package's folder");
@@ -17,6 +18,13 @@ fn main() {
     }
     println!("cargo:rustc-link-search=native={}", folder.display());
     println!("cargo:rustc-link-lib=static=depot");
+    // made by 'rt staticlib two_pass'; the command line does without it
+    let before = folder.join(READER_OF_BEFORE);
+    if before.is_file() {
+        println!("cargo:rerun-if-changed={}", before.display());
+    }
+    println!("cargo:rustc-link-arg-tests={}", before.display());
+    println!("cargo:rustc-link-arg-bin=bench={}", before.display());
 }
 
 fn refuse(why: &str) -> ! {

@@ -34,8 +34,8 @@ extern "C" {
 /* ---- the version ------------------------------------------------------------------------------------------------------------- */
 
 /* Of this header, and as a number: major * 1000000 + minor * 1000 + patch. Bytes of sheets and cards may differ between minors. */
-#define DEPOT_VERSION "0.5.0"
-#define DEPOT_VERSION_NUMBER 5000
+#define DEPOT_VERSION "0.6.0"
+#define DEPOT_VERSION_NUMBER 6000
 
 /*
  * The number of the library that is linked. Compare it with DEPOT_VERSION_NUMBER at the start, so that header and library belong
@@ -135,7 +135,7 @@ struct depot_reading {
 };
 
 /*
- * Reads a job sheet. Label bytes come from depot_label.
+ * Reads a job sheet. Where its labels lie comes from depot_label_of.
  *
  * sheet  Read. The sheet's bytes.
  *
@@ -151,7 +151,8 @@ struct depot_label_place {
 };
 
 /*
- * Finds the label of a job: the length bytes from sheet + offset, in the caller's sheet, where they stay. No 0 ends them.
+ * Finds the label of a job: the length bytes from sheet + offset, in the caller's sheet, where they stay. No 0 ends them. The sheet is
+ * read for it; who has read it already calls depot_label_of.
  *
  * sheet  Read. The sheet's bytes.
  * job    The job's number, from 0.
@@ -159,6 +160,18 @@ struct depot_label_place {
  * Answers the label's place, or a refusal: 1 to 7 and 14. Stack: DEPOT_CALL_STACK.
  */
 struct depot_label_place depot_label(const uint8_t *sheet, size_t sheet_len, size_t job);
+
+/*
+ * Finds the label of a job in a sheet that was read, without reading it again: for the reading that depot_read gave of a sheet it
+ * answers what depot_label answers for that sheet.
+ *
+ * reading  What depot_read answered. Whatever else it is, the call answers: the sum of the first label lengths and the next one.
+ * job      The job's number, from 0.
+ *
+ * Answers the label's place, or a refusal: the reading's own, then 14 for a job that the reading does not count or has no place for.
+ * Stack: DEPOT_CALL_STACK, and the reading.
+ */
+struct depot_label_place depot_label_of(struct depot_reading reading, size_t job);
 
 /* What writing answers. */
 struct depot_written {

@@ -54,7 +54,7 @@ static void plan_lines(const uint8_t *sheet, size_t sheet_len, const uint8_t *ca
                             (unsigned)reading.modules);
     for (job = 0; job < reading.count; job++) {
         const uint8_t *row = card + 12 * job;
-        struct depot_label_place label = depot_label(sheet, sheet_len, job);
+        struct depot_label_place label = depot_label_of(reading, job);
         int start = (int)number(row, 2), end = (int)number(row + 2, 2);
         unsigned long long modules = number(row + 4, 8);
         check(label.refusal == DEPOT_DONE, "a job that was read has a label");
@@ -123,6 +123,9 @@ static void read_and_write_e1(void)
     check(reading.jobs[3].minutes == 0, "places past the last job are 0");
     check(label.refusal == DEPOT_DONE && label.offset == 2 && label.length == 1, "the label of E1's job 2 is its byte 2");
     check(depot_label(e1, sizeof e1, 3).refusal == DEPOT_NO_SUCH_NUMBER, "E1 has no job 3");
+    label = depot_label_of(reading, 2);
+    check(label.refusal == DEPOT_DONE && label.offset == 2 && label.length == 1, "the reading says where it lies, too");
+    check(depot_label_of(reading, 3).refusal == DEPOT_NO_SUCH_NUMBER, "E1's reading has no job 3");
     check(depot_read(e1, sizeof e1 - 1).refusal == DEPOT_TOO_MANY_JOBS, "E1 without its last byte seems to have 768 jobs");
 
     written = depot_write(reading.jobs, reading.count, e1, 3, reading.modules, sheet, sizeof sheet);

@@ -45,6 +45,8 @@ extern "C" {
 
     pub fn depot_label(sheet: *const u8, sheet_len: usize, job: usize) -> LabelPlace;
 
+    pub fn depot_label_of(reading: Reading, job: usize) -> LabelPlace;
+
     pub fn depot_write(
         jobs: *const Job,
         jobs_len: usize,

@@ -1,6 +1,6 @@
 //! The depot's planner and share desk for Rust programs: a safe wrapper of the proved static library.
 //!
-//! [`version`], [`plan`], [`Card`], [`read`], [`label`], [`write()`], [`Desk`] and [`Refusal`] are the product. The other modules test it and
+//! [`version`], [`plan`], [`Card`], [`read`], [`label`], [`label_of`], [`write()`], [`Desk`] and [`Refusal`] are the product. The other modules test it and
 //! measure it.
 
 mod card;
@@ -19,12 +19,13 @@ pub mod random;
 pub mod raw_sheet;
 pub mod reference;
 pub mod stack;
+pub mod two_passes;
 pub mod units;
 
 pub use card::{Card, Row};
 pub use desk::{Desk, MOST_CONTROLLERS, MOST_POWER};
 pub use refusal::Refusal;
-pub use sheet::{label, read, write, Job, Reading};
+pub use sheet::{label, label_of, read, write, Job, Reading};
 
 /// The most jobs of a sheet.
 pub const MOST_JOBS: usize = 20;

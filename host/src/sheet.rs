@@ -1,5 +1,5 @@
 //! Job sheets: reading, labels, writing.
-use crate::{ffi, Refusal};
+use crate::{ffi, Refusal, MOST_JOBS};
 
 /// A job, in the widths of its record.
 #[repr(C)]
@@ -26,6 +26,15 @@ pub struct Reading {
     pub modules: u16,
 }
 
+impl Reading {
+    /// As the library answers it.
+    fn as_answered(&self) -> ffi::Reading {
+        let mut jobs = [Job::default(); MOST_JOBS];
+        jobs.iter_mut().zip(&self.jobs).for_each(|(place, job)| *place = *job);
+        ffi::Reading { refusal: 0, jobs, count: self.jobs.len(), modules: self.modules }
+    }
+}
+
 /// Reads a job sheet.
 pub fn read(sheet: &[u8]) -> Result<Reading, Refusal> {
     // SAFETY: a live slice; the library keeps no pointer.
@@ -40,6 +49,17 @@ pub fn label(sheet: &[u8], job: usize) -> Result<&[u8], Refusal> {
     let place = unsafe { ffi::depot_label(sheet.as_ptr(), sheet.len(), job) };
     Refusal::or_done(place.refusal)?;
     Ok(&sheet[place.offset..place.offset + place.length])
+}
+
+/// The label of a job of the sheet that was read, which is not read again.
+///
+/// For the reading of this very sheet it is what [`label`] gives. A place that a reading of another sheet gives may be none of this one:
+/// there is no such label then.
+pub fn label_of<'a>(sheet: &'a [u8], reading: &Reading, job: usize) -> Result<&'a [u8], Refusal> {
+    // SAFETY: the call is lent nothing.
+    let place = unsafe { ffi::depot_label_of(reading.as_answered(), job) };
+    Refusal::or_done(place.refusal)?;
+    sheet.get(place.offset..place.offset + place.length).ok_or(Refusal::NoSuchNumber)
 }
 
 /// Writes the sheet of these jobs, of their labels run together and of a cabinet of so many modules, and gives its length.

@@ -2,7 +2,8 @@
 use crate::guarded::{Against, Guarded};
 use crate::raw_sheet::Sheet;
 use crate::{
-    card_length, label, plan, read, version, write, Desk, Job, Refusal, LONGEST_LABEL, LONGEST_SHEET, MOST_JOBS, MOST_POWER,
+    card_length, label, label_of, plan, read, version, write, Desk, Job, Refusal, LONGEST_LABEL, LONGEST_SHEET, MOST_JOBS,
+    MOST_POWER,
 };
 use std::ffi::{c_int, c_void};
 use std::ptr;
@@ -80,6 +81,7 @@ pub fn of_every_call() -> Vec<(&'static str, usize)> {
     let labels = [b'~'; LONGEST_LABEL * MOST_JOBS];
     let mut sheet = [0; LONGEST_SHEET];
     let writing = done(|| write(&[long; MOST_JOBS], &labels, 64, &mut sheet));
+    let reading = read(&sheet);
     let mut desk = Desk::default();
     let opening = done(|| Desk::open(MOST_POWER, &[50_000; 8], &[MOST_POWER; 8]).map(|opened| desk = opened));
     vec![
@@ -87,6 +89,10 @@ pub fn of_every_call() -> Vec<(&'static str, usize)> {
         ("depot_plan", planning[0].max(planning[1])),
         ("depot_read", done(|| read(&sheet))),
         ("depot_label", done(|| label(&sheet, MOST_JOBS - 1))),
+        (
+            "depot_label_of",
+            done(|| reading.clone().and_then(|reading| label_of(&sheet, &reading, MOST_JOBS - 1).map(<[u8]>::len))),
+        ),
         ("depot_write", writing),
         ("depot_desk_open", opening),
         ("depot_desk_change", done(|| desk.change(MOST_POWER, &[50_000; 8], &[MOST_POWER; 8]))),

@@ -197,6 +197,41 @@ fn labels() {
     }
 }
 
+/// A label from a reading, whatever the reading is: one that was answered gives what the label call gives for its sheet.
+#[test]
+fn labels_of_readings() {
+    for sheet in edge_sheets() {
+        let lent = Lent::of(&sheet);
+        // SAFETY: a buffer of its own.
+        let reading = unsafe { ffi::depot_read(lent.at(), lent.len()) };
+        for job in [0, 1, reading.count.saturating_sub(1), reading.count, MOST_JOBS - 1, MOST_JOBS, usize::MAX] {
+            // SAFETY: the same buffer, and a call that is lent nothing.
+            let (of_sheet, of_reading) =
+                unsafe { (ffi::depot_label(lent.at(), lent.len(), job), ffi::depot_label_of(reading, job)) };
+            assert_eq!(of_reading, of_sheet, "job {job} of {sheet:02x?}");
+        }
+    }
+    for (label_len, refusal, count) in [0, 1, 16, 255].into_iter().flat_map(|length| {
+        let counts = [0, 1, MOST_JOBS - 1, MOST_JOBS, MOST_JOBS + 1, usize::MAX];
+        counts.into_iter().flat_map(move |count| [0, 1, 14, u32::MAX].map(|refusal| (length, refusal, count)))
+    }) {
+        let reading = ffi::Reading { refusal, jobs: [Job { label_len, ..Job::default() }; MOST_JOBS], count, modules: 0 };
+        for job in [0, 1, MOST_JOBS - 1, MOST_JOBS, MOST_JOBS + 1, usize::MAX] {
+            // SAFETY: the call is lent nothing.
+            let answer = unsafe { ffi::depot_label_of(reading, job) };
+            let expected = match refusal {
+                0 if job < count && job < MOST_JOBS => {
+                    let length = usize::from(label_len);
+                    ffi::LabelPlace { refusal: 0, offset: job * length, length }
+                }
+                0 => ffi::LabelPlace { refusal: 14, offset: 0, length: 0 },
+                number => ffi::LabelPlace { refusal: number, offset: 0, length: 0 },
+            };
+            assert_eq!(answer, expected, "job {job} of {reading:?}");
+        }
+    }
+}
+
 fn write_and_compare(jobs: &[Job], labels: &[u8], modules: u16, room: usize) {
     let out = Lent::painted(room);
     // SAFETY: a buffer of its own, and two slices that are read.

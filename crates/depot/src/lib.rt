@@ -11,7 +11,7 @@ ghost use lib.ListN.{length};
 ghost use Rattle.planner.specs.Planning.{planRefusal, cardAfter, memoryAfter};
 ghost use Rattle.sheet_format.specs.Format.{jobsIn};
 ghost use Rattle.sheet.specs.Read.{reading};
-ghost use Rattle.sheet.specs.Label.{labelPlace};
+ghost use Rattle.sheet.specs.Label.{labelPlace, placeIn};
 ghost use Rattle.sheet.specs.Write.{writeAnswer, writeLeaves};
 ghost use Rattle.desk.specs.Calls.{claimed, handedBack, changed};
 ghost use Rattle.lent.specs.Lent.{openedOver, lookedAt};
@@ -19,8 +19,8 @@ ghost use Rattle.depot.specs.Version.{version};
 
 // ---- the version
 
-// 0.5.0
-const VERSION: u32 = 5000;
+// 0.6.0
+const VERSION: u32 = 6000;
 
 // The number of this library's version; the header has the same.
 #[no_mangle]
@@ -59,6 +59,14 @@ pub extern "C" fn depot_label(sheet: &[u8], job: usize) -> LabelPlace
     ensures { λ r. ⌜ r ≡ labelPlace (now (sheet .entry)) job ⌝ }
 {
     labels::label_place(sheet, job)
+}
+
+// The label of a job from what reading answered: where it lies in the sheet that was read, or the reading's refusal, then 14.
+#[no_mangle]
+pub extern "C" fn depot_label_of(reading: Reading, job: usize) -> LabelPlace
+    ensures { λ r. ⌜ r ≡ placeIn reading job ⌝ }
+{
+    labels::place_in(reading, job)
 }
 
 // Writing: the sheet of the lent jobs goes to the front of the lent buffer, and its length is the answer, or the first refusal of 2, 3,

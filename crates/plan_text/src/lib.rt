@@ -13,7 +13,7 @@ use card::ROW_SIZE;
 use card::TRAILER_END;
 use card::TRAILER_SIZE;
 use figures::MOST_JOBS;
-use labels::label;
+use labels::label_in;
 use sheet::Reading;
 use text::Text;
 
@@ -32,15 +32,16 @@ fn with_line(text: Text, label: &[u8], start: u16, end: u16, departure: u16, mod
 }
 
 // The text with the line of job j, whose row is on the card.
-fn with_row(text: Text, sheet: &[u8], card: &[u8], j: usize, departure: u16) -> Text
-    requires { ⌜ (j < mostJobs) × (length (now card) ≡ longestCard) ⌝ }
+fn with_row(text: Text, sheet: &[u8], card: &[u8], found: Reading, j: usize, departure: u16) -> Text
+    requires { ⌜ (j < mostJobs) × (found ≡ reading (now sheet)) × (length (now card) ≡ longestCard) ⌝ }
     ensures { λ r. ⌜ r ≡ adding text (rowLine (now (sheet .entry)) (now (card .entry)) departure j) ⌝ }
 {
     let at = ROW_SIZE * j;
     let start = words::read16(card, at);
     let end = words::read16(card, at + ROW_END);
     let modules = words::read64(card, at + ROW_MODULES);
-    with_line(text, label(sheet, j), start, end, departure, modules)
+    let label = label_in(sheet, found, j);
+    with_line(text, label, start, end, departure, modules)
 }
 
 // The text with a line per job, in sheet order.
@@ -53,7 +54,7 @@ fn with_rows(text: Text, sheet: &[u8], card: &[u8], found: Reading) -> Text
     let mut j: usize = 0;
     while j < jobs {
         let job = found.jobs[j];
-        next = with_row(next, sheet, card, j, job.departure);
+        next = with_row(next, sheet, card, found, j, job.departure);
         j += 1;
     }
     next

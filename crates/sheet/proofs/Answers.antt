@@ -15,12 +15,10 @@ use Rattle.sheet_format.specs.declared.Job.{Job}
 use Rattle.sheet.specs.declared.Reading.{Reading}
 use Rattle.sheet_format.specs.Figures.{mostJobs, mostModules, longestSheet, recordSize, trailerSize}
 use Rattle.sheet_format.specs.Format.{jobFrom, jobOf, labelsOf, labelLengths, offsetOf, countOf, modulesOf}
-use Rattle.sheet_format.specs.Checks.{faulty, someFaulty, wrongLabels, contentChecks}
+use Rattle.sheet_format.specs.Checks.{faulty, wrongLabels, contentChecks}
 use Rattle.sheet.specs.Read.{readChecks, readRefusal, answered, refused, reading}
 use Rattle.sheet_format.specs.Checks.{trailerChecks}
-use Rattle.sheet_format.specs.Format.{places, jobsIn}
-use Rattle.sheet_format.proofs.Lists.{job-in-place}
-use Rattle.sheet_format.proofs.Cuts.{faulty-same, lengths-same, content-same}
+use Rattle.sheet_format.specs.Format.{places}
 use Rattle.sheet_format.proofs.Bounds.{inside}
 
 -- what the checks 1 to 4 say where they pass
@@ -54,24 +52,10 @@ module _ (s : List ℕ) where
         whole = eqb-true (offsetOf s + recordSize * countOf s + trailerSize) (length s) (not-false _ (p .1 .1 .1 .0));
       }
 
-  -- what the pass over the records found, of the list of jobs that it gives
-  module _ (n offset : ℕ) (jobs : List Job) (ej : jobs ≡ places n (jobFrom s offset)) where
-    in-place : (i : ℕ) → i < n → jobsIn jobs i ≡ jobFrom s offset i
-    in-place i l = ap (λ (js : List Job). jobsIn js i) ej ∙ job-in-place n (jobFrom s offset) i l
-
-    pub found-faulty : (found : Bool) → found ≡ someFaulty n (jobFrom s offset) → found ≡ someFaulty n (jobsIn jobs)
-    found-faulty found e = e ∙ sym (faulty-same n (jobsIn jobs) (jobFrom s offset) in-place)
-
-    pub found-total : (total : ℕ) → total ≡ labelLengths n (jobFrom s offset) → total ≡ labelLengths n (jobsIn jobs)
-    found-total total e = e ∙ sym (lengths-same n (jobsIn jobs) (jobFrom s offset) in-place n (omega arith))
-
-    -- the checks 5 to 7
-    pub content-is : (k : ℕ) → n ≡ countOf s → offset ≡ offsetOf s → k ≡ firstFailing (contentChecks n (jobsIn jobs) (take offset s))
-        → k ≡ firstFailing (contentChecks (countOf s) (jobOf s) (labelsOf s))
-    content-is k en eo ek =
-        ek
-        ∙ ap firstFailing (content-same n (jobsIn jobs) (jobFrom s offset) in-place (take offset s))
-        ∙ ap₂ (λ (m o : ℕ). firstFailing (contentChecks m (jobFrom s o) (take o s))) en eo
+  -- the checks 5 to 7, with the figures of the trailer
+  pub content-is : (n offset k : ℕ) → n ≡ countOf s → offset ≡ offsetOf s → k ≡ firstFailing (contentChecks n (jobFrom s offset) (take offset s))
+      → k ≡ firstFailing (contentChecks (countOf s) (jobOf s) (labelsOf s))
+  content-is n offset k en eo ek = ek ∙ ap₂ (λ (m o : ℕ). firstFailing (contentChecks m (jobFrom s o) (take o s))) en eo
 
   -- the answer, from what was found
   pub answer-is : (n offset N : ℕ) (jobs : List Job) → n ≡ countOf s → offset ≡ offsetOf s → N ≡ modulesOf s

@@ -1,5 +1,6 @@
 -- Laws that the proofs share, and the theorems on job sheets.
 pub mod Answers
+pub mod Pass
 pub mod Labels
 pub mod Writes
 pub mod Refusals

@@ -2,15 +2,23 @@
 ghost use mathlib.Core.Path.{_≡_};
 ghost use Prim.Native.Nat.{_+_, _*_, _≤_};
 ghost use lib.ListN.{length};
+ghost use Rattle.checking.specs.Checking.{firstFailing};
 ghost use Rattle.sheet_format.specs.Figures.{mostJobs, recordSize, trailerSize, longestLabel};
-ghost use Rattle.sheet_format.specs.Format.{jobsIn, sheetBytes};
+ghost use Rattle.sheet_format.specs.Format.{jobsIn, sheetBytes, offsetOf, countOf, modulesOf};
+ghost use Rattle.sheet_format.specs.Checks.{trailerChecks};
 ghost use Rattle.sheet.specs.Read.{refused, reading};
 ghost use Rattle.sheet.specs.Write.{over, writeRefusal, writeAnswer, writeLeaves};
 use figures::MOST_JOBS;
 use figures::MOST_MODULES;
 pub use sheet_format::Job;
+use sheet_format::checks::either;
+use sheet_format::checks::faulty;
+use sheet_format::labels::wrong_between;
 use sheet_format::layout::RECORD_SIZE;
 use sheet_format::layout::TRAILER_SIZE;
+use sheet_format::records::label_length;
+use sheet_format::records::no_jobs;
+use sheet_format::records::read_one;
 
 // What reading answers: refusal 0 with the jobs, n and N, or the number of the refusal with all else 0.
 #[repr(C)]
@@ -36,16 +44,54 @@ pub struct Written {
     pub length: usize,
 }
 
-fn refused(refusal: u32) -> Reading
+// What a refused reading answers.
+pub fn refused(refusal: u32) -> Reading
     ensures { λ r. ⌜ r ≡ refused refusal ⌝ }
 {
-    let jobs = sheet_format::records::no_jobs();
+    let jobs = no_jobs();
     Reading {
         refusal,
         jobs,
         count: 0,
         modules: 0,
     }
+}
+
+// One pass over the records, each with its label: what reading answers where 1 to 4 pass. A label is looked at where it ends within the
+// labels; where one does not, 6 fails.
+fn read_records(sheet: &[u8], offset: usize, count: usize, modules: u16) -> Reading
+    requires { ⌜ (firstFailing (trailerChecks (now sheet)) ≡ 0)
+        × (offset ≡ offsetOf (now sheet)) × (count ≡ countOf (now sheet)) × (modules ≡ modulesOf (now sheet)) ⌝ }
+    ensures { λ r. ⌜ r ≡ reading (now (sheet .entry)) ⌝ }
+{
+    let jobs = no_jobs();
+    let mut answer = Reading {
+        refusal: 0,
+        jobs,
+        count,
+        modules,
+    };
+    let mut total: usize = 0;
+    let mut wrong = false;
+    let mut i = 0;
+    while i < count {
+        let job = read_one(sheet, offset + RECORD_SIZE * i);
+        if faulty(count, job) {
+            return refused(5);
+        }
+        answer.jobs[i] = job;
+        let to = total + label_length(job);
+        wrong = either(wrong, wrong_between(&sheet[..offset], total, to));
+        total = to;
+        i += 1;
+    }
+    if total != offset {
+        return refused(6);
+    }
+    if wrong {
+        return refused(7);
+    }
+    answer
 }
 
 // The jobs of a sheet, or the first refusal of 1 to 7.
@@ -58,24 +104,8 @@ pub fn read(sheet: &[u8]) -> Reading
     }
     let offset = sheet_format::trailer::offset(sheet) as usize;
     let count = sheet_format::trailer::count(sheet) as usize;
-    let found = sheet_format::records::read_all(sheet, offset, count);
-    let jobs = found.jobs;
-    let refusal = sheet_format::checks::content_refusal(
-        jobs,
-        count,
-        found.faulty,
-        found.total,
-        &sheet[..offset],
-    );
-    if refusal != 0 {
-        return refused(refusal);
-    }
-    Reading {
-        refusal: 0,
-        jobs,
-        count,
-        modules: sheet_format::trailer::modules(sheet),
-    }
+    let modules = sheet_format::trailer::modules(sheet);
+    read_records(sheet, offset, count, modules)
 }
 
 // The first refusal of 2, 3, 5, 6, 7 and 10, for a lent buffer of `room` bytes, or 0.

@@ -1,7 +1,7 @@
 // The labels of a sheet, run together.
 ghost use mathlib.Core.Path.{_≡_};
-ghost use Prim.Native.Nat.{_≤_};
-ghost use lib.ListN.{length};
+ghost use Prim.Native.Nat.{_-_, _≤_};
+ghost use lib.ListN.{length, take, drop};
 ghost use Rattle.sheet_format.specs.Figures.{mostJobs};
 ghost use Rattle.sheet_format.specs.Format.{jobsIn, labelLengths};
 ghost use Rattle.sheet_format.specs.Checks.{wrongBytes, wrongLabel, wrongLabels};
@@ -41,6 +41,17 @@ pub fn wrong_label(label: &[u8]) -> bool
     let first = label[0] == SPACE;
     let last = label[length - 1] == SPACE;
     either(wrong_bytes(label), either(first, last))
+}
+
+// Whether the label between two places is wrong. One that ends past the labels is not looked at.
+pub fn wrong_between(labels: &[u8], from: usize, to: usize) -> bool
+    requires { ⌜ from ≤ to ⌝ }
+    ensures { λ r. ⌜ (to ≤ length (now (labels .entry)) → r ≡ wrongLabel (take (to - from) (drop from (now (labels .entry))))) ⌝ }
+{
+    if labels.len() < to {
+        return false;
+    }
+    wrong_label(&labels[from..to])
 }
 
 // Whether some label of the first `count` jobs is wrong, each in its own part of the labels.

@@ -4,7 +4,7 @@ ghost use Prim.Native.Nat.{_+_, _*_, _≤_};
 ghost use lib.ListN.{length};
 ghost use Rattle.counting.specs.Counting.{joined};
 ghost use Rattle.sheet_format.specs.Figures.{mostJobs, recordSize};
-ghost use Rattle.sheet_format.specs.Format.{noJob, noJobs, places, jobsIn, jobFrom, labelLength, labelLengths};
+ghost use Rattle.sheet_format.specs.Format.{noJob, noJobs, jobsIn, labelLength, labelLengths};
 ghost use Rattle.sheet_format.specs.Format.{recordAt, recordBytes};
 ghost use Rattle.sheet_format.specs.Checks.{someFaulty};
 use super::Job;
@@ -16,13 +16,6 @@ use words::read16;
 use words::read32;
 use words::write16;
 use words::write32;
-
-// What one pass over the records finds: the jobs, the sum of the label lengths, and whether check 5 fails.
-pub struct Records {
-    pub jobs: [Job; MOST_JOBS],
-    pub total: usize,
-    pub faulty: bool,
-}
 
 // What the writer's pass over its jobs finds.
 pub struct Surveyed {
@@ -72,40 +65,15 @@ pub fn read_one(s: &[u8], at: usize) -> Job
     }
 }
 
-// One pass over the records.
-pub fn read_all(sheet: &[u8], offset: usize, count: usize) -> Records
-    requires { ⌜ (count ≤ mostJobs) × (offset + recordSize * count ≤ length (now sheet)) ⌝ }
-    ensures { λ r. ⌜ (r .jobs ≡ places count (jobFrom (now (sheet .entry)) offset))
-        × (r .total ≡ labelLengths count (jobFrom (now (sheet .entry)) offset))
-        × (r .faulty ≡ someFaulty count (jobFrom (now (sheet .entry)) offset)) ⌝ }
-{
-    let mut jobs = no_jobs();
-    let mut total: usize = 0;
-    let mut found = false;
-    let mut i = 0;
-    while i < count {
-        let job = read_one(sheet, offset + RECORD_SIZE * i);
-        jobs[i] = job;
-        total += label_length(job);
-        found = either(found, faulty(count, job));
-        i += 1;
-    }
-    Records {
-        jobs,
-        total,
-        faulty: found,
-    }
-}
-
 // Where the label of a job begins: the lengths of the labels before it, summed.
-pub fn label_start(sheet: &[u8], offset: usize, job: usize) -> usize
-    requires { ⌜ (job ≤ mostJobs) × (offset + recordSize * job ≤ length (now sheet)) ⌝ }
-    ensures { λ r. ⌜ (r ≡ labelLengths job (jobFrom (now (sheet .entry)) offset)) × (r ≤ 255 * job) ⌝ }
+pub fn label_start(jobs: [Job; MOST_JOBS], job: usize) -> usize
+    requires { ⌜ job ≤ mostJobs ⌝ }
+    ensures { λ r. ⌜ (r ≡ labelLengths job (jobsIn jobs)) × (r ≤ 255 * job) ⌝ }
 {
     let mut total: usize = 0;
     let mut i = 0;
     while i < job {
-        total += sheet[offset + RECORD_SIZE * i] as usize;
+        total += label_length(jobs[i]);
         i += 1;
     }
     total

@@ -6,3 +6,4 @@ pub mod planning;
 pub mod search;
 pub mod sheet_calls;
 pub mod sheets;
+pub mod two_passes;

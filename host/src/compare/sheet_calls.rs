@@ -3,7 +3,7 @@ use super::sheets;
 use crate::guarded::{Against, Guarded};
 use crate::random::Random;
 use crate::reference::{reading, writing};
-use crate::{ffi, label, read, Job, Reading, LONGEST_SHEET, MOST_JOBS};
+use crate::{ffi, label, label_of, read, Job, Reading, LONGEST_SHEET, MOST_JOBS};
 
 /// The checks that writing makes.
 pub const WRITING: [u32; 6] = [2, 3, 5, 6, 7, 10];
@@ -62,19 +62,21 @@ impl Sheets {
             assert_eq!(jobs, expected.as_ref().map_or(&[][..], |sheet| &sheet.jobs), "sheet {sheet:02x?}");
             assert!(answer.jobs[n..].iter().all(|job| *job == Job::default()), "sheet {sheet:02x?}");
             for job in (0..=n).chain([MOST_JOBS, u32::MAX as usize, usize::MAX]) {
-                self.compare_label(sheet, job);
+                self.compare_label(sheet, &answer, job);
             }
             assert_eq!(self.sheet.left(), sheet);
             assert!(self.sheet.rest_untouched());
         }
     }
 
-    /// Asks for a label of the sheet that is lent.
-    fn compare_label(&mut self, sheet: &[u8], job: usize) {
+    /// Asks for a label of the sheet that is lent, and from what reading it answered.
+    fn compare_label(&mut self, sheet: &[u8], read: &ffi::Reading, job: usize) {
         let lent = self.sheet.left();
         // SAFETY: live memory of so many bytes.
         let place = unsafe { ffi::depot_label(lent.as_ptr(), lent.len(), job) };
         let about = || format!("job {job} of sheet {sheet:02x?}");
+        // SAFETY: the call is lent nothing.
+        assert_eq!(unsafe { ffi::depot_label_of(*read, job) }, place, "{}", about());
         match reading::label(sheet, job) {
             Ok(range) => {
                 assert_eq!(place, ffi::LabelPlace { refusal: 0, offset: range.start, length: range.len() }, "{}", about());
@@ -117,8 +119,9 @@ impl Sheets {
             }
         }
         if let Ok(sheet) = expected {
-            assert_eq!(read(&sheet), Ok(Reading { jobs: jobs.to_vec(), modules }));
-            let shown: Vec<u8> = (0..jobs.len()).flat_map(|job| label(&sheet, job).unwrap()).copied().collect();
+            let reading = read(&sheet).expect("what was written reads");
+            assert_eq!(reading, Reading { jobs: jobs.to_vec(), modules });
+            let shown: Vec<u8> = (0..jobs.len()).flat_map(|job| label_of(&sheet, &reading, job).unwrap()).copied().collect();
             assert_eq!(shown, labels);
         }
     }

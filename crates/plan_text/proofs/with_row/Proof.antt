@@ -22,8 +22,8 @@ add-read64 c = search needs
 read64-requires : tie.Need-read64-requires
 read64-requires c κs = search needs
 
-label-requires : tie.Need-label-requires
-label-requires c κs = search needs
+label-in-requires : tie.Need-label-in-requires
+label-in-requires c κs = search needs
 
 with-line-requires : tie.Need-with-line-requires
 with-line-requires c κs = search needs
@@ -33,7 +33,7 @@ returns c =
     let label = c .before in
     rw (
       c .with-line .ensures,
-      label .label .ensures .0,
+      label .label-in .ensures .0,
       label .before .read64 .ensures,
       label .before .before .read162 .ensures,
       label .before .before .before .read16 .ensures,
@@ -50,6 +50,6 @@ with-row-spec =
     read16-requires-2
     add-read64
     read64-requires
-    label-requires
+    label-in-requires
     with-line-requires
     returns)

@@ -38,7 +38,7 @@ element-copy-out-job c =
 with-row-requires : tie.Need-with-row-requires Inv-loop μ-loop
 with-row-requires c κs =
     let start = c .before .before .before .before .before in
-    (omega (arith, ap (λ (r : Reading). r .count) (start .pre .0), few (start .args .sheet .now)), start .pre .1)
+    (omega (arith, ap (λ (r : Reading). r .count) (start .pre .0), few (start .args .sheet .now)), start .pre .0, start .pre .1)
 
 add-j : tie.Need-add-j Inv-loop μ-loop
 add-j c = search needs

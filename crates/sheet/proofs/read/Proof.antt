@@ -1,9 +1,7 @@
 -- `sheet::read` meets its contract.
-use mathlib.Core.Path.{sym, _∙_}
-use native.Mathlib.Omega.{arith}
-use lib.Seq.{length-take-le}
+use mathlib.Core.Path.{_∙_}
 use borrow.Author.Needs.{needs}
-use Rattle.sheet.proofs.Answers.{trailer, found-faulty, found-total, content-is, answer-is, refused-early, refused-late, read-whole}
+use Rattle.sheet.proofs.Answers.{trailer, refused-early}
 use Rattle.sheet.proofs.read.Statement.{statement}
 use Rattle.sheet.proofs.read.Tie as tie
 
@@ -34,80 +32,17 @@ count-requires c κs =
 cast-count : tie.Need-cast-count
 cast-count c = search needs
 
-read-all-requires : tie.Need-read-all-requires
-read-all-requires c κs =
-    let t = trailer (c .before .before .before .before .before .args .sheet .now) (c .before .before .before .refusal .result)
-    (c .before .before .before .refusal .ensures) (c .before .before .if1 .left) in
-    (omega (arith, c .count .ensures), omega (arith, c .count .ensures, c .before .offset .ensures))
-
-slice-aggregate-content-refusal : tie.Need-slice-aggregate-content-refusal
-slice-aggregate-content-refusal c =
-    let all = c .before .before in
-    let count = all .before in
-    let offset = count .before in
-    let passed = offset .before in
-    let early = passed .before in
-    let s = early .before .before .args .sheet .now in
-    let t = trailer s (early .refusal .result) (early .refusal .ensures) (passed .if1 .left) in
-    sym (length-take-le (offset .offset .result) s (omega (arith, offset .offset .ensures)))
-
-content-refusal-requires : tie.Need-content-refusal-requires
-content-refusal-requires c κs =
-    let all = c .before .before in
-    let count = all .before in
-    let offset = count .before in
-    let passed = offset .before in
-    let early = passed .before in
-    let s = early .before .before .args .sheet .now in
-    let t = trailer s (early .refusal .result) (early .refusal .ensures) (passed .if1 .left) in
-    let r = all .read-all in (
-      omega (arith, count .count .ensures),
-      found-faulty s (count .count .result) (offset .offset .result) (r .result .jobs) (r .ensures .0) (r .result .faulty) (r .ensures .2),
-      found-total s (count .count .result) (offset .offset .result) (r .result .jobs) (r .ensures .0) (r .result .total) (r .ensures .1),
-    )
-
-refused-requires-2 : tie.Need-refused-requires-2
-refused-requires-2 c κs = search needs
-
-returns-2 : tie.Need-returns-2
-returns-2 c =
-    let late = c .before .before in
-    let all = late .before .before .before in
-    let count = all .before in
-    let offset = count .before in
-    let passed = offset .before in
-    let early = passed .before in
-    let s = early .before .before .args .sheet .now in
-    let k = content-is s (count .count .result) (offset .offset .result) (all .read-all .result .jobs) (all .read-all .ensures .0)
-    (late .content-refusal .result) (count .count .ensures) (offset .offset .ensures) (late .content-refusal .ensures) in
-    c .refused2 .ensures
-    ∙ refused-late s (early .refusal .result) (early .refusal .ensures) (passed .if1 .left) (late .content-refusal .result) k (c .before .if2 .taken)
-
 modules-requires : tie.Need-modules-requires
 modules-requires c κs =
-    let late = c .before in
-    let all = late .before .before .before in
-    let count = all .before in
-    let offset = count .before in
-    let passed = offset .before in
+    let passed = c .before .before in
     let early = passed .before in
-    let s = early .before .before .args .sheet .now in
-    trailer s (early .refusal .result) (early .refusal .ensures) (passed .if1 .left) .long
+    trailer (early .before .before .args .sheet .now) (early .refusal .result) (early .refusal .ensures) (passed .if1 .left) .long
 
-returns-3 : tie.Need-returns-3
-returns-3 c =
-    let late = c .before .before in
-    let all = late .before .before .before in
-    let count = all .before in
-    let offset = count .before in
-    let passed = offset .before in
-    let early = passed .before in
-    let s = early .before .before .args .sheet .now in
-    let k = content-is s (count .count .result) (offset .offset .result) (all .read-all .result .jobs) (all .read-all .ensures .0)
-    (late .content-refusal .result) (count .count .ensures) (offset .offset .ensures) (late .content-refusal .ensures) in
-    answer-is s (count .count .result) (offset .offset .result) (c .modules .result) (all .read-all .result .jobs)
-    (count .count .ensures) (offset .offset .ensures) (c .modules .ensures) (all .read-all .ensures .0)
-    ∙ read-whole s (early .refusal .result) (early .refusal .ensures) (passed .if1 .left) (late .content-refusal .result) k (c .before .if2 .left)
+read-records-requires : tie.Need-read-records-requires
+read-records-requires c κs = search needs
+
+returns-2 : tie.Need-returns-2
+returns-2 c = search needs
 
 pub read-spec : {M : Type 1} → statement M
 read-spec =
@@ -120,10 +55,6 @@ read-spec =
     cast-offset
     count-requires
     cast-count
-    read-all-requires
-    slice-aggregate-content-refusal
-    content-refusal-requires
-    refused-requires-2
-    returns-2
     modules-requires
-    returns-3)
+    read-records-requires
+    returns-2)

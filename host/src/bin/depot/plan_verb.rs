@@ -31,11 +31,11 @@ pub fn run(words: &[String]) -> Result<Outcome, Trouble> {
     let start = arguments.read_value("--start", Clock::starting, START_ALLOWED)?;
     let memory = arguments.read_value("--memory", units::bytes, "a number of bytes, or one with K or M")?.unwrap_or(MEMORY);
     let yard = Yard::open(arguments.plain(0).expect("a file is needed"), start)?;
-    let (bytes, card) = match search::run(&yard.sheet, memory) {
+    let search::Found { reading, bytes, card } = match search::run(&yard.sheet, memory) {
         Ok(found) => found,
         Err(refusal) => return refused(&yard, refusal, form),
     };
-    let plan = Planned::new(&yard, card);
+    let plan = Planned::new(&yard, reading, card);
     let file = |option, bytes: &dyn Fn() -> Vec<u8>| arguments.value(option).map_or(Ok(()), |file| put(file, &bytes()));
     file("--card", &|| bytes.clone())?;
     file("--svg", &|| chart::file(&plan).into_bytes())?;

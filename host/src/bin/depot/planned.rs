@@ -2,7 +2,7 @@
 use crate::clock::Clock;
 use crate::list;
 use crate::outcome::{bytes_of, Trouble};
-use depot_host::{label, read, Card, Job, Reading, Refusal, Row};
+use depot_host::{label_of, Card, Job, Reading, Refusal, Row};
 
 /// A job sheet, and what is known of it beside its bytes.
 pub struct Yard {
@@ -32,9 +32,9 @@ pub fn is_list(file: &str) -> bool {
     file.to_ascii_lowercase().ends_with(".csv")
 }
 
-/// The labels of a sheet that reads.
+/// The labels of a sheet, from what reading it answered.
 pub fn labels(sheet: &[u8], reading: &Reading) -> Vec<String> {
-    let text = |job| label(sheet, job).expect("a sheet that reads has every label");
+    let text = |job| label_of(sheet, reading, job).expect("a sheet that reads has every label");
     (0..reading.jobs.len()).map(|job| String::from_utf8_lossy(text(job)).into_owned()).collect()
 }
 
@@ -73,8 +73,7 @@ pub struct Planned {
 }
 
 impl Planned {
-    pub fn new(yard: &Yard, card: Card) -> Planned {
-        let reading = read(&yard.sheet).expect("a sheet with a plan reads");
+    pub fn new(yard: &Yard, reading: Reading, card: Card) -> Planned {
         let labels = labels(&yard.sheet, &reading);
         let parts = labels.into_iter().zip(reading.jobs).zip(card.rows);
         Planned {

@@ -1,5 +1,5 @@
 //! The planning call on a thread of its own, and how long it has been searching on standard error.
-use depot_host::{card_length, plan, Card, Refusal, MOST_JOBS};
+use depot_host::{card_length, plan, read, Card, Reading, Refusal, MOST_JOBS};
 use std::io::{self, IsTerminal, Write};
 use std::sync::mpsc::{self, RecvTimeoutError};
 use std::thread;
@@ -10,22 +10,28 @@ const SILENT: Duration = Duration::from_secs(1);
 const ON_TERMINAL: Duration = Duration::from_millis(200);
 const ELSEWHERE: Duration = Duration::from_secs(10);
 
-/// The card's bytes that the library leaves, and the card.
-pub fn run(sheet: &[u8], memory: usize) -> Result<(Vec<u8>, Card), Refusal> {
+/// What the sheet says, the card's bytes that the library leaves for it, and the card.
+pub struct Found {
+    pub reading: Reading,
+    pub bytes: Vec<u8>,
+    pub card: Card,
+}
+
+pub fn run(sheet: &[u8], memory: usize) -> Result<Found, Refusal> {
     let (send, receive) = mpsc::channel();
-    let sheet = sheet.to_vec();
+    let lent = sheet.to_vec();
     let search = thread::spawn(move || {
         let mut card = vec![0; card_length(MOST_JOBS)];
-        let answer = plan(&sheet, &mut card, &mut vec![0; memory]);
-        let jobs = depot_host::read(&sheet).map_or(0, |reading| reading.jobs.len());
-        card.truncate(card_length(jobs));
+        let answer = plan(&lent, &mut card, &mut vec![0; memory]);
         send.send(answer.map(|()| card)).ok();
     });
     let answer = wait(&receive);
     search.join().expect("the search ends");
-    let bytes = answer?;
+    let mut bytes = answer?;
+    let reading = read(sheet)?;
+    bytes.truncate(card_length(reading.jobs.len()));
     let card = Card::of(&bytes).expect("an answered call leaves a card");
-    Ok((bytes, card))
+    Ok(Found { reading, bytes, card })
 }
 
 fn wait<T>(receive: &mpsc::Receiver<T>) -> T {

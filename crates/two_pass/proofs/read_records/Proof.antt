@@ -1,4 +1,4 @@
--- `sheet_format::records::read_all` meets its contract: after i records, their jobs stand in their places, their label lengths are
+-- `two_pass::read_records` meets its contract: after i records, their jobs stand in their places, their label lengths are
 -- summed, and it is known whether one of them is faulty.
 use mathlib.Core.Path.{_≡_, refl, ap, ap₂, _∙_}
 use mathlib.Core.Bool.{_||_}
@@ -9,12 +9,12 @@ use native.Mathlib.Omega.{arith}
 use lib.ListN.{set}
 use borrow.Author.Needs.{needs}
 use Rattle.counting.specs.Counting.{sum, any, joined}
 use Rattle.sheet_format.specs.declared.Job.{Job}
 use Rattle.sheet_format.specs.Format.{noJobs, labelLength, labelLengths, jobFrom, places}
 use Rattle.sheet_format.specs.Checks.{faulty}
 use Rattle.sheet_format.proofs.Lists.{place-more}
-use Rattle.sheet_format.proofs.records.read_all.Statement.{statement}
-use Rattle.sheet_format.proofs.records.read_all.Tie as tie
+use Rattle.two_pass.proofs.read_records.Statement.{statement}
+use Rattle.two_pass.proofs.read_records.Tie as tie
 
 abbrev Inv-loop : tie.InvT-loop
 Inv-loop sheet offset count jobs₀ total₀ found₀ i₀ jobs total found i =
@@ -89,8 +89,8 @@ returns c =
       v .inv .3 ∙ ap (λ k. any k (λ m. faulty (c .before .before .before .before .args .count) (f m))) e,
     )
 
-pub read-all-spec : {M : Type 1} → statement M
-read-all-spec =
+pub read-records-spec : {M : Type 1} → statement M
+read-records-spec =
     tie.close
     (tie.spec
     Inv-loop
