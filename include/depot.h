@@ -34,8 +34,8 @@ extern "C" {
 /* ---- the version ------------------------------------------------------------------------------------------------------------- */
 
 /* Of this header, and as a number: major * 1000000 + minor * 1000 + patch. Bytes of sheets and cards may differ between minors. */
-#define DEPOT_VERSION "0.6.0"
-#define DEPOT_VERSION_NUMBER 6000
+#define DEPOT_VERSION "0.7.0"
+#define DEPOT_VERSION_NUMBER 7000
 
 /*
  * The number of the library that is linked. Compare it with DEPOT_VERSION_NUMBER at the start, so that header and library belong
@@ -47,14 +47,14 @@ uint32_t depot_version(void);
 
 /*
  * What a call answers: 0, or the number of the first check that fails. Each call makes its checks in the order of these numbers; but
- * depot_desk_change makes 14 first.
+ * those that read or write a sheet make 19 right behind 3, and depot_desk_change makes 14 first.
  */
 enum depot_refusal {
     DEPOT_DONE = 0,
-    DEPOT_SHEET_LENGTH = 1,           /* the sheet has fewer than 8 or more than 568 bytes */
+    DEPOT_SHEET_LENGTH = 1,           /* the sheet has fewer than 10 or more than 570 bytes */
     DEPOT_TOO_MANY_JOBS = 2,          /* there are more than 20 jobs */
     DEPOT_CABINET_SIZE = 3,           /* the cabinet has no modules or more than 64 */
-    DEPOT_RECORD_OFFSET = 4,          /* the record offset plus 12 for each job plus 8 is not the sheet's length */
+    DEPOT_RECORD_OFFSET = 4,          /* the record offset plus 12 for each job plus 10 is not the sheet's length */
     DEPOT_RECORD_FIELD = 5,           /* some record has a field outside its range, or a bit for an earlier job that there is not */
     DEPOT_LABEL_LENGTHS = 6,          /* the label lengths do not add up to the label bytes there are */
     DEPOT_LABEL_BYTE = 7,             /* some label has a byte below 32 or above 126, or begins or ends with a space */
@@ -69,6 +69,7 @@ enum depot_refusal {
     DEPOT_PASSES_CEILING = 16,        /* the claim would pass the controller's ceiling */
     DEPOT_DOES_NOT_FIT = 17,          /* the claim does not fit beside what the others hold or have reserved */
     DEPOT_EXCEEDS_HOLDING = 18,       /* the hand-back exceeds the holding */
+    DEPOT_CHANGEOVER = 19,            /* the changeover is longer than 30 minutes */
     DEPOT_HOLDING_ABOVE_CEILING = 21, /* some holding exceeds its new ceiling */
     DEPOT_HOLDINGS_EXCEED_LIMIT = 22  /* the holdings, each raised to its new share where that is larger, exceed the new limit */
 };
@@ -79,10 +80,10 @@ enum depot_refusal {
 #define DEPOT_MOST_MODULES 64 /* of a cabinet */
 #define DEPOT_LONGEST_LABEL 16
 
-#define DEPOT_SHORTEST_SHEET 8
-#define DEPOT_LONGEST_SHEET 568
+#define DEPOT_SHORTEST_SHEET 10
+#define DEPOT_LONGEST_SHEET 570
 /* the sheet of so many jobs with so many label bytes in all */
-#define DEPOT_SHEET_BYTES(jobs, label_bytes) ((size_t)12 * (jobs) + (label_bytes) + 8)
+#define DEPOT_SHEET_BYTES(jobs, label_bytes) ((size_t)12 * (jobs) + (label_bytes) + 10)
 
 #define DEPOT_LONGEST_CARD 268
 /* the card of so many jobs */
@@ -98,7 +99,8 @@ enum depot_refusal {
 /* ---- planning ---------------------------------------------------------------------------------------------------------------- */
 
 /*
- * Plans a job sheet: of all valid plans the one that ends first, by the tie rule.
+ * Plans a job sheet: of all valid plans the one that ends first, by the tie rule. A module rests for the sheet's changeover between two
+ * jobs; whoever follows the plan hands a job's modules back at its end plus the changeover.
  *
  * sheet  Read. The sheet's bytes.
  * card   Written. The plan's card goes to its front, DEPOT_CARD_BYTES(n) bytes for n jobs; the bytes behind it stay. A buffer of
@@ -108,7 +110,7 @@ enum depot_refusal {
  * work   Written. Working memory of any length, 0 too: more of it can make the search shorter. What it holds changes no answer, and
  *        an answered call leaves it all zero.
  *
- * The three do not overlap. Answers 0, or a refusal: 1 to 10. Refused, card and work are as before.
+ * The three do not overlap. Answers 0, or a refusal: 1 to 10 and 19. Refused, card and work are as before.
  *
  * The time grows steeply with the jobs and nothing interrupts the call: docs/FIRMWARE.md, 'Time'. Stack: DEPOT_PLAN_STACK.
  */
@@ -132,6 +134,7 @@ struct depot_reading {
     struct depot_job jobs[DEPOT_MOST_JOBS]; /* in order; 0 in the places past the last job */
     size_t count;                           /* n, the number of jobs */
     uint16_t modules;                       /* N, the modules in the cabinet */
+    uint16_t changeover;                    /* the minutes that a module rests between two jobs, 0 to 30 */
 };
 
 /*
@@ -139,7 +142,7 @@ struct depot_reading {
  *
  * sheet  Read. The sheet's bytes.
  *
- * Answers the jobs, n and N, or a refusal: 1 to 7. Stack: DEPOT_CALL_STACK, and the answer in the caller's frame.
+ * Answers the jobs, n, N and the changeover, or a refusal: 1 to 7 and 19. Stack: DEPOT_CALL_STACK, and the answer in the caller's frame.
  */
 struct depot_reading depot_read(const uint8_t *sheet, size_t sheet_len);
 
@@ -157,7 +160,7 @@ struct depot_label_place {
  * sheet  Read. The sheet's bytes.
  * job    The job's number, from 0.
  *
- * Answers the label's place, or a refusal: 1 to 7 and 14. Stack: DEPOT_CALL_STACK.
+ * Answers the label's place, or a refusal: 1 to 7, 19 and 14. Stack: DEPOT_CALL_STACK.
  */
 struct depot_label_place depot_label(const uint8_t *sheet, size_t sheet_len, size_t job);
 
@@ -180,20 +183,22 @@ struct depot_written {
 };
 
 /*
- * Writes a job sheet. Reading it gives the same jobs, n and N.
+ * Writes a job sheet. Reading it gives the same jobs, n, N and changeover.
  *
- * jobs     Read. The jobs in order.
- * labels   Read. The jobs' labels run together in the same order: as many bytes as the label lengths add up to, each 32 to 126; a label
- *          neither begins nor ends with a space.
- * modules  N, the modules in the cabinet.
- * sheet    Written. The sheet goes to its front, DEPOT_SHEET_BYTES(jobs_len, labels_len) bytes; the bytes behind it stay. A buffer of
- *          DEPOT_LONGEST_SHEET bytes is enough for every sheet.
+ * jobs        Read. The jobs in order.
+ * labels      Read. The jobs' labels run together in the same order: as many bytes as the label lengths add up to, each 32 to 126; a
+ *             label neither begins nor ends with a space.
+ * modules     N, the modules in the cabinet.
+ * changeover  The minutes that a module rests between two jobs, 0 to 30.
+ * sheet       Written. The sheet goes to its front, DEPOT_SHEET_BYTES(jobs_len, labels_len) bytes; the bytes behind it stay. A buffer of
+ *             DEPOT_LONGEST_SHEET bytes is enough for every sheet.
  *
- * sheet does not overlap jobs or labels. Answers the sheet's length, or a refusal: 2, 3, 5, 6, 7, 10. Refused, no byte is written.
+ * sheet does not overlap jobs or labels. Answers the sheet's length, or a refusal: 2, 3, 19, 5, 6, 7, 10, in this order. Refused, no byte
+ * is written.
  * Stack: DEPOT_CALL_STACK.
  */
 struct depot_written depot_write(const struct depot_job *jobs, size_t jobs_len, const uint8_t *labels, size_t labels_len,
-                                 uint16_t modules, uint8_t *sheet, size_t sheet_len);
+                                 uint16_t modules, uint16_t changeover, uint8_t *sheet, size_t sheet_len);
 
 /* ---- the share desk ---------------------------------------------------------------------------------------------------------- */
 

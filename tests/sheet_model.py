@@ -9,9 +9,10 @@ import struct
 
 from rows import numbers, settle, table
 
-MOST_JOBS, MOST_MODULES, LONGEST_SHEET = 20, 64, 568
-RECORD, TRAILER = struct.Struct('<BBHIHH'), struct.Struct('<IHH')
-OLDER_RECORD, LONGEST_OLDER = struct.Struct('<BBHIH'), 528
+MOST_JOBS, MOST_MODULES, LONGEST_CHANGEOVER, LONGEST_SHEET = 20, 64, 30, 570
+RECORD, TRAILER = struct.Struct('<BBHIHH'), struct.Struct('<IHHH')
+OLDER_RECORD, OLDER_TRAILER = struct.Struct('<BBHIH'), struct.Struct('<IHH')
+LAYOUTS = {OLDER_RECORD: 'beforeArrivals', RECORD: 'beforeChangeovers'}
 LONGEST_LABEL, LABEL_BYTES, MOST_MINUTES, LAST_DEPARTURE, LAST_ARRIVAL = 16, range(32, 127), 1440, 2880, 1440
 
 
@@ -34,6 +35,15 @@ def wrong(label):
     return any(b not in LABEL_BYTES for b in label) or label.startswith(b' ') or label.endswith(b' ')
 
 
+def figures_refusal(n, modules, changeover):
+    """2, 3 and 19, in this order."""
+    if n > MOST_JOBS:
+        return 2
+    if not 1 <= modules <= MOST_MODULES:
+        return 3
+    return 19 if changeover > LONGEST_CHANGEOVER else 0
+
+
 def content_refusal(jobs, labels):
     if any(faulty(job, len(jobs)) for job in jobs):
         return 5
@@ -42,34 +52,43 @@ def content_refusal(jobs, labels):
     return 7 if any(wrong(label) for label in cut(jobs, labels)) else 0
 
 
-def read(sheet, record=RECORD, longest=LONGEST_SHEET):
-    """(refusal, jobs, N)"""
-    if not TRAILER.size <= len(sheet) <= longest:
-        return 1, [], 0
-    offset, n, modules = TRAILER.unpack(sheet[-TRAILER.size:])
-    if n > MOST_JOBS:
-        return 2, [], 0
-    if not 1 <= modules <= MOST_MODULES:
-        return 3, [], 0
-    if offset + record.size * n + TRAILER.size != len(sheet):
-        return 4, [], 0
-    jobs = [record.unpack_from(sheet, offset + record.size * i) for i in range(n)]
-    if record is OLDER_RECORD:
-        jobs = [(*job, 0) for job in jobs]
+def read(sheet):
+    """(refusal, jobs, (N, changeover))"""
+    if not TRAILER.size <= len(sheet) <= LONGEST_SHEET:
+        return 1, [], (0, 0)
+    offset, n, *cabinet = TRAILER.unpack(sheet[-TRAILER.size:])
+    refusal = figures_refusal(n, *cabinet)
+    if refusal:
+        return refusal, [], (0, 0)
+    if offset + RECORD.size * n + TRAILER.size != len(sheet):
+        return 4, [], (0, 0)
+    jobs = [RECORD.unpack_from(sheet, offset + RECORD.size * i) for i in range(n)]
     refusal = content_refusal(jobs, sheet[:offset])
-    return (refusal, [], 0) if refusal else (0, jobs, modules)
+    return (refusal, [], (0, 0)) if refusal else (0, jobs, tuple(cabinet))
 
 
-def read_older(sheet):
-    return read(sheet, OLDER_RECORD, LONGEST_OLDER)
+def read_older(sheet, record):
+    """The same of a sheet of before F-4, and, where records have no arrival, of before F-2."""
+    longest = MOST_JOBS * (LONGEST_LABEL + record.size) + OLDER_TRAILER.size
+    if not OLDER_TRAILER.size <= len(sheet) <= longest:
+        return 1, [], (0, 0)
+    offset, n, modules = OLDER_TRAILER.unpack(sheet[-OLDER_TRAILER.size:])
+    refusal = figures_refusal(n, modules, 0)
+    if refusal:
+        return refusal, [], (0, 0)
+    if offset + record.size * n + OLDER_TRAILER.size != len(sheet):
+        return 4, [], (0, 0)
+    jobs = [(*record.unpack_from(sheet, offset + record.size * i), 0)[:6] for i in range(n)]
+    refusal = content_refusal(jobs, sheet[:offset])
+    return (refusal, [], (0, 0)) if refusal else (0, jobs, (modules, 0))
 
 
-def relaid(sheet):
-    """F-2.4: a sheet of before in the layout of today, with arrivals 0."""
-    offset, n, _ = TRAILER.unpack(sheet[-TRAILER.size:])
-    places = [offset + OLDER_RECORD.size * i for i in range(n)]
-    records = [sheet[at:at + OLDER_RECORD.size] + bytes(2) for at in places]
-    return sheet[:offset] + b''.join(records) + sheet[-TRAILER.size:]
+def relaid(sheet, record):
+    """F-2.4, F-4: a sheet of before in the layout of today, with the changeover 0, and arrivals 0 where it had none."""
+    offset, n, _ = OLDER_TRAILER.unpack(sheet[-OLDER_TRAILER.size:])
+    places = [offset + record.size * i for i in range(n)]
+    records = [sheet[at:at + record.size] + bytes(RECORD.size - record.size) for at in places]
+    return sheet[:offset] + b''.join(records) + sheet[-OLDER_TRAILER.size:] + bytes(2)
 
 
 def label(sheet, job):
@@ -81,16 +100,12 @@ def label(sheet, job):
     return 0, sheet[start:start + jobs[job][0]]
 
 
-def write(jobs, labels, modules, room=LONGEST_SHEET):
+def write(jobs, labels, cabinet, room=LONGEST_SHEET):
     """(refusal, sheet)"""
-    if len(jobs) > MOST_JOBS:
-        return 2, b''
-    if not 1 <= modules <= MOST_MODULES:
-        return 3, b''
-    refusal = content_refusal(jobs, labels)
+    refusal = figures_refusal(len(jobs), *cabinet) or content_refusal(jobs, labels)
     if refusal:
         return refusal, b''
-    sheet = labels + b''.join(RECORD.pack(*job) for job in jobs) + TRAILER.pack(len(labels), len(jobs), modules)
+    sheet = labels + b''.join(RECORD.pack(*job) for job in jobs) + TRAILER.pack(len(labels), len(jobs), *cabinet)
     return (10, b'') if room < len(sheet) else (0, sheet)
 
 
@@ -102,10 +117,10 @@ def random_jobs(rng, n):
 
 def try_bytes(sheet):
     """Every byte string that reads is what writing its jobs and its labels gives."""
-    refusal, jobs, modules = read(sheet)
+    refusal, jobs, cabinet = read(sheet)
     if refusal == 0:
         labels = b''.join(label(sheet, i)[1] for i in range(len(jobs)))
-        assert write(jobs, labels, modules) == (0, sheet)
+        assert write(jobs, labels, cabinet) == (0, sheet)
     assert label(sheet, len(jobs)) == (refusal or 14, b'')
     return refusal
 
@@ -125,11 +140,11 @@ def random_label(rng, length):
 
 
 def random_sheet(rng, n):
-    """Legal jobs, their labels and modules, and the sheet that they are written as."""
-    jobs, modules = random_jobs(rng, n), rng.randint(1, 64)
+    """Legal jobs, their labels, modules and changeover, and the sheet that they are written as."""
+    jobs, cabinet = random_jobs(rng, n), (rng.randint(1, 64), rng.choice([0, 30, rng.randint(0, 30)]))
     labels = b''.join(random_label(rng, length) for length, *_ in jobs)
-    refusal, sheet = write(jobs, labels, modules)
-    assert refusal == 0 and read(sheet) == (0, jobs, modules)
+    refusal, sheet = write(jobs, labels, cabinet)
+    assert refusal == 0 and read(sheet) == (0, jobs, cabinet)
     assert b''.join(label(sheet, i)[1] for i in range(n)) == labels
     return sheet
 
@@ -140,32 +155,33 @@ def try_sheets(rng):
         sheet = damage(rng, random_sheet(rng, rng.choice([0, 1, 20, rng.randint(0, 20)])))
         seen.add(try_bytes(sheet[:rng.choice([len(sheet), rng.randint(0, len(sheet))])]))
         seen.add(try_bytes(sheet + bytes(rng.randint(0, 2) * 265)))
-    assert seen == set(range(8)), seen
+    assert seen == {*range(8), 19}, seen
 
 
-def older_sheet(rng, n):
-    """A sheet of random_sheet as it was before F-2."""
+def older_sheet(rng, n, record):
+    """A sheet of random_sheet as it was before F-4 and, where records have no arrival, before F-2."""
     sheet = random_sheet(rng, n)
-    offset, records = TRAILER.unpack(sheet[-TRAILER.size:])[0], sheet[:-TRAILER.size]
+    offset, n, modules, _ = TRAILER.unpack(sheet[-TRAILER.size:])
     places = [offset + RECORD.size * i for i in range(n)]
-    return sheet[:offset] + b''.join(records[at:at + OLDER_RECORD.size] for at in places) + sheet[-TRAILER.size:]
+    return sheet[:offset] + b''.join(sheet[at:at + record.size] for at in places) + OLDER_TRAILER.pack(offset, n, modules)
 
 
 def try_older(rng):
     seen = set()
-    for _ in range(4000):
-        sheet = older_sheet(rng, rng.choice([0, 1, 20, rng.randint(0, 20)]))
+    for k in range(8000):
+        record = (OLDER_RECORD, RECORD)[k % 2]
+        sheet = older_sheet(rng, rng.choice([0, 1, 20, rng.randint(0, 20)]), record)
         sheet = rng.choice([sheet, damage(rng, sheet)])
-        if read_older(sheet)[0] not in range(1, 5):
-            assert read(relaid(sheet)) == read_older(sheet)
-            seen.add(read_older(sheet)[0])
-    assert seen == {0, 5, 6, 7}, seen
+        if read_older(sheet, record)[0] not in range(1, 5):
+            assert read(relaid(sheet, record)) == read_older(sheet, record)
+            seen.add((record.size, read_older(sheet, record)[0]))
+    assert seen == {(size, refusal) for size in (10, 12) for refusal in (0, 5, 6, 7)}, seen
 
 
 def row(sheet):
-    """The sheet; the refusal, n, N and the jobs' figures; for each job and one number past them, the label call's answers."""
-    refusal, jobs, modules = read(sheet)
-    figures = [refusal, len(jobs), modules, *(x for job in jobs for x in job)]
+    """The sheet; the refusal, n, N, the changeover and the jobs' figures; for each job and one number past them, the label call's answers."""
+    refusal, jobs, cabinet = read(sheet)
+    figures = [refusal, len(jobs), *cabinet, *(x for job in jobs for x in job)]
     shown = [x for i in range(len(jobs) + 1) for number, part in [label(sheet, i)] for x in [number, *part]]
     return f'row ({numbers(sheet)})\n    ({numbers(figures)})\n    ({numbers(shown)})'
 
@@ -194,12 +210,12 @@ def spaces():
     """One job whose label has a space inside, first, last, and alone; two jobs with one where their labels meet."""
     for lengths, labels in [([7], b'N 417 B'), ([2], b' B'), ([2], b'A '), ([1], b' '), ([2, 1], b'A B'), ([1, 2], b'A B')]:
         records = b''.join(RECORD.pack(length, 1, 10, 0, 30, 0) for length in lengths)
-        yield labels + records + TRAILER.pack(len(labels), len(lengths), 2)
+        yield labels + records + TRAILER.pack(len(labels), len(lengths), 2, 5)
 
 
 def samples(rng):
     """Two rows or more of every answer, from short sheets, and spaces in labels."""
-    chosen = {refusal: [] for refusal in range(8)}
+    chosen = {refusal: [] for refusal in [*range(8), 19]}
     for s in spaces():
         chosen[read(s)[0]].append(s)
     assert [len(chosen[0]), len(chosen[7])] == [1, 5]
@@ -212,7 +228,7 @@ def samples(rng):
     return HEAD + table('rows', 'Row', [row(s) for refusal in chosen for s in chosen[refusal]]) + FOOT
 
 
-OLDER_HEAD = """-- Random sheets of the layout before F-2, whole and damaged, and what tests/sheet_model.py, which reads the document on its own, says
+OLDER_HEAD = """-- Random sheets of the layouts before F-2 and before F-4, whole and damaged, and what tests/sheet_model.py, which reads the document on its own, says
 -- of them. Written by that model: its rows are compared with these by the gate.
 use mathlib.Core.Path.{_≡_, refl}
 use mathlib.Core.List.{List, [], _∷_}
@@ -222,27 +238,30 @@ use Rattle.words.specs.Words.{numberAt}
 use Rattle.sheet_format.specs.Format.{recordAt}
 use Rattle.sheet_format.specs.Checks.{outside, faulty, wrongLabel}
 use Rattle.older_sheets.specs.Older as older
+use Rattle.older_sheets.specs.Older.{beforeArrivals, beforeChangeovers}
 use Rattle.older_sheets.specs.Relaid.{relaid}
 use Rattle.older_sheets.proofs.Rows.{Row, row, found, told}
 """
 OLDER_FOOT = """
 pub rows-right : found rows ≡ told rows
 unfolding
-    rows found told relaid firstFailing outside faulty older.faulty wrongLabel any sum joined recordAt older.recordAt numberAt
+    rows found told relaid firstFailing outside faulty wrongLabel any sum joined recordAt older.recordAt numberAt
 rows-right = refl
 """
 
 
 def older_samples(rng):
     """Two rows of every answer of a sheet that is laid out: the sheet, the same in the layout of today, and the number that both get."""
-    chosen = {refusal: [] for refusal in (0, 5, 6, 7)}
+    chosen = {(refusal, record): [] for refusal in (0, 5, 6, 7) for record in (OLDER_RECORD, RECORD)}
     while any(len(sheets) < 2 for sheets in chosen.values()):
-        sheet = older_sheet(rng, rng.randint(1, 2))
+        record = rng.choice([OLDER_RECORD, RECORD])
+        sheet = older_sheet(rng, rng.randint(1, 2), record)
         for s in [sheet, damage(rng, sheet)]:
-            sheets = chosen.get(read_older(s)[0], [])
+            sheets = chosen.get((read_older(s, record)[0], record), [])
             if len(sheets) < 2:
                 sheets.append(s)
-    rows = [f'row ({numbers(s)})\n    ({numbers(relaid(s))}) {refusal}' for refusal in chosen for s in chosen[refusal]]
+    rows = [f'row {LAYOUTS[record]} ({numbers(s)})\n    ({numbers(relaid(s, record))}) {refusal}'
+            for (refusal, record), sheets in chosen.items() for s in sheets]
     return OLDER_HEAD + table('rows', 'Row', rows) + OLDER_FOOT
 
 

@@ -22,7 +22,7 @@ impl Family {
     /// A list of n jobs, 1 or more, of its own for each seed.
     pub fn list(&self, seed: u64, n: usize) -> List {
         let mut random = Random::named(seed, &self.name);
-        List { name: format!("{}#{seed}", self.name), modules: self.modules, jobs: (self.make)(&mut random, n) }
+        List { name: format!("{}#{seed}", self.name), modules: self.modules, changeover: 0, jobs: (self.make)(&mut random, n) }
     }
 
     /// The same list with buses that are on the road at the start.

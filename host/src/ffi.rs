@@ -1,7 +1,7 @@
 //! The exported calls as C sees them, `include/depot.h`: a slice crosses as its pointer and its length.
 use crate::{Desk, Job, MOST_JOBS};
 
-/// What reading answers: refusal 0 with the jobs, n and N, or the number of the refusal with all else 0.
+/// What reading answers: refusal 0 with the jobs, n, N and the changeover, or the number of the refusal with all else 0.
 #[repr(C)]
 #[derive(Clone, Copy, Debug, PartialEq, Eq)]
 pub struct Reading {
@@ -9,6 +9,7 @@ pub struct Reading {
     pub jobs: [Job; MOST_JOBS],
     pub count: usize,
     pub modules: u16,
+    pub changeover: u16,
 }
 
 /// Where a label lies: refusal 0 with its offset in the sheet and its length, or the number of the refusal with all else 0.
@@ -53,6 +54,7 @@ extern "C" {
         labels: *const u8,
         labels_len: usize,
         modules: u16,
+        changeover: u16,
         sheet: *mut u8,
         sheet_len: usize,
     ) -> Written;

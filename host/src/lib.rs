@@ -31,7 +31,7 @@ pub use sheet::{label, label_of, read, write, Job, Reading};
 pub const MOST_JOBS: usize = 20;
 
 /// How many bytes the longest sheet has.
-pub const LONGEST_SHEET: usize = 568;
+pub const LONGEST_SHEET: usize = 570;
 
 /// How many bytes the longest label has.
 pub const LONGEST_LABEL: usize = 16;

@@ -24,6 +24,7 @@ pub enum Refusal {
     PassesCeiling,
     DoesNotFit,
     ExceedsHolding,
+    Changeover,
     HoldingAboveCeiling = 21,
     HoldingsExceedLimit,
 }
@@ -31,8 +32,8 @@ pub enum Refusal {
 use Refusal::*;
 
 /// Every refusal in the order of the numbers, in plain words.
-const IN_WORDS: [(Refusal, &str); 20] = [
-    (SheetLength, "the sheet has fewer than 8 or more than 568 bytes"),
+const IN_WORDS: [(Refusal, &str); 21] = [
+    (SheetLength, "the sheet has fewer than 10 or more than 570 bytes"),
     (TooManyJobs, "there are more than 20 jobs"),
     (CabinetSize, "the cabinet has no modules or more than 64"),
     (RecordOffset, "the records do not lie where the trailer says"),
@@ -50,13 +51,14 @@ const IN_WORDS: [(Refusal, &str); 20] = [
     (PassesCeiling, "the claim would pass the controller's ceiling"),
     (DoesNotFit, "the claim does not fit beside what others hold or have reserved"),
     (ExceedsHolding, "the hand-back exceeds the holding"),
+    (Changeover, "the changeover is longer than 30 minutes"),
     (HoldingAboveCeiling, "some holding exceeds its new ceiling"),
     (HoldingsExceedLimit, "the holdings, each raised to its new share where that is larger, exceed the new limit"),
 ];
 
 impl Refusal {
     /// The numbers that there are, for people.
-    pub const NUMBERS: &'static str = "1 to 18, 21 and 22";
+    pub const NUMBERS: &'static str = "1 to 19, 21 and 22";
 
     /// Every refusal, in the order of the numbers.
     pub fn all() -> impl Iterator<Item = Refusal> {
@@ -95,10 +97,10 @@ impl Error for Refusal {}
 #[test]
 fn each_number_has_its_own_words() {
     let numbers: Vec<u32> = Refusal::all().map(Refusal::number).collect();
-    assert_eq!(numbers, (1..=18).chain([21, 22]).collect::<Vec<u32>>());
+    assert_eq!(numbers, (1..=19).chain([21, 22]).collect::<Vec<u32>>());
     for (refusal, words) in IN_WORDS {
         assert_eq!(Refusal::of_number(refusal.number()), Some(refusal));
         assert_eq!(refusal.to_string(), words);
     }
-    assert_eq!([0, 19, 20, 23].map(Refusal::of_number), [None; 4]);
+    assert_eq!([0, 20, 23].map(Refusal::of_number), [None; 3]);
 }

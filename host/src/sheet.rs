@@ -19,11 +19,12 @@ pub struct Job {
     pub arrival: u16,
 }
 
-/// What a sheet says: its jobs in order, and the modules in the cabinet.
+/// What a sheet says: its jobs in order, the modules in the cabinet, and the minutes that a module rests between two jobs.
 #[derive(Clone, Debug, PartialEq, Eq)]
 pub struct Reading {
     pub jobs: Vec<Job>,
     pub modules: u16,
+    pub changeover: u16,
 }
 
 impl Reading {
@@ -31,7 +32,7 @@ impl Reading {
     fn as_answered(&self) -> ffi::Reading {
         let mut jobs = [Job::default(); MOST_JOBS];
         jobs.iter_mut().zip(&self.jobs).for_each(|(place, job)| *place = *job);
-        ffi::Reading { refusal: 0, jobs, count: self.jobs.len(), modules: self.modules }
+        ffi::Reading { refusal: 0, jobs, count: self.jobs.len(), modules: self.modules, changeover: self.changeover }
     }
 }
 
@@ -40,7 +41,7 @@ pub fn read(sheet: &[u8]) -> Result<Reading, Refusal> {
     // SAFETY: a live slice; the library keeps no pointer.
     let answer = unsafe { ffi::depot_read(sheet.as_ptr(), sheet.len()) };
     Refusal::or_done(answer.refusal)?;
-    Ok(Reading { jobs: answer.jobs[..answer.count].to_vec(), modules: answer.modules })
+    Ok(Reading { jobs: answer.jobs[..answer.count].to_vec(), modules: answer.modules, changeover: answer.changeover })
 }
 
 /// The label of a job: that very part of the sheet.
@@ -62,13 +63,23 @@ pub fn label_of<'a>(sheet: &'a [u8], reading: &Reading, job: usize) -> Result<&'
     sheet.get(place.offset..place.offset + place.length).ok_or(Refusal::NoSuchNumber)
 }
 
-/// Writes the sheet of these jobs, of their labels run together and of a cabinet of so many modules, and gives its length.
+/// Writes the sheet of these jobs, of their labels run together and of a cabinet of so many modules with this changeover, and gives its
+/// length.
 ///
 /// The sheet is written to the front of `sheet`; the bytes behind it stay. A refused call writes no byte.
-pub fn write(jobs: &[Job], labels: &[u8], modules: u16, sheet: &mut [u8]) -> Result<usize, Refusal> {
+pub fn write(jobs: &[Job], labels: &[u8], modules: u16, changeover: u16, sheet: &mut [u8]) -> Result<usize, Refusal> {
     // SAFETY: three live slices, of which the one that is written overlaps no other; the library keeps no pointer.
     let answer = unsafe {
-        ffi::depot_write(jobs.as_ptr(), jobs.len(), labels.as_ptr(), labels.len(), modules, sheet.as_mut_ptr(), sheet.len())
+        ffi::depot_write(
+            jobs.as_ptr(),
+            jobs.len(),
+            labels.as_ptr(),
+            labels.len(),
+            modules,
+            changeover,
+            sheet.as_mut_ptr(),
+            sheet.len(),
+        )
     };
     Refusal::or_done(answer.refusal).map(|()| answer.length)
 }

@@ -80,7 +80,7 @@ pub fn of_every_call() -> Vec<(&'static str, usize)> {
     let long = Job { label_len: LONGEST_LABEL as u8, modules: 64, minutes: 1440, ..Job::default() };
     let labels = [b'~'; LONGEST_LABEL * MOST_JOBS];
     let mut sheet = [0; LONGEST_SHEET];
-    let writing = done(|| write(&[long; MOST_JOBS], &labels, 64, &mut sheet));
+    let writing = done(|| write(&[long; MOST_JOBS], &labels, 64, 30, &mut sheet));
     let reading = read(&sheet);
     let mut desk = Desk::default();
     let opening = done(|| Desk::open(MOST_POWER, &[50_000; 8], &[MOST_POWER; 8]).map(|opened| desk = opened));

@@ -29,22 +29,39 @@ fn no_rule_changes_an_answer() {
     every_family(6, compare::search::compare_each_left_out);
 }
 
-/// How often the arrivals of random sheets bite, all compared with every order.
-fn arrivals_that_bite(sheets: usize, all: &[(&str, Rules)]) -> usize {
+/// How often the arrivals, or the changeovers, of random sheets bite, all compared with every order.
+fn that_bite(compare: fn(&mut Random, &[(&str, Rules)]) -> bool, sheets: usize, all: &[(&str, Rules)]) -> usize {
     let mut random = Random::new(2_026);
-    (0..sheets).filter(|_| compare::search::compare_arrivals(&mut random, all)).count()
+    (0..sheets).filter(|_| compare(&mut random, all)).count()
 }
 
 #[test]
 fn plans_with_arrivals_are_those_of_every_order() {
-    let times = arrivals_that_bite(40_000, &[("no rule", Rules::default())]);
+    let times = that_bite(compare::search::compare_arrivals, 40_000, &[("no rule", Rules::default())]);
     println!("{times} of 40,000 sheets have another plan without arrivals");
     assert!(times > 20_000);
 }
 
 #[test]
 fn no_rule_changes_an_answer_where_jobs_arrive() {
-    assert!(arrivals_that_bite(4_000, &Rules::each_left_out()) > 2_000);
+    assert!(that_bite(compare::search::compare_arrivals, 4_000, &Rules::each_left_out()) > 2_000);
+}
+
+#[test]
+fn plans_with_changeovers_are_those_of_every_order() {
+    let times = that_bite(compare::search::compare_changeovers, 40_000, &[("no rule", Rules::default())]);
+    println!("{times} of 40,000 sheets have another plan without a changeover");
+    assert!(times > 20_000);
+}
+
+#[test]
+fn no_rule_changes_an_answer_where_modules_rest() {
+    assert!(that_bite(compare::search::compare_changeovers, 4_000, &Rules::each_left_out()) > 2_000);
+}
+
+#[test]
+fn order_and_end_are_the_library_s_where_modules_rest() {
+    every_family(8, compare::search::compare_resting);
 }
 
 #[test]
@@ -71,7 +88,7 @@ fn misled(length: usize) -> usize {
     let mut random = Random::new(20_161);
     let is_misled = |_: &usize| {
         let sheet = sheets::good(&mut random);
-        let list = List { name: String::new(), modules: sheet.modules, jobs: sheet.jobs };
+        let list = List { name: String::new(), modules: sheet.modules, changeover: sheet.changeover, jobs: sheet.jobs };
         let tables = Tables::of(&list);
         let answer = |outcome| match outcome {
             Outcome::Found(found) => (found.end, found.order),

@@ -12,10 +12,10 @@ use Rattle.counting.proofs.Tests.{true-or-false}
 use Rattle.counting.proofs.Sums.{sum-same, sum-add}
 use Rattle.schedule.specs.Plan.{Sheet, finish}
 use Rattle.schedule.specs.ListPlan.{PartPlan}
-use Rattle.schedule.specs.Bounds.{work, todo}
+use Rattle.schedule.specs.Bounds.{kept, work, todo}
 use Rattle.schedule.specs.Beginnings.{CannotBeat}
 use Rattle.schedule.proofs.Cuts.{area-cut, chain-cut}
-use Rattle.tables.specs.Tables.{sheetOf, countOf, modulesOf}
+use Rattle.tables.specs.Tables.{sheetOf, countOf, modulesOf, changeoverOf}
 use Rattle.tables.specs.Part.{Part, wordOf}
 use Rattle.tables.specs.Prepared.{tailsIn, headsIn}
 use Rattle.placement.specs.Profile.{heldSince}
@@ -59,30 +59,29 @@ module _ {t : List ℕ} {part : Part} (known : Known t part)
   work-is =
       let F = known .is .figures in
       let parts = sum-same jobs (todo S P least)
-      (λ i. only (P .placed i) (S .need i * (finish S (P .plan) i - least)) + only (not (P .placed i)) (S .need i * S .minutes i))
+      (λ i. only (P .placed i) (S .need i * (finish S (P .plan) i + S .rest - least)) + only (not (P .placed i)) (S .need i * kept S i))
       (λ i l. one i (true-or-false (P .placed i))) in
-      let split = sum-add jobs (λ i. only (P .placed i) (S .need i * (finish S (P .plan) i - least)))
-      (λ i. only (not (P .placed i)) (S .need i * S .minutes i)) in
+      let split = sum-add jobs (λ i. only (P .placed i) (S .need i * (finish S (P .plan) i + S .rest - least)))
+      (λ i. only (not (P .placed i)) (S .need i * kept S i)) in
       omega (arith, after-is t (known .fit) part w (known .is) least, F .left)
     where
       one : (i : ℕ) → (P .placed i ≡ true) ⊎ (P .placed i ≡ false) → todo S P least i
-          ≡ only (P .placed i) (S .need i * (finish S (P .plan) i - least)) + only (not (P .placed i)) (S .need i * S .minutes i)
+          ≡ only (P .placed i) (S .need i * (finish S (P .plan) i + S .rest - least)) + only (not (P .placed i)) (S .need i * kept S i)
       one i (inl e) = rw e (omega arith)
       one i (inr e) = rw e (omega arith)
 
   -- what the bounds need of the figures
-  pub bounding : {T : ℕ} → T < 65535 → Bounding t part least T
-  bounding low =
+  pub bounding : Bounding t part least
+  bounding =
       let from : part .last ≤ least = omega (arith, known .is .figures .last, starts .low) in
       record {
         held-after = held-later known least from;
         profile = profile-later least from (known .is .figures .profile);
         little = left-small t (known .fit) part w (known .is);
-        low = low;
       }
 
   crowded-cut : (T : ℕ) → 0 < ones (part .unplaced)
-      → modulesOf t * T < modulesOf t * least + (heldSince part least + part .left) → CannotBeat S (suc T) w
+      → modulesOf t * (T + changeoverOf t) < modulesOf t * least + (heldSince part least + part .left) → CannotBeat S (suc T) w
   crowded-cut T pos h =
       let size = left-count t (known .fit) part w (known .is) in
       area-cut S (known .fit .narrow) w (known .is .follows) least T (starts .low)
@@ -94,7 +93,7 @@ module _ {t : List ℕ} {part : Part} (known : Known t part)
       chain-cut S (known .fit .narrow) w (known .is .follows) jobs j e r (omega (arith, chains .each j l, starts .each j l .here r))
 
   pub hopeless-cut : (prepared : List ℕ) (T : ℕ) → ChainsOf t (tailsIn prepared) jobs → HeadsOf t (headsIn prepared) jobs
-      → 0 < ones (part .unplaced) → Hopeless t prepared part at least T
+      → 0 < ones (part .unplaced) → Hopeless t prepared part at least T (T + changeoverOf t)
       → CannotBeat S (suc T) w
   hopeless-cut prepared T chains heads pos (inl h) = crowded-cut T pos h
   hopeless-cut prepared T chains heads pos (inr (inl h)) = long-cut (tailsIn prepared) (suc T) chains (rw add-one at h)

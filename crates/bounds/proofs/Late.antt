@@ -13,11 +13,11 @@ use Rattle.bits.specs.Bits.{bit}
 use Rattle.schedule.specs.Plan.{Sheet, finish}
 use Rattle.schedule.specs.ListPlan.{PartPlan}
 use Rattle.schedule.specs.PartPlans.{NoneBefore}
-use Rattle.schedule.specs.Bounds.{head, minutesBehind}
+use Rattle.schedule.specs.Bounds.{kept, head, minutesBehind}
 use Rattle.schedule.specs.Beginnings.{CannotBeat}
 use Rattle.schedule.proofs.Starts.{ready-says, start-may}
 use Rattle.schedule.proofs.Bounds.{head-cut, late-cut}
-use Rattle.tables.specs.Tables.{sheetOf, countOf}
+use Rattle.tables.specs.Tables.{sheetOf, countOf, changeoverOf}
 use Rattle.tables.specs.Part.{Part, wordOf}
 use Rattle.tables.specs.Prepared.{tailsIn, headsIn}
 use Rattle.placement.specs.Profile.{heldSince}
@@ -55,24 +55,24 @@ module _ {t : List ℕ} {part : Part} (known : Known t part) (T : ℕ) (prepared
 
   -- what is placed and what is not, of one job
   one : (a : ℕ) (k : ℕ) → k < jobs → (P .placed k ≡ true) ⊎ (P .placed k ≡ false)
-      → only (P .placed k) (S .need k * (finish S (P .plan) k - a)) + only (not (P .placed k)) (lateWork t prepared (part .last) a k)
-      ≡ S .need k * cond (P .placed k) (finish S (P .plan) k - a) (minutesBehind (max (P .last) (head S jobs k)) a (S .minutes k))
+      → only (P .placed k) (S .need k * (finish S (P .plan) k + S .rest - a)) + only (not (P .placed k)) (lateWork t prepared (part .last) a k)
+      ≡ S .need k * cond (P .placed k) (finish S (P .plan) k + S .rest - a) (minutesBehind (max (P .last) (head S jobs k)) a (kept S k))
   one a k l (inl e) = rw e (omega arith)
-  one a k l (inr e) = rw (e, heads .each k l, F .last) (omega arith)
+  one a k l (inr e) = rw (e, heads .each k l, F .last, known .fit .keeps k l) (omega arith)
 
-  area-late : LateArea t prepared part T → CannotBeat S (suc T) w
+  area-late : LateArea t prepared part (T + changeoverOf t) → CannotBeat S (suc T) w
   area-late (a, from, over) =
       let held = after-is t (known .fit) part w (known .is) a in
       let late = sum-same jobs (λ k. only (bit (part .unplaced) k) (lateWork t prepared (part .last) a k))
       (λ k. only (not (P .placed k)) (lateWork t prepared (part .last) a k)) (λ k l. ap (λ (b : Bool). only b (lateWork t prepared (part .last) a k)) (F .set k l)) in
-      let split = sum-add jobs (λ k. only (P .placed k) (S .need k * (finish S (P .plan) k - a)))
+      let split = sum-add jobs (λ k. only (P .placed k) (S .need k * (finish S (P .plan) k + S .rest - a)))
       (λ k. only (not (P .placed k)) (lateWork t prepared (part .last) a k)) in
       let all = sum-same jobs _ (λ k. S .need k
-      * cond (P .placed k) (finish S (P .plan) k - a) (minutesBehind (max (P .last) (head S jobs k)) a (S .minutes k)))
+      * cond (P .placed k) (finish S (P .plan) k + S .rest - a) (minutesBehind (max (P .last) (head S jobs k)) a (kept S k)))
       (λ k l. one a k l (true-or-false (P .placed k))) in
       late-cut S (known .fit .lasting) (known .fit .narrow) w (known .is .follows) (P .last) (le-of-eq refl) none-before-last T
       jobs a (omega (arith, from, F .last)) (omega (arith, over, held, late, split, all))
 
-  pub too-late-cut : TooLate t prepared part T → CannotBeat S (suc T) w
+  pub too-late-cut : TooLate t prepared part T (T + changeoverOf t) → CannotBeat S (suc T) w
   too-late-cut (inl h) = chain-late h
   too-late-cut (inr h) = area-late h

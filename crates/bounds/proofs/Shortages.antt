@@ -3,9 +3,8 @@ use mathlib.Core.Path.{_≡_, refl, sym, ap, _∙_}
 use mathlib.Core.Logic.{inl, inr}
 use mathlib.Core.Bool.{Bool, true, false, not, _&&_}
 use mathlib.Core.List.{List}
-use Prim.Native.Nat.{ℕ, suc, _-_, _*_, _≤_, _<_, max}
+use Prim.Native.Nat.{ℕ, suc, _+_, _-_, _*_, _≤_, _<_, max}
 use native.Mathlib.Omega.{arith}
-use native.Mathlib.Nat.{add-zero}
 use lib.Dec.{ltb, leb}
 use lib.ListN.{getD}
 use borrow.Author.Tests.{ltb-true, lt-ltb}
@@ -15,10 +14,10 @@ use Rattle.counting.proofs.Sums.{sum-same}
 use Rattle.bits.specs.Bits.{bit}
 use Rattle.schedule.specs.Plan.{Sheet, finish}
 use Rattle.schedule.specs.ListPlan.{PartPlan, occupies, occupied}
-use Rattle.schedule.specs.Bounds.{chain, head, mustRun, gain}
+use Rattle.schedule.specs.Bounds.{kept, chain, head, mustRun, gain, Lasts}
 use Rattle.schedule.specs.Beginnings.{CannotBeat}
 use Rattle.schedule.proofs.Bounds.{overlap-cut, weights-cut, reach-cut, modules-cut}
-use Rattle.tables.specs.Tables.{sheetOf, minutesAt, countOf, modulesOf}
+use Rattle.tables.specs.Tables.{sheetOf, keptAt, countOf, modulesOf, changeoverOf}
 use Rattle.tables.specs.Part.{Part, wordOf}
 use Rattle.tables.specs.Prepared.{tailsIn, headsIn}
 use Rattle.placement.specs.Profile.{heldOf}
@@ -52,6 +51,10 @@ module _ {t : List ℕ} {part : Part} (known : Known t part)
   abbrev F : Figures S P part
   F = known .is .figures
 
+  -- the minute by which a plan that ends by T has given back all modules
+  abbrev C : ℕ
+  C = T + changeoverOf t
+
   held-is : (t : ℕ) → heldOf part t ≡ occupied S P t
   held-is = occupied-is t (known .fit) part w (known .is)
 
@@ -59,14 +62,18 @@ module _ {t : List ℕ} {part : Part} (known : Known t part)
   of-set : (f : ℕ → ℕ) → sum jobs (λ k. only (bit (part .unplaced) k) (f k)) ≡ sum jobs (λ k. only (not (P .placed k)) (f k))
   of-set f = sum-same jobs _ _ (λ k l. ap (λ b. only b (f k)) (F .set k l))
 
+  -- jobs keep their modules as long as the table says
+  as-kept : (X : ℕ → Bool) (f : ℕ → ℕ → ℕ) → sum jobs (λ k. only (X k) (f k (keptAt t k))) ≡ sum jobs (λ k. only (X k) (f k (kept S k)))
+  as-kept X f = sum-same jobs _ _ (λ k l. ap (λ (m : ℕ). only (X k) (f k m)) (known .fit .keeps k l))
+
   overlapping-cut : (prepared : List ℕ) → ChainsOf t (tailsIn prepared) jobs → HeadsOf t (headsIn prepared) jobs
       → Overlapping t prepared part least T
       → CannotBeat S (suc T) w
   overlapping-cut prepared chains heads o =
       let m = o .minute in
       let same = sum-same jobs (λ k. only (not (P .placed k)) (mustHold t prepared least T m k))
-      (λ k. only (not (P .placed k) && mustRun (max least (head S jobs k)) (chain S jobs k) T m (S .minutes k)) (S .need k))
-      (λ k l. rw (heads .each k l, chains .each k l) (both (not (P .placed k)) _ (S .need k))) in
+      (λ k. only (not (P .placed k) && mustRun (max least (head S jobs k)) (chain S jobs k) T m (kept S k)) (S .need k))
+      (λ k l. rw (heads .each k l, chains .each k l, known .fit .keeps k l) (both (not (P .placed k)) _ (S .need k))) in
       overlap-cut S (known .fit .lasting) (known .fit .narrow) w (known .is .follows) least (starts .low)
       (none-before known starts) T jobs jobs m (o .from)
       (omega (arith, o .over, of-set (mustHold t prepared least T m), same, held-is m))
@@ -75,34 +82,34 @@ module _ {t : List ℕ} {part : Part} (known : Known t part)
       both true b x = refl
       both false b x = refl
 
-  outweighed-cut : Outweighed t part least T
+  outweighed-cut : Outweighed t part least C
       → CannotBeat S (suc T) w
   outweighed-cut o =
-      let free = sum-same T (λ m. only (leb least m) (o .most (modulesOf t - heldOf part m)))
+      let free = sum-same C (λ m. only (leb least m) (o .most (modulesOf t - heldOf part m)))
       (λ m. only (leb least m) (o .most (modulesOf t - occupied S P m)))
       (λ m l. ap (λ (x : ℕ). only (leb least m) (o .most (modulesOf t - x))) (held-is m)) in
       weights-cut S (known .fit .lasting) (known .fit .narrow) w (known .is .follows) least (starts .low)
       (none-before known starts) T (o .weight) (o .most) (o .weighs)
-      (omega (arith, free, of-set (λ k. minutesAt t k * o .weight k), o .over))
+      (omega (arith, free, of-set (λ k. keptAt t k * o .weight k), as-kept (λ k. not (P .placed k)) (λ k m. m * o .weight k), o .over))
 
-  overfull-cut : Overfull t part least T
+  overfull-cut : Overfull t part least C
       → CannotBeat S (suc T) w
   unfolding servedOn
   overfull-cut o =
-      let served : ℕ → ℕ → ℕ = λ x m. only (leb least m) (o .most (modulesOf t - x) * gain (o .reach) T m) in
-      let free = sum-same T (λ m. served (heldOf part m) m) (λ m. served (occupied S P m) m)
+      let served : ℕ → ℕ → ℕ = λ x m. only (leb least m) (o .most (modulesOf t - x) * gain (o .reach) C m) in
+      let free = sum-same C (λ m. served (heldOf part m) m) (λ m. served (occupied S P m) m)
       (λ m l. ap (λ (x : ℕ). served x m) (held-is m)) in
       reach-cut S (known .fit .lasting) (known .fit .narrow) w (known .is .follows) least (starts .low)
       (none-before known starts) T (o .weight) (o .value) (o .most) (o .reach)
-      (o .weighs) (o .most-rises) (o .lasts) (o .reach-none) (o .reach-rises)
+      (o .weighs) (o .most-rises) (λ X x l short. o .lasts X x l (omega (arith, short, as-kept X (λ k m. m)))) (o .reach-none) (o .reach-rises)
       (omega (arith, free, of-set (λ k. o .weight k * o .value k), o .over))
 
-  module _ (u : Unserved t part least T) where
+  module _ (u : Unserved t part least C) where
     -- some of the jobs that are left
     reaches : (X : ℕ → Bool) (x : ℕ) → ((k : ℕ) → X k ≡ true → P .placed k ≡ false)
         → together t jobs X ≤ x → together t jobs X ≤ u .reach x
     reaches X x left short =
-        let same = sum-same jobs (λ k. only (X k) (minutesAt t k)) (λ k. only (X k && ltb k jobs) (minutesAt t k))
+        let same = sum-same jobs (λ k. only (X k) (keptAt t k)) (λ k. only (X k && ltb k jobs) (keptAt t k))
         (λ k l. inside k l (X k)) in
         omega (
           arith,
@@ -112,36 +119,41 @@ module _ {t : List ℕ} {part : Part} (known : Known t part)
               (omega (arith, same)),
         )
       where
-        inside : (k : ℕ) → k < jobs → (b : Bool) → only b (minutesAt t k) ≡ only (b && ltb k jobs) (minutesAt t k)
+        inside : (k : ℕ) → k < jobs → (b : Bool) → only b (keptAt t k) ≡ only (b && ltb k jobs) (keptAt t k)
         inside k l true = rw (lt-ltb k jobs l) refl
         inside k l false = refl
 
     -- what the modules of the jobs that run serve
     behind : sum (part .placed) (λ k. only (ltb least (getD (part .until) k 0))
-        (getD (part .held) k 0 * u .reach (T - getD (part .until) k 0)))
-        ≡ sum jobs (λ i. only (occupies S P least i) (S .need i * u .reach (T - finish S (P .plan) i)))
+        (getD (part .held) k 0 * u .reach (C - getD (part .until) k 0)))
+        ≡ sum jobs (λ i. only (occupies S P least i) (S .need i * u .reach (C - (finish S (P .plan) i + S .rest))))
     behind =
         sum-same (part .placed) _ _ (λ k l.
-        sym (mul-only (ltb least (getD (part .until) k 0)) (getD (part .held) k 0) (u .reach (T - getD (part .until) k 0))))
-        ∙ F .by-end (λ e. only (ltb least e) (u .reach (T - e)))
+        sym (mul-only (ltb least (getD (part .until) k 0)) (getD (part .held) k 0) (u .reach (C - getD (part .until) k 0))))
+        ∙ F .by-end (λ e. only (ltb least e) (u .reach (C - e)))
         ∙ sum-same jobs _ _ (λ i l. one i (P .placed i) refl)
       where
         one : (i : ℕ) (b : Bool) → P .placed i ≡ b
-            → only (P .placed i) (S .need i * only (ltb least (finish S (P .plan) i)) (u .reach (T - finish S (P .plan) i)))
-            ≡ only (occupies S P least i) (S .need i * u .reach (T - finish S (P .plan) i))
-        one i true e = rw (e, add-zero (finish S (P .plan) i))
-            (mul-only (ltb least (finish S (P .plan) i)) (S .need i) (u .reach (T - finish S (P .plan) i)))
+            → only (P .placed i) (S .need i * only (ltb least (finish S (P .plan) i + S .rest)) (u .reach (C - (finish S (P .plan) i + S .rest))))
+            ≡ only (occupies S P least i) (S .need i * u .reach (C - (finish S (P .plan) i + S .rest)))
+        one i true e = rw e
+            (mul-only (ltb least (finish S (P .plan) i + S .rest)) (S .need i) (u .reach (C - (finish S (P .plan) i + S .rest))))
         one i false e = rw e refl
+
+    lasts : Lasts S P (kept S) (u .reach)
+    lasts X x left short =
+        let same = as-kept X (λ k m. m) in
+        omega (arith, same, reaches X x left (omega (arith, same)))
 
     unserved-cut : CannotBeat S (suc T) w
     unserved-cut =
-        let free = ap (λ (x : ℕ). (modulesOf t - x) * u .reach (T - least)) (held-is least) in
+        let free = ap (λ (x : ℕ). (modulesOf t - x) * u .reach (C - least)) (held-is least) in
         modules-cut S (known .fit .lasting) (known .fit .narrow) w (known .is .follows) least (starts .low)
-        (none-before known starts) T (S .minutes) (u .reach) reaches (u .rises)
+        (none-before known starts) T (kept S) (u .reach) lasts (u .rises)
         (omega (arith, behind, free, F .left, u .short))
 
   pub short-cut : (prepared : List ℕ) → ChainsOf t (tailsIn prepared) jobs → HeadsOf t (headsIn prepared) jobs
-      → TooFew t prepared part least T
+      → TooFew t prepared part least T C
       → CannotBeat S (suc T) w
   short-cut prepared chains heads (inl o) = overlapping-cut prepared chains heads o
   short-cut prepared chains heads (inr (inl o)) = outweighed-cut o

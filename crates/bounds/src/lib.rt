@@ -3,7 +3,7 @@ ghost use mathlib.Core.Path.{_≡_};
 ghost use mathlib.Core.Bool.{true};
 ghost use Prim.Native.Nat.{_+_, _<_, _≤_};
 ghost use Rattle.figures.specs.Figures.{mostJobs, noMinute};
-ghost use Rattle.tables.specs.Tables.{modulesOf, countOf, Fit};
+ghost use Rattle.tables.specs.Tables.{modulesOf, countOf, changeoverOf, Fit};
 ghost use Rattle.tables.specs.Part.{partIn};
 ghost use Rattle.tables.specs.Prepared.{tailsIn, worthIn, mostIn, lanesIn};
 ghost use Rattle.placement.specs.Profile.{ProfileOf};
@@ -52,12 +52,12 @@ fn some_too_long(
 
 // ---- the free modules
 
-// Whether the modules that come free from minute l on are too few for the unplaced jobs by the target: where jobs must overlap, by
-// weights, by lanes or one by one.
-fn too_few(jobs: &Jobs, prepared: &Prepared, part: &Part, l: u16, target: u16) -> bool
+// Whether the modules that come free from minute l on are too few for the unplaced jobs to end by the target and to give them all back by
+// minute `close`: where jobs must overlap, by weights, by lanes or one by one.
+fn too_few(jobs: &Jobs, prepared: &Prepared, part: &Part, l: u16, target: u16, close: u16) -> bool
     requires { ⌜ ((Fit (now jobs)) × ((Weighted (now jobs) (worthIn (now prepared)) (mostIn (now prepared))) × (Laned (now jobs) (lanesIn (now prepared)))))
         × (ProfileOf (partIn (now part)) (partIn (now part) .gone) (partIn (now part) .free) (modulesOf (now jobs)) l) ⌝ }
-    ensures { λ r. ⌜ (r ≡ true → TooFew (now (jobs .entry)) (now (prepared .entry)) (partIn (now (part .entry))) l target) ⌝ }
+    ensures { λ r. ⌜ (r ≡ true → TooFew (now (jobs .entry)) (now (prepared .entry)) (partIn (now (part .entry))) l target close) ⌝ }
 {
     let ended = placement::ended_by(jobs, part, l);
     let gone = ended.gone;
@@ -65,13 +65,13 @@ fn too_few(jobs: &Jobs, prepared: &Prepared, part: &Part, l: u16, target: u16) -
     if overlaps::overlapping(jobs, prepared, part, gone, free, l, target) {
         return true;
     }
-    if weights::outweighed(jobs, prepared, part, gone, free, l, target) {
+    if weights::outweighed(jobs, prepared, part, gone, free, l, close) {
         return true;
     }
-    if lanes::overfull(jobs, prepared, part, gone, free, l, target) {
+    if lanes::overfull(jobs, prepared, part, gone, free, l, close) {
         return true;
     }
-    sums::unserved(jobs, part, gone, free, l, target)
+    sums::unserved(jobs, part, gone, free, l, close)
 }
 
 // ---- all bounds
@@ -86,16 +86,21 @@ pub fn hopeless(
     target: u16,
 ) -> bool
     requires { ⌜ ((Fit (now jobs)) × ((Weighted (now jobs) (worthIn (now prepared)) (mostIn (now prepared))) × (Laned (now jobs) (lanesIn (now prepared)))))
-        × (Bounding (now jobs) (partIn (now part)) least target) ⌝ }
+        × (Bounding (now jobs) (partIn (now part)) least) ⌝ }
     ensures { λ r. ⌜ (r ≡ true
-        → Hopeless (now (jobs .entry)) (now (prepared .entry)) (partIn (now (part .entry))) (now (at .entry)) least target) ⌝ }
+        → Hopeless (now (jobs .entry)) (now (prepared .entry)) (partIn (now (part .entry))) (now (at .entry)) least target
+        (target + changeoverOf (now (jobs .entry)))) ⌝ }
 {
-    if areas::crowded(part, tables::modules(jobs), least, target) {
+    let close = tables::closing(jobs, target);
+    if close == NO_MINUTE {
+        return false;
+    }
+    if areas::crowded(part, tables::modules(jobs), least, close) {
         return true;
     }
     let unplaced = tables::unplaced(part);
     if some_too_long(prepared, at, unplaced, tables::count(jobs), target + 1) {
         return true;
     }
-    too_few(jobs, prepared, part, least, target)
+    too_few(jobs, prepared, part, least, target, close)
 }

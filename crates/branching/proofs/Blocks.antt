@@ -12,7 +12,7 @@ use Rattle.counting.proofs.Tests.{clash, last-or-below}
 use Rattle.bits.specs.Bits.{bit, withoutBit, setOf}
 use Rattle.bits.proofs.Digits.{bit-none, bit-or}
 use Rattle.bits.proofs.Walks.{Walk, walk-first, walk-none, walk-next, walk-gone}
-use Rattle.tables.specs.Tables.{minutesAt, arrivalAt, earlierAt, countOf}
+use Rattle.tables.specs.Tables.{minutesAt, arrivalAt, earlierAt, countOf, changeoverOf}
 use Rattle.tables.specs.Part.{Part}
 use Rattle.branching.specs.declared.Behind.{Behind}
 use Rattle.branching.specs.Branching.{Passing, AllAwaited, AllArrived, BlockFrom, EndsInBlock}
@@ -60,10 +60,10 @@ pub placed-job : {t : List ℕ} {p : Part} {j placed m a : ℕ} → Passing t p 
     → a < mostJobs
 placed-job {m = m} h e l z = omega (arith, h .jobs m (omega arith))
 
--- all of the first m placed jobs have ended and all unplaced jobs have arrived by `latest`, and where a block was found, it reaches up to them
+-- all of the first m placed jobs have ended and rested and all unplaced jobs have arrived by `latest`, and where a block was found, it reaches up to them
 pub record Growing (t : List ℕ) (p : Part) (settled : List ℕ) (behind : Behind) (j : ℕ) (found : Bool) (latest m : ℕ) : Type 0 where
   pub here : behind .arrived ≤ latest
-  pub ended : (k : ℕ) → k < m → getD (p .ends) (getD (p .order) k 0) 0 ≤ latest
+  pub ended : (k : ℕ) → k < m → getD (p .ends) (getD (p .order) k 0) 0 + changeoverOf t ≤ latest
   pub block : found ≡ true → (at : ℕ) × BlockFrom t p settled behind m j at
 
 module _ (t : List ℕ) (p : Part) (settled : List ℕ) (behind : Behind) (j : ℕ) where
@@ -71,18 +71,19 @@ module _ (t : List ℕ) (p : Part) (settled : List ℕ) (behind : Behind) (j : �
   growing-none = record { here = omega arith; ended = λ k l. absurd (omega arith); block = λ e. clash false e refl }
 
   -- the next placed job, a, ends at `end`
-  pub growing-step : (found : Bool) (latest m a end : ℕ) (more : Bool) → a ≡ getD (p .order) m 0 → end ≡ getD (p .ends) a 0
+  pub growing-step : (found : Bool) (latest m a end rest : ℕ) (more : Bool) → a ≡ getD (p .order) m 0 → end ≡ getD (p .ends) a 0
+      → rest ≡ changeoverOf t
       → Growing t p settled behind j found latest m
       → (more ≡ true → (bit (behind .awaited) a ≡ false)
       × ((found ≡ true) ⊎ ((bit (getD settled a 0) j ≡ true) × (latest + minutesAt t a ≤ end))))
-      → Growing t p settled behind j more (max latest end) (m + 1)
-  growing-step found latest m a end more z x h says = record {
+      → Growing t p settled behind j more (max latest (end + rest)) (m + 1)
+  growing-step found latest m a end rest more z x y h says = record {
     here = omega (arith, h .here);
     ended = λ k l. ended k (last-or-below m k (omega arith));
     block = λ e. let s = says e in block (s .0) (s .1);
   }
     where
-      ended : (k : ℕ) → (k ≡ m) ⊎ (k < m) → getD (p .ends) (getD (p .order) k 0) 0 ≤ max latest end
+      ended : (k : ℕ) → (k ≡ m) ⊎ (k < m) → getD (p .ends) (getD (p .order) k 0) 0 + changeoverOf t ≤ max latest (end + rest)
       ended k (inl e) = rw (e, ← z) (omega arith)
       ended k (inr l) = omega (arith, h .ended k l)
 
@@ -110,7 +111,7 @@ module _ (t : List ℕ) (p : Part) (settled : List ℕ) (behind : Behind) (j : �
         record {
           inside = omega arith;
           here = rw (← z) (omega (arith, l, x, h .here));
-          before = λ k y. rw (← z) (omega (arith, l, x, h .ended k y));
+          before = λ k v. rw (← z) (omega (arith, l, x, h .ended k v));
           settled-then = rw (← z) e;
           unawaited = λ k x y. free b k (last-or-below m k (omega arith)) (λ v. absurd (omega arith));
         },

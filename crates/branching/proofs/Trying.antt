@@ -14,16 +14,16 @@ use Rattle.bits.specs.Bits.{bit, withBit, withoutBit, setOf}
 use Rattle.bits.proofs.Digits.{bit-none}
 use Rattle.bits.proofs.Members.{bit-with}
 use Rattle.bits.proofs.Walks.{Walk, walk-first, walk-none, walk-next, walk-gone}
-use Rattle.tables.specs.Tables.{minutesAt, countOf}
+use Rattle.tables.specs.Tables.{keptAt, countOf}
 use Rattle.branching.specs.Branching.{Alone, ComesBefore, ToTry, Trying, EndOfOne, AllEarly}
 
--- ---- a minute by which a job can have ended
+-- ---- a minute by which a job can have ended and rested
 
-pub or-ends : (t at : List ℕ) (j r : ℕ) → j < countOf t → EndOfOne t at r → EndOfOne t at (min r (getD at j 0 + minutesAt t j))
-or-ends t at j r l h = go (less-or-not r (getD at j 0 + minutesAt t j)) h
+pub or-ends : (t at : List ℕ) (j r : ℕ) → j < countOf t → EndOfOne t at r → EndOfOne t at (min r (getD at j 0 + keptAt t j))
+or-ends t at j r l h = go (less-or-not r (getD at j 0 + keptAt t j)) h
   where
-    go : (r < getD at j 0 + minutesAt t j) ⊎ (getD at j 0 + minutesAt t j ≤ r) → EndOfOne t at r
-        → EndOfOne t at (min r (getD at j 0 + minutesAt t j))
+    go : (r < getD at j 0 + keptAt t j) ⊎ (getD at j 0 + keptAt t j ≤ r) → EndOfOne t at r
+        → EndOfOne t at (min r (getD at j 0 + keptAt t j))
     go (inr k) q = inr (j, l, omega arith)
     go (inl k) (inl q) = inl (omega arith)
     go (inl k) (inr (i, m, q)) = inr (i, m, omega arith)

@@ -7,7 +7,7 @@ ghost use lib.Dec.{ltb};
 ghost use lib.ListN.{getD};
 ghost use Rattle.figures.specs.Figures.{mostJobs};
 ghost use Rattle.bits.specs.Bits.{bit, withBit};
-ghost use Rattle.tables.specs.Tables.{countOf};
+ghost use Rattle.tables.specs.Tables.{keptAt, countOf};
 ghost use Rattle.tables.specs.Part.{partIn};
 ghost use Rattle.tables.specs.Prepared.{relatedIn};
 ghost use Rattle.relations.specs.Relations.{rowAt};
@@ -53,12 +53,21 @@ fn to_swap(prepared: &Prepared, part: &Part, j: usize) -> u32
     tables::related(prepared, j * ROW + 1) & (ALL - tables::unplaced(part))
 }
 
-// Whether job i, which ends at `end`, is placed, and job j, which would start at `start`, was settled when i was chosen and starts as i ends.
-fn starts_behind(end: u16, settled: u32, unplaced: u32, start: u16, i: usize, j: usize) -> bool
+// Whether job i, which ends at `end`, is placed, and job j, which would start at `start`, was settled when i was chosen and starts as the
+// modules of i have rested.
+fn starts_behind(
+    end: u16,
+    rest: u16,
+    settled: u32,
+    unplaced: u32,
+    start: u16,
+    i: usize,
+    j: usize,
+) -> bool
     requires { ⌜ (i < mostJobs) × (j < mostJobs) ⌝ }
-    ensures { λ r. ⌜ (r ≡ true → (end ≡ start) × ((bit unplaced i ≡ false) × (bit settled j ≡ true))) ⌝ }
+    ensures { λ r. ⌜ (r ≡ true → (end + rest ≡ start) × ((bit unplaced i ≡ false) × (bit settled j ≡ true))) ⌝ }
 {
-    if end != start {
+    if (end as u32) + (rest as u32) != (start as u32) {
         return false;
     }
     if bits::test32(unplaced, i) {
@@ -69,22 +78,31 @@ fn starts_behind(end: u16, settled: u32, unplaced: u32, start: u16, i: usize, j:
 
 // Whether job j would start behind a placed job that may be swapped with it and in whose place it was settled.
 fn swapped(
+    jobs: &Jobs,
     prepared: &Prepared,
     part: &Part,
     settled: &[u32; MOST_JOBS],
     start: u16,
-    count: usize,
     j: usize,
 ) -> bool
-    requires { ⌜ (count ≤ mostJobs) × (j < mostJobs) ⌝ }
-    ensures { λ r. ⌜ (r ≡ true → Swapped (relatedIn (now (prepared .entry))) (partIn (now (part .entry))) (now (settled .entry)) start
-        count j) ⌝ }
+    requires { ⌜ (countOf (now jobs) ≤ mostJobs) × (j < mostJobs) ⌝ }
+    ensures { λ r. ⌜ (r ≡ true → Swapped (now (jobs .entry)) (relatedIn (now (prepared .entry))) (partIn (now (part .entry)))
+        (now (settled .entry)) start j) ⌝ }
 {
+    let rest = tables::changeover(jobs);
     let unplaced = tables::unplaced(part);
-    let mut todo = bits::below32(to_swap(prepared, part, j), count);
+    let mut todo = bits::below32(to_swap(prepared, part, j), tables::count(jobs));
     while todo != 0 {
         let i = bits::lowest32(todo);
-        if starts_behind(tables::end(part, i), settled[i], unplaced, start, i, j) {
+        if starts_behind(
+            tables::end(part, i),
+            rest,
+            settled[i],
+            unplaced,
+            start,
+            i,
+            j,
+        ) {
             return true;
         }
         todo = bits::without_lowest32(todo);
@@ -115,8 +133,8 @@ fn left_behind(jobs: &Jobs, part: &Part) -> Behind
     Behind { awaited, arrived }
 }
 
-// Whether a block goes on with a job, or begins with it: it is not awaited, and for a first job all others have ended and all unplaced jobs
-// have arrived by its start and it was chosen when another was settled.
+// Whether a block goes on with a job, or begins with it: it is not awaited, and for a first job all others have ended and rested and all
+// unplaced jobs have arrived by its start and it was chosen when another was settled.
 fn block_with(found: bool, waited: bool, settled: bool, latest: u16, end: u16, minutes: u16) -> bool
     ensures { λ r. ⌜ (r ≡ true
         → (waited ≡ false) × ((found ≡ true) ⊎ ((settled ≡ true) × (latest + minutes ≤ end)))) ⌝ }
@@ -133,7 +151,7 @@ fn block_with(found: bool, waited: bool, settled: bool, latest: u16, end: u16, m
     (latest as u32) + (minutes as u32) <= (end as u32)
 }
 
-// Whether the last of the placed jobs are a block, and all have ended by minute `start`.
+// Whether the last of the placed jobs are a block, and all have ended and rested by minute `start`.
 fn ends_in_block(
     jobs: &Jobs,
     part: &Part,
@@ -146,6 +164,7 @@ fn ends_in_block(
     ensures { λ r. ⌜ (r ≡ true → EndsInBlock (now (jobs .entry)) (partIn (now (part .entry))) (now (settled .entry)) behind start j) ⌝ }
 {
     let placed = tables::placed(part);
+    let rest = tables::changeover(jobs);
     let mut found = false;
     let mut latest = behind.arrived;
     let mut m: usize = 0;
@@ -162,7 +181,7 @@ fn ends_in_block(
             end,
             tables::minutes(jobs, a),
         );
-        latest = counting::larger(latest, end);
+        latest = counting::larger(latest, end + rest);
         m += 1;
     }
     if !found {
@@ -209,7 +228,7 @@ pub fn passed_over(
             return true;
         }
     }
-    if swapped(prepared, part, settled, start, tables::count(jobs), j) {
+    if swapped(jobs, prepared, part, settled, start, j) {
         return true;
     }
     blocked(jobs, part, settled, start, j)
@@ -250,18 +269,19 @@ fn first_alone(
     count
 }
 
-// The earlier of a minute and the end of a job that starts at `start`.
-fn or_ends(r: u32, start: u16, minutes: u16) -> u32
-    ensures { λ n. ⌜ n ≡ min r (start + minutes) ⌝ }
+// The earlier of a minute and the one by which job j, which starts at `start`, has ended and rested.
+fn or_ends(jobs: &Jobs, r: u32, start: u16, j: usize) -> u32
+    requires { ⌜ j < mostJobs ⌝ }
+    ensures { λ n. ⌜ n ≡ min r (start + keptAt (now (jobs .entry)) j) ⌝ }
 {
-    let end = (start as u32) + (minutes as u32);
+    let end = (start as u32) + (tables::kept(jobs, j) as u32);
     if r <= end { r } else { end }
 }
 
 // No end: no job ends later.
 const NO_END: u32 = 131070;
 
-// The first minute by which one of the set's jobs can have ended.
+// The first minute by which one of the set's jobs can have ended and rested.
 fn first_end(jobs: &Jobs, at: &[u16; MOST_JOBS], set: u32) -> u32
     requires { ⌜ countOf (now jobs) ≤ mostJobs ⌝ }
     ensures { λ r. ⌜ EndOfOne (now (jobs .entry)) (now (at .entry)) r ⌝ }
@@ -270,7 +290,7 @@ fn first_end(jobs: &Jobs, at: &[u16; MOST_JOBS], set: u32) -> u32
     let mut todo = bits::below32(set, tables::count(jobs));
     while todo != 0 {
         let j = bits::lowest32(todo);
-        r = or_ends(r, at[j], tables::minutes(jobs, j));
+        r = or_ends(jobs, r, at[j], j);
         todo = bits::without_lowest32(todo);
     }
     r
@@ -303,7 +323,7 @@ fn early(at: &[u16; MOST_JOBS], end: u32, set: u32, count: usize) -> u32
 }
 
 // The jobs to be tried: one of those that start first, where it can run beside no other; or all that start before the first minute by
-// which one can have ended.
+// which one can have ended and rested.
 pub fn to_try(jobs: &Jobs, prepared: &Prepared, at: &[u16; MOST_JOBS], least: u16, set: u32) -> u32
     requires { ⌜ Trying (now jobs) (now at) least set ⌝ }
     ensures { λ r. ⌜ ToTry (now (jobs .entry)) (relatedIn (now (prepared .entry))) (now (at .entry)) set r ⌝ }

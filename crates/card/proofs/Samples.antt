@@ -1,26 +1,31 @@
 -- The cards of the examples E1 and E2, computed from the definitions; the theorem of decoding at E1.
 use mathlib.Core.Path.{_≡_, refl}
 use mathlib.Core.List.{List, [], _∷_, _++_}
-use Prim.Native.Nat.{ℕ}
-use lib.Dec.{ltb, leb, lit<, lit≤}
+use Prim.Native.Nat.{ℕ, _+_}
+use lib.Dec.{ltb, leb, eqb, lit<, lit≤}
 use lib.IntN.{negsuc}
 use lib.ListN.{replicate}
-use borrow.Author.Tests.{ltb-true, leb-true}
+use borrow.Author.Tests.{ltb-true, leb-true, eqb-true}
 use Rattle.counting.specs.Counting.{sum, largest, every, any, joined}
 use Rattle.counting.proofs.Ranges.{every-at}
 use Rattle.figures.specs.Figures.{mostMinutes, lastArrival}
 use Rattle.bits.specs.Bits.{bit, setOf}
 use Rattle.schedule.specs.Plan.{Sheet}
 use Rattle.schedule.specs.ListPlan.{Order, ready, firstMinute, startOf, placeAll}
-use Rattle.tables.specs.Tables.{sheetOf, needAt, minutesAt, arrivalAt, earlierAt, Fit}
+use Rattle.tables.specs.Tables.{sheetOf, needAt, minutesAt, keptAt, arrivalAt, earlierAt, Fit}
 use Rattle.card.specs.Card.{rowBytes, trailerBytes, cardBytes, cardOf, latenessOf}
 use Rattle.card.specs.Decoding.{Decodes}
 use Rattle.card.proofs.Decoding.{card-decodes}
 
--- the job table of three jobs that wait for none: their modules, their minutes, how many they are, and how many modules there are
+-- the job table of three jobs that wait for none: their modules, their minutes, how many they are, how many modules there are, the
+-- changeover, and how long each keeps its modules
+abbrev tableWith : ℕ → List ℕ
+tableWith rest =
+    (1 ∷ 2 ∷ 1 ∷ replicate 17 0)
+    ++ ((10 ∷ 20 ∷ 10 ∷ replicate 17 0) ++ (replicate 60 0 ++ (3 ∷ 2 ∷ rest ∷ (10 + rest) ∷ (20 + rest) ∷ (10 + rest) ∷ [])))
+
 abbrev table : List ℕ
-table =
-    (1 ∷ 2 ∷ 1 ∷ replicate 17 0) ++ ((10 ∷ 20 ∷ 10 ∷ replicate 17 0) ++ (replicate 60 0 ++ (3 ∷ 2 ∷ 0 ∷ [])))
+table = tableWith 0
 
 abbrev pub e1 : Sheet
 e1 = sheetOf table
@@ -40,6 +45,16 @@ bytes =
 pub e1-card : cardOf e1 order ≡ bytes
 unfolding bit setOf earlierAt sum largest any firstMinute startOf placeAll joined rowBytes trailerBytes cardBytes
 e1-card = refl
+
+-- with a changeover of 5 job 1 starts when both modules have rested, 5 minutes later
+pub e1-resting : cardOf (sheetOf (tableWith 5)) order
+    ≡ 0 ∷ 0 ∷ 10 ∷ 0 ∷ 1 ∷ 0 ∷ 0 ∷ 0 ∷ 0 ∷ 0 ∷ 0 ∷ 0
+    ∷ 15 ∷ 0 ∷ 35 ∷ 0 ∷ 3 ∷ 0 ∷ 0 ∷ 0 ∷ 0 ∷ 0 ∷ 0 ∷ 0
+    ∷ 0 ∷ 0 ∷ 10 ∷ 0 ∷ 2 ∷ 0 ∷ 0 ∷ 0 ∷ 0 ∷ 0 ∷ 0 ∷ 0
+    ∷ 0 ∷ 2 ∷ 1
+    ∷ 36 ∷ 0 ∷ 0 ∷ 0 ∷ 35 ∷ 0 ∷ 3 ∷ 0 ∷ []
+unfolding bit setOf earlierAt sum largest any firstMinute startOf placeAll joined rowBytes trailerBytes cardBytes
+e1-resting = refl
 
 -- E2: "n = 0, N = 1: end 0, a card of 8 zero bytes."
 pub e2-card : cardOf (sheetOf (replicate 100 0 ++ (0 ∷ 1 ∷ 0 ∷ []))) [] ≡ 0 ∷ 0 ∷ 0 ∷ 0 ∷ 0 ∷ 0 ∷ 0 ∷ 0 ∷ []
@@ -62,6 +77,8 @@ e1-fit = record {
   lasting = λ j l. ltb-true 0 (minutesAt table j) (every-at 3 (λ j. ltb 0 (minutesAt table j)) refl j l);
   short = λ j l. leb-true (minutesAt table j) mostMinutes (every-at 3 (λ j. leb (minutesAt table j) mostMinutes) refl j l);
   arrived = λ j l. leb-true (arrivalAt table j) lastArrival (every-at 3 (λ j. leb (arrivalAt table j) lastArrival) refl j l);
+  rests = lit≤ tt;
+  keeps = λ j l. eqb-true (keptAt table j) (minutesAt table j + 0) (every-at 3 (λ j. eqb (keptAt table j) (minutesAt table j + 0)) refl j l);
 }
 
 e1-order : Order e1 order

@@ -50,6 +50,11 @@ pub both-passed : (a b : List Check) → Passed (a ++ b) → Passed a × Passed 
 both-passed [] b p = (tt, p)
 both-passed (c ∷ cs) b p = let q = both-passed cs b (p .1) in ((p .0, q .0), q .1)
 
+-- and made of its two parts
+pub together-passed : (a b : List Check) → Passed a → Passed b → Passed (a ++ b)
+together-passed [] b p q = q
+together-passed (c ∷ cs) b p q = (p .0, together-passed cs b (p .1) q)
+
 -- a failing check in front decides, and passed ones in front do not count
 pub first-in-front : (a b : List Check) → (firstFailing a ≡ 0 → ⊥) → firstFailing (a ++ b) ≡ firstFailing a
 unfolding firstFailing

@@ -35,11 +35,11 @@ unfolding labelPlace planRefusal cardAfter memoryAfter openedOver
 every-call-answers = record {
   reads = λ s. (read-refused s, read-answered s);
   labels = λ s job. (label-refused s job, label-answered s job);
-  writes = λ jobs n labels N out. (write-refused jobs n labels N out, write-answered jobs n labels N out);
+  writes = λ jobs n labels C out. (write-refused jobs n labels C out, write-answered jobs n labels C out);
   plans = λ s room. (plan-refused s room, answered-exactly (planChecks s room) refl);
   opens = λ limit assured ceilings. (open-refused limit assured ceilings, open-answered limit assured ceilings);
   calls = call-refusal;
-  refused-write = λ jobs n labels N out e. write-refused-leaves jobs n labels N out e .0;
+  refused-write = λ jobs n labels C out e. write-refused-leaves jobs n labels C out e .0;
   refused-plan = λ s card memory e. let z = ne-eqb (planRefusal s (length card)) 0 e in (rw z, rw z);
   refused-opening = λ d limit assured ceilings e. rw (ne-eqb (opened limit assured ceilings .refusal) 0 e);
   refused-call = refused-leaves;
@@ -48,8 +48,8 @@ every-call-answers = record {
 -- R-2: every answer is the right one.
 pub every-answer-is-right : EveryAnswerIsRight
 every-answer-is-right = record {
-  read-back = λ jobs n labels N out e.
-      (written-reads jobs n labels N out e, λ i l. written-label jobs n labels N out e i l .1);
+  read-back = λ jobs n labels C out e.
+      (written-reads jobs n labels C out e, λ i l. written-label jobs n labels C out e i l .1);
   rewritten = λ s out bytes e room. (read-is-written s bytes e out room, read-is-written-bytes s bytes e out room);
   valid = λ s card e. plan-answered s card e .1 .valid;
   tie-ruled = λ s card e. let a = plan-answered s card e in (a .0, a .1 .best, a .1 .written);

@@ -17,7 +17,7 @@ use Rattle.counting.specs.Counting.{sum}
 use Rattle.checking.specs.Checking.{Check, FirstFails, NoneFails}
 use Rattle.words.specs.Words.{byteAt}
 use Rattle.sheet_format.specs.declared.Job.{Job}
-use Rattle.sheet_format.specs.Format.{labelIn}
+use Rattle.sheet_format.specs.Format.{labelIn, Cabinet}
 use Rattle.sheet.specs.Read.{readChecks, answered, reading}
 use Rattle.sheet.specs.Label.{labelChecks, labelOf, labelPlace}
 use Rattle.sheet.specs.Write.{writeChecks, writeAnswer, over, writeLeaves}
@@ -53,15 +53,15 @@ pub record EveryCallAnswers : Type 0 where
   -- R-1.1: whoever calls gets a result or the first refusal in the order of checks
   pub reads : (s : List ℕ) → FirstRefusal (reading s .refusal) (readChecks s)
   pub labels : (s : List ℕ) (job : ℕ) → FirstRefusal (labelPlace s job .refusal) (labelChecks s job)
-  pub writes : (jobs : ℕ → Job) (n : ℕ) (labels : List ℕ) (N : ℕ) (out : List ℕ)
-      → FirstRefusal (writeAnswer jobs n labels N out .refusal) (writeChecks jobs n labels N (length out))
+  pub writes : (jobs : ℕ → Job) (n : ℕ) (labels : List ℕ) (C : Cabinet) (out : List ℕ)
+      → FirstRefusal (writeAnswer jobs n labels C out .refusal) (writeChecks jobs n labels C (length out))
   pub plans : (s : List ℕ) (room : ℕ) → FirstRefusal (planRefusal s room) (planChecks s room)
   pub opens : (limit : ℕ) (assured ceilings : List ℕ)
       → FirstRefusal (opened limit assured ceilings .refusal) (openChecks limit assured ceilings)
   pub calls : (d : Desk) (x : Call) → FirstRefusal (refusalOf d x) (checksOf d x)
   -- R-1.5: a refused call writes no byte and alters no desk
-  pub refused-write : (jobs : ℕ → Job) (n : ℕ) (labels : List ℕ) (N : ℕ) (out : List ℕ) → writeAnswer jobs n labels N out .refusal ≢ 0
-      → writeLeaves jobs n labels N out ≡ out
+  pub refused-write : (jobs : ℕ → Job) (n : ℕ) (labels : List ℕ) (C : Cabinet) (out : List ℕ) → writeAnswer jobs n labels C out .refusal ≢ 0
+      → writeLeaves jobs n labels C out ≡ out
   pub refused-plan : (s card memory : List ℕ) → planRefusal s (length card) ≢ 0
       → (cardAfter s card ≡ card) × (memoryAfter s (length card) memory ≡ memory)
   pub refused-opening : (d : Desk) (limit : ℕ) (assured ceilings : List ℕ) → opened limit assured ceilings .refusal ≢ 0
@@ -72,9 +72,9 @@ pub record EveryCallAnswers : Type 0 where
 
 pub record EveryAnswerIsRight : Type 0 where
   -- R-2.1: legal jobs that are written as a sheet read back the same, each label too
-  pub read-back : (jobs : ℕ → Job) (n : ℕ) (labels : List ℕ) (N : ℕ) (out : List ℕ) → writeAnswer jobs n labels N out .refusal ≡ 0
-      → (reading (writtenSheet jobs n labels N out) ≡ answered n jobs N)
-      × ((i : ℕ) → i < n → labelOf (writtenSheet jobs n labels N out) i ≡ labelIn jobs labels i)
+  pub read-back : (jobs : ℕ → Job) (n : ℕ) (labels : List ℕ) (C : Cabinet) (out : List ℕ) → writeAnswer jobs n labels C out .refusal ≡ 0
+      → (reading (writtenSheet jobs n labels C out) ≡ answered n jobs C)
+      × ((i : ℕ) → i < n → labelOf (writtenSheet jobs n labels C out) i ≡ labelIn jobs labels i)
   -- R-2.2: every sheet that reads, a list of bytes, is what writing its jobs gives
   pub rewritten : (s out : List ℕ) → ((i : ℕ) → byteAt s i < 256) → reading s .refusal ≡ 0 → length s ≤ length out
       → (rewriteAnswer s (reading s) out ≡ record { refusal = 0; length = length s }) × (rewriteLeaves s (reading s) out ≡ over s out)

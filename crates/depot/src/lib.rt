@@ -9,7 +9,7 @@ use sheet_format::Job;
 ghost use mathlib.Core.Path.{_≡_};
 ghost use lib.ListN.{length};
 ghost use Rattle.planner.specs.Planning.{planRefusal, cardAfter, memoryAfter};
-ghost use Rattle.sheet_format.specs.Format.{jobsIn};
+ghost use Rattle.sheet_format.specs.Format.{jobsIn, cabinet};
 ghost use Rattle.sheet.specs.Read.{reading};
 ghost use Rattle.sheet.specs.Label.{labelPlace, placeIn};
 ghost use Rattle.sheet.specs.Write.{writeAnswer, writeLeaves};
@@ -19,8 +19,8 @@ ghost use Rattle.depot.specs.Version.{version};
 
 // ---- the version
 
-// 0.6.0
-const VERSION: u32 = 6000;
+// 0.7.0
+const VERSION: u32 = 7000;
 
 // The number of this library's version; the header has the same.
 #[no_mangle]
@@ -32,7 +32,7 @@ pub extern "C" fn depot_version() -> u32
 
 // ---- planning
 
-// Planning: 0, or the first refusal of 1 to 10. Answered, the card of the tie rule's plan is at the front of the lent card and the
+// Planning: 0, or the first refusal of 1 to 10 and 19. Answered, the card of the tie rule's plan is at the front of the lent card and the
 // working memory, of any length, is all zero; refused, every lent byte is as before. The three buffers do not overlap.
 #[no_mangle]
 pub extern "C" fn depot_plan(sheet: &[u8], card: &mut [u8], work: &mut [u8]) -> u32
@@ -45,7 +45,7 @@ pub extern "C" fn depot_plan(sheet: &[u8], card: &mut [u8], work: &mut [u8]) -> 
 
 // ---- job sheets
 
-// Reading: the jobs of a sheet, n and N, or the first refusal of 1 to 7.
+// Reading: the jobs of a sheet, n, N and the changeover, or the first refusal of 1 to 7 and 19.
 #[no_mangle]
 pub extern "C" fn depot_read(sheet: &[u8]) -> Reading
     ensures { λ r. ⌜ r ≡ reading (now (sheet .entry)) ⌝ }
@@ -53,7 +53,7 @@ pub extern "C" fn depot_read(sheet: &[u8]) -> Reading
     sheet::read(sheet)
 }
 
-// The label of a job: where it lies in the lent sheet, or the first refusal of 1 to 7 and 14.
+// The label of a job: where it lies in the lent sheet, or the first refusal of 1 to 7, 19 and 14.
 #[no_mangle]
 pub extern "C" fn depot_label(sheet: &[u8], job: usize) -> LabelPlace
     ensures { λ r. ⌜ r ≡ labelPlace (now (sheet .entry)) job ⌝ }
@@ -70,20 +70,21 @@ pub extern "C" fn depot_label_of(reading: Reading, job: usize) -> LabelPlace
 }
 
 // Writing: the sheet of the lent jobs goes to the front of the lent buffer, and its length is the answer, or the first refusal of 2, 3,
-// 5, 6, 7 and 10. Refused, every lent byte is as before.
+// 19, 5, 6, 7 and 10. Refused, every lent byte is as before.
 #[no_mangle]
 pub extern "C" fn depot_write(
     jobs: &[Job],
     labels: &[u8],
     modules: u16,
+    changeover: u16,
     sheet: &mut [u8],
 ) -> Written
-    ensures { λ r. ⌜ (r ≡ writeAnswer (jobsIn (now (jobs .entry))) (length (now (jobs .entry))) (now (labels .entry)) modules
-        (now (sheet .entry)))
-        × (now (sheet .exit) ≡ writeLeaves (jobsIn (now (jobs .entry))) (length (now (jobs .entry))) (now (labels .entry)) modules
-        (now (sheet .entry))) ⌝ }
+    ensures { λ r. ⌜ (r ≡ writeAnswer (jobsIn (now (jobs .entry))) (length (now (jobs .entry))) (now (labels .entry))
+        (cabinet modules changeover) (now (sheet .entry)))
+        × (now (sheet .exit) ≡ writeLeaves (jobsIn (now (jobs .entry))) (length (now (jobs .entry))) (now (labels .entry))
+        (cabinet modules changeover) (now (sheet .entry))) ⌝ }
 {
-    sheet_list::write_list(jobs, labels, modules, sheet)
+    sheet_list::write_list(jobs, labels, modules, changeover, sheet)
 }
 
 // ---- the desk

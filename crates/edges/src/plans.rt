@@ -3,9 +3,9 @@ use super::lines::print_case;
 use sheet_format::Job;
 
 // The lengths of the sheets of one job and of twenty jobs with labels of one byte.
-const ONE: usize = 21;
+const ONE: usize = 23;
 
-const TWENTY: usize = 268;
+const TWENTY: usize = 270;
 
 // The lengths of their cards.
 const ONE_CARD: usize = 21;
@@ -31,18 +31,19 @@ fn job(modules: u8, minutes: u16, earlier: u32, arrival: u16) -> Job {
 // The sheet of one job of 10 minutes, for a cabinet of 64 modules.
 fn one(modules: u8, earlier: u32) -> [u8; ONE] {
     let mut s = [0u8; ONE];
-    sheet::write([job(modules, 10, earlier, 0); 20], 1, b"A", 64, &mut s);
+    sheet::write([job(modules, 10, earlier, 0); 20], 1, b"A", 64, 0, &mut s);
     s
 }
 
 // The sheet of twenty jobs that are alike, for a cabinet of 64 modules.
-fn twenty(modules: u8, minutes: u16, arrival: u16) -> [u8; TWENTY] {
+fn twenty(modules: u8, minutes: u16, arrival: u16, changeover: u16) -> [u8; TWENTY] {
     let mut s = [0u8; TWENTY];
     sheet::write(
         [job(modules, minutes, 0, arrival); 20],
         20,
         &[b'B'; 20],
         64,
+        changeover,
         &mut s,
     );
     s
@@ -105,21 +106,29 @@ fn one_job() {
 }
 
 // Plans twenty jobs.
-fn plan_twenty(name: &[u8], modules: u8, minutes: u16, arrival: u16, work: &mut [u8]) {
+fn plan_twenty(
+    name: &[u8],
+    modules: u8,
+    minutes: u16,
+    arrival: u16,
+    changeover: u16,
+    work: &mut [u8],
+) {
     plan_whole(
         name,
-        &twenty(modules, minutes, arrival),
+        &twenty(modules, minutes, arrival, changeover),
         &mut [CARD_BYTE; TWENTY_CARD],
         work,
     );
 }
 
 fn twenty_jobs() {
-    plan_twenty(b"20 jobs at once", 3, 10, 0, &mut [WORK_BYTE; 4096]);
+    plan_twenty(b"20 jobs at once", 3, 10, 0, 0, &mut [WORK_BYTE; 4096]);
     plan_twenty(
         b"20 jobs of 1440 minutes one after another",
         64,
         1440,
+        0,
         0,
         &mut [WORK_BYTE; 4096],
     );
@@ -127,6 +136,7 @@ fn twenty_jobs() {
         b"the same without working memory",
         64,
         1440,
+        0,
         0,
         &mut [WORK_BYTE; 0],
     );
@@ -136,6 +146,16 @@ fn twenty_jobs() {
         64,
         1440,
         1440,
+        0,
+        &mut [WORK_BYTE; 4096],
+    );
+    // the latest end of all: 1440, twenty times 1440, and nineteen rests of 30
+    plan_twenty(
+        b"the same with changeovers of 30",
+        64,
+        1440,
+        1440,
+        30,
         &mut [WORK_BYTE; 4096],
     );
 }

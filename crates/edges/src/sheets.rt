@@ -8,9 +8,10 @@ use figures::MOST_JOBS;
 use sheet_format::Job;
 use sheet_format::layout::LONGEST_LABEL;
 use sheet_format::layout::LONGEST_SHEET;
+use sheet_format::layout::TRAILER_SIZE;
 
 // The length of the sheet of one job with a label of one byte, and where its parts begin.
-const SMALL: usize = 21;
+const SMALL: usize = 23;
 
 const LABEL: usize = 0;
 
@@ -32,7 +33,7 @@ fn job(label_len: u8, minutes: u16, earlier: u32, departure: u16, arrival: u16) 
 // The sheet of one job, labelled A, on a cabinet of two modules.
 fn small() -> [u8; SMALL] {
     let mut s = [0u8; SMALL];
-    sheet::write([job(1, 10, 0, 30, 0); MOST_JOBS], 1, b"A", 2, &mut s);
+    sheet::write([job(1, 10, 0, 30, 0); MOST_JOBS], 1, b"A", 2, 0, &mut s);
     s
 }
 
@@ -89,6 +90,7 @@ fn read_labels_and_trailer() {
     read_number(b"jobs", TRAILER + 4, true, 20);
     read_number(b"jobs", TRAILER + 4, true, 21);
     read_range(b"modules", TRAILER + 6, true, 1, 64);
+    read_range(b"changeover", TRAILER + 8, true, 1, 30);
 }
 
 // Reads that sheet with another label byte, label length and number of minutes.
@@ -109,14 +111,14 @@ fn read_first() {
 }
 
 // The length of the sheet of two jobs with labels of three bytes in all.
-const PAIR: usize = 35;
+const PAIR: usize = 37;
 
 // Reads the sheet of two jobs whose labels are so long and have another byte in their middle.
 fn read_pair(name: &[u8], first: u8, second: u8, label_byte: u8) {
     let mut s = [0u8; PAIR];
     let mut jobs = [job(1, 10, 0, 30, 0); MOST_JOBS];
     jobs[0] = job(2, 10, 0, 30, 0);
-    sheet::write(jobs, 2, b"ABC", 2, &mut s);
+    sheet::write(jobs, 2, b"ABC", 2, 0, &mut s);
     s[1] = label_byte;
     s[3] = first;
     s[15] = second;
@@ -124,12 +126,12 @@ fn read_pair(name: &[u8], first: u8, second: u8, label_byte: u8) {
 }
 
 // The length of the sheet of one job with a label of three bytes.
-const SPACED: usize = 23;
+const SPACED: usize = 25;
 
 // The sheet of one job whose label has another byte at a place.
 fn spaced(at: usize, label_byte: u8) -> [u8; SPACED] {
     let mut s = [0u8; SPACED];
-    sheet::write([job(3, 10, 0, 30, 0); MOST_JOBS], 1, b"A1B", 2, &mut s);
+    sheet::write([job(3, 10, 0, 30, 0); MOST_JOBS], 1, b"A1B", 2, 0, &mut s);
     if at < SPACED {
         s[at] = label_byte;
     }
@@ -160,15 +162,16 @@ fn long() -> [u8; LONGEST_SHEET + 1] {
         MOST_JOBS,
         &[b'B'; MOST_JOBS * LONGEST_LABEL],
         64,
+        0,
         &mut s,
     );
     s
 }
 
 // The shortest sheet: no jobs, one module.
-fn short() -> [u8; 8] {
-    let mut s = [0u8; 8];
-    sheet::write([job(1, 10, 0, 30, 0); MOST_JOBS], 0, b"", 1, &mut s);
+fn short() -> [u8; TRAILER_SIZE] {
+    let mut s = [0u8; TRAILER_SIZE];
+    sheet::write([job(1, 10, 0, 30, 0); MOST_JOBS], 0, b"", 1, 0, &mut s);
     s
 }
 
@@ -210,20 +213,21 @@ fn read_fronts() {
     print_fronts(&long, 1);
     print_fronts(&long, 2);
     print_fronts(&long, 3);
+    print_fronts(&long, 19);
     print_fronts(&long, 4);
 }
 
 fn read_lengths() {
     let long = long();
     read_front(
-        b"20 jobs, labels of 16 bytes, 568 bytes",
+        b"20 jobs, labels of 16 bytes, 570 bytes",
         &long,
         LONGEST_SHEET,
     );
-    read_front(b"569 bytes", &long, LONGEST_SHEET + 1);
+    read_front(b"571 bytes", &long, LONGEST_SHEET + 1);
     let short = short();
-    read_front(b"no jobs, 8 bytes", &short, 8);
-    read_front(b"7 bytes", &short, 7);
+    read_front(b"no jobs, 10 bytes", &short, TRAILER_SIZE);
+    read_front(b"9 bytes", &short, TRAILER_SIZE - 1);
 }
 
 // Writes one job, with as many of the label bytes as its label is long.
@@ -234,7 +238,7 @@ fn write_one(name: &[u8], x: u16, job: Job, labels: &[u8]) {
         print_number(
             name,
             x,
-            sheet::write([job; MOST_JOBS], 1, &labels[0..count], 2, &mut out).refusal,
+            sheet::write([job; MOST_JOBS], 1, &labels[0..count], 2, 0, &mut out).refusal,
         );
     }
 }
@@ -291,7 +295,7 @@ fn write_label_bytes() {
 // Writes one job with a label of three bytes.
 fn write_spaced(name: &[u8], label: &[u8]) {
     let mut out = [0u8; 64];
-    let written = sheet::write([job(3, 10, 0, 30, 0); MOST_JOBS], 1, label, 2, &mut out);
+    let written = sheet::write([job(3, 10, 0, 30, 0); MOST_JOBS], 1, label, 2, 0, &mut out);
     print_case(name, written.refusal);
 }
 
@@ -303,34 +307,59 @@ fn write_spaces() {
 }
 
 // Writes jobs with labels of sixteen bytes into the first bytes.
-fn write_front(name: &[u8], jobs: usize, modules: u16, out: &mut [u8], room: usize) {
+fn write_front(
+    name: &[u8],
+    jobs: usize,
+    modules: u16,
+    changeover: u16,
+    out: &mut [u8],
+    room: usize,
+) {
     if room <= out.len() {
         let written = sheet::write(
             [job(16, 10, 0, 30, 0); MOST_JOBS],
             jobs,
             &[b'B'; MOST_JOBS * LONGEST_LABEL],
             modules,
+            changeover,
             &mut out[0..room],
         );
         print_case(name, written.refusal);
     }
 }
 
-fn write_long(name: &[u8], jobs: usize, modules: u16, room: usize) {
-    write_front(name, jobs, modules, &mut [0u8; LONGEST_SHEET], room);
+fn write_long(name: &[u8], jobs: usize, modules: u16, changeover: u16, room: usize) {
+    write_front(
+        name,
+        jobs,
+        modules,
+        changeover,
+        &mut [0u8; LONGEST_SHEET],
+        room,
+    );
 }
 
 fn write_sizes() {
-    write_long(b"writing, 20 jobs into 568 bytes", 20, 64, LONGEST_SHEET);
+    write_long(b"writing, 20 jobs into 570 bytes", 20, 64, 0, LONGEST_SHEET);
     write_long(
-        b"writing, 20 jobs into 567 bytes",
+        b"writing, 20 jobs into 569 bytes",
         20,
         64,
+        0,
         LONGEST_SHEET - 1,
     );
-    write_long(b"writing, 21 jobs", 21, 64, LONGEST_SHEET);
-    write_long(b"writing, modules 0", 20, 0, LONGEST_SHEET);
-    write_long(b"writing, modules 65", 20, 65, LONGEST_SHEET);
+    write_long(b"writing, 21 jobs", 21, 64, 0, LONGEST_SHEET);
+    write_long(b"writing, modules 0", 20, 0, 0, LONGEST_SHEET);
+    write_long(b"writing, modules 65", 20, 65, 0, LONGEST_SHEET);
+    write_long(b"writing, changeover 30", 20, 64, 30, LONGEST_SHEET);
+    write_long(b"writing, changeover 31", 20, 64, 31, LONGEST_SHEET);
+    write_long(
+        b"writing, modules 65 and changeover 31",
+        20,
+        65,
+        31,
+        LONGEST_SHEET,
+    );
 }
 
 fn show_label(name: &[u8], s: &[u8], job: usize) {

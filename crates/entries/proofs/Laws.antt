@@ -13,10 +13,10 @@ use Rattle.entries.specs.Entry.{entryIn, EntryAhead}
 pub no : {A : Type 0} → false ≡ true → A
 no e = let z : _≡_ {A = ℕ} 0 1 = cc in absurd (omega arith)
 
-pub ahead-in : (g : List ℕ) (way jobs : ℕ) (ends : List ℕ) (u l : ℕ) → jobs ≤ 20 → u32At g (way * 4) ≡ u → u16At g (64 + way * 42) ≤ l
-    → ((i : ℕ) → i < jobs → u16At g (64 + way * 42 + 2 + 2 * i) ≤ max (getD ends i 0) l) → EntryAhead (entryIn g way) jobs ends u l
+pub ahead-in : (g : List ℕ) (way jobs : ℕ) (ends : List ℕ) (u l rested : ℕ) → jobs ≤ 20 → u32At g (way * 4) ≡ u → u16At g (64 + way * 42) ≤ l
+    → ((i : ℕ) → i < jobs → u16At g (64 + way * 42 + 2 + 2 * i) ≤ max (getD ends i 0) rested) → EntryAhead (entryIn g way) jobs ends u l rested
 unfolding entryIn
-ahead-in g way jobs ends u l few set last end = record {
+ahead-in g way jobs ends u l rested few set last end = record {
   set = set;
   last = let z : 64 + way * 42 + 0 ≡ 64 + way * 42 = omega arith in rw (number-part g 42 (64 + way * 42) 0 2 (omega arith), z) last;
   end = λ i h.

@@ -46,8 +46,8 @@ lastAt f = u16At f 0
 abbrev pub endAt : List ℕ → ℕ → ℕ
 endAt f i = u16At f (endsFrom + 2 * i)
 
--- the entry has this set, a last start no later than minute l, and ends no later than these or l
-pub record EntryAhead (e : Entry) (jobs : ℕ) (ends : List ℕ) (unplaced l : ℕ) : Type 0 where
+-- the entry has this set, a last start no later than minute l, and ends no later than these or than minute `rested`
+pub record EntryAhead (e : Entry) (jobs : ℕ) (ends : List ℕ) (unplaced l rested : ℕ) : Type 0 where
   pub set : e .set ≡ unplaced
   pub last : lastAt (e .figures) ≤ l
-  pub end : (i : ℕ) → i < jobs → endAt (e .figures) i ≤ max (getD ends i 0) l
+  pub end : (i : ℕ) → i < jobs → endAt (e .figures) i ≤ max (getD ends i 0) rested

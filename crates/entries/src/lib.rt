@@ -24,20 +24,21 @@ pub const ENDS: usize = 2;
 // The bytes of a group.
 pub const GROUP: usize = 736;
 
-// 1 where a minute is after an end and after minute l, else 0.
-fn after_both(x: u16, end: u16, l: u16) -> u16
-    ensures { λ r. ⌜ (r ≤ 1) × (r ≡ 0 → x ≤ max end l) ⌝ }
+// 1 where a minute is after both of two others, else 0.
+fn after_both(x: u16, end: u16, other: u16) -> u16
+    ensures { λ r. ⌜ (r ≤ 1) × (r ≡ 0 → x ≤ max end other) ⌝ }
 {
     if x <= end {
         return 0;
     }
-    if x <= l {
+    if x <= other {
         return 0;
     }
     1
 }
 
-// Whether the part-plan of this entry of a group has this set and is ahead, from minute l on, of this part-plan.
+// Whether the part-plan of this entry of a group has this set and is ahead, from minute l on, of this part-plan. The modules of a job that
+// has ended by minute `rested` have rested by minute l.
 pub fn entry_ahead(
     group: &[u8],
     way: usize,
@@ -45,9 +46,10 @@ pub fn entry_ahead(
     jobs: usize,
     unplaced: u32,
     l: u16,
+    rested: u16,
 ) -> bool
     requires { ⌜ (length (now group) ≡ groupBytes) × (way < ways) × (jobs ≤ mostJobs) ⌝ }
-    ensures { λ r. ⌜ (r ≡ true → EntryAhead (entryIn (now (group .entry)) way) jobs (partIn (now (part .entry)) .ends) unplaced l) ⌝ }
+    ensures { λ r. ⌜ (r ≡ true → EntryAhead (entryIn (now (group .entry)) way) jobs (partIn (now (part .entry)) .ends) unplaced l rested) ⌝ }
 {
     if words::read32(group, way * SET) != unplaced {
         return false;
@@ -59,7 +61,7 @@ pub fn entry_ahead(
         late += after_both(
             words::read16(group, at + ENDS + 2 * i),
             tables::end(part, i),
-            l,
+            rested,
         );
         i += 1;
     }

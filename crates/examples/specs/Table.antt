@@ -6,7 +6,7 @@ use Rattle.schedule.specs.Plan.{Sheet}
 use Rattle.schedule.specs.TieRule.{wide, circular, planned}
 use Rattle.schedule.specs.Rows.{job, sheet, slot, answers, places}
 use Rattle.sheet_format.specs.declared.Job.{Job}
-use Rattle.sheet_format.specs.Format.{jobsIn, sheetBytes}
+use Rattle.sheet_format.specs.Format.{jobsIn, sheetBytes, cabinet}
 use Rattle.desk.specs.Calls.{Call, claim, handBack, look}
 use Rattle.examples.specs.Rows.{Reply, done, gives, refused, Row, plan, call, desk}
 
@@ -17,9 +17,14 @@ e1 = sheet (job 1 10 [] ∷ job 2 20 [] ∷ job 1 10 [] ∷ []) 2
 abbrev pub e4 : Sheet
 e4 = sheet (job 1 1 (1 ∷ []) ∷ job 1 1 (0 ∷ []) ∷ []) 1
 
--- a sheet's bytes: jobs with the labels A, B, C, D, on N modules
+-- a sheet's bytes: jobs with the labels A, B, C, D, on N modules that rest so many minutes between two jobs
+abbrev pub restingWith : List Job → ℕ → ℕ → List ℕ
+restingWith jobs N changeover =
+    sheetBytes (jobsIn jobs) (length jobs) (take (length jobs) (65 ∷ 66 ∷ 67 ∷ 68 ∷ [])) (cabinet N changeover)
+
+-- and without a changeover
 abbrev pub sheetWith : List Job → ℕ → List ℕ
-sheetWith jobs N = sheetBytes (jobsIn jobs) (length jobs) (take (length jobs) (65 ∷ 66 ∷ 67 ∷ 68 ∷ [])) N
+sheetWith jobs N = restingWith jobs N 0
 
 -- a job of a sheet: modules, minutes, the set of its earlier jobs, departure, arrival
 abbrev pub arriving : ℕ → ℕ → ℕ → ℕ → ℕ → Job
@@ -124,4 +129,20 @@ table =
     (160 ∷ 5 ∷ 170 ∷ 5 ∷ 1 ∷ 0 ∷ 0 ∷ 0 ∷ 0 ∷ 0 ∷ 0 ∷ 0
     ∷ 0
     ∷ 12 ∷ 0 ∷ 0 ∷ 0 ∷ 170 ∷ 5 ∷ 1 ∷ 0 ∷ [])
+    -- F-4: E1 with a changeover of 5: B starts 5 minutes behind the ends of A and C, and the plan's end has no rest behind it
+    ∷ call (restingWith (entry 1 10 0 30 ∷ entry 2 20 0 25 ∷ entry 1 10 0 30 ∷ []) 2 5) (replicate 47 7) 0
+    (0 ∷ 0 ∷ 10 ∷ 0 ∷ 1 ∷ 0 ∷ 0 ∷ 0 ∷ 0 ∷ 0 ∷ 0 ∷ 0
+    ∷ 15 ∷ 0 ∷ 35 ∷ 0 ∷ 3 ∷ 0 ∷ 0 ∷ 0 ∷ 0 ∷ 0 ∷ 0 ∷ 0
+    ∷ 0 ∷ 0 ∷ 10 ∷ 0 ∷ 2 ∷ 0 ∷ 0 ∷ 0 ∷ 0 ∷ 0 ∷ 0 ∷ 0
+    ∷ 0 ∷ 2 ∷ 1
+    ∷ 36 ∷ 0 ∷ 0 ∷ 0 ∷ 35 ∷ 0 ∷ 3 ∷ 0 ∷ [])
+    -- "A wait on an earlier job … counted without it": B, after A, starts as A ends, on the module that does not rest
+    ∷ call (restingWith (entry 1 10 0 30 ∷ entry 1 10 1 30 ∷ []) 2 5) (replicate 34 7) 0
+    (0 ∷ 0 ∷ 10 ∷ 0 ∷ 1 ∷ 0 ∷ 0 ∷ 0 ∷ 0 ∷ 0 ∷ 0 ∷ 0
+    ∷ 10 ∷ 0 ∷ 20 ∷ 0 ∷ 2 ∷ 0 ∷ 0 ∷ 0 ∷ 0 ∷ 0 ∷ 0 ∷ 0
+    ∷ 0 ∷ 1
+    ∷ 24 ∷ 0 ∷ 0 ∷ 0 ∷ 20 ∷ 0 ∷ 2 ∷ 0 ∷ [])
+    -- "19 when the changeover is above 30"
+    ∷ call (restingWith (entry 1 1 0 0 ∷ []) 1 30) (7 ∷ []) 10 (7 ∷ [])
+    ∷ call (restingWith (entry 1 1 0 0 ∷ []) 1 31) (7 ∷ []) 19 (7 ∷ [])
     ∷ []

@@ -1,5 +1,5 @@
 -- Figures that several crates share. Each stands here once; src/lib.rt has a constant for each.
-use Prim.Native.Nat.{ℕ, _+_, _*_}
+use Prim.Native.Nat.{ℕ, _+_, _-_, _*_}
 
 -- jobs on a sheet, at most
 abbrev pub mostJobs : ℕ
@@ -17,9 +17,13 @@ mostMinutes = 1440
 abbrev pub lastArrival : ℕ
 lastArrival = 1440
 
--- the minute by which every list plan has ended: the last arrival, and then every job one after another
+-- minutes that a module rests between two jobs, at most
+abbrev pub longestChangeover : ℕ
+longestChangeover = 30
+
+-- the minute by which every list plan has ended: the last arrival, and then every job one after another with the longest rests between them
 abbrev pub lastEnd : ℕ
-lastEnd = lastArrival + mostJobs * mostMinutes
+lastEnd = lastArrival + (mostJobs * mostMinutes + (mostJobs - 1) * longestChangeover)
 
 -- no minute: no start, no end, no target
 abbrev pub noMinute : ℕ

@@ -9,11 +9,11 @@ ghost use Rattle.counting.specs.Counting.{only};
 ghost use Rattle.bits.specs.Bits.{bit, withBit};
 ghost use Rattle.free_modules.specs.Lowest.{lowestOutside};
 
-// The set, with the modules of a job that ends after minute t.
-pub fn with_busy(set: u64, modules: u64, end: u16, t: u16) -> u64
-    ensures { λ r. ⌜ r ≡ bitOr set (only (ltb t end) modules) ⌝ }
+// The set, with the modules of a job that keeps them until after minute t.
+pub fn with_busy(set: u64, modules: u64, until: u16, t: u16) -> u64
+    ensures { λ r. ⌜ r ≡ bitOr set (only (ltb t until) modules) ⌝ }
 {
-    if t < end {
+    if t < until {
         return set | modules;
     }
     set

@@ -5,34 +5,43 @@ ghost use lib.ListN.{length};
 ghost use Rattle.figures.specs.Figures.{mostJobs};
 ghost use Rattle.schedule.specs.Plan.{overWide};
 ghost use Rattle.tables.specs.Tables.{sheetOf, countOf};
-ghost use Rattle.job_table.specs.Table.{withJob, TableOf};
-use figures::MOST_JOBS;
+ghost use Rattle.job_table.specs.Table.{withJob, SumsFit, TableOf};
 use sheet::Reading;
 use tables::JOB_PLACES;
 use tables::Jobs;
 
 // Puts the figures of job j into the table.
-fn put_job(table: &mut Jobs, j: usize, modules: u8, minutes: u16, arrival: u16, earlier: u32)
+fn put_job(
+    table: &mut Jobs,
+    j: usize,
+    modules: u8,
+    minutes: u16,
+    arrival: u16,
+    earlier: u32,
+    kept: u16,
+)
     requires { ⌜ j < mostJobs ⌝ }
-    ensures { λ _. ⌜ now (table .exit) ≡ withJob (now (table .entry)) j modules minutes arrival earlier ⌝ }
+    ensures { λ _. ⌜ now (table .exit) ≡ withJob (now (table .entry)) j modules minutes arrival earlier kept ⌝ }
 {
     table[j] = modules as u16;
     table[tables::MINUTES + j] = minutes;
     table[tables::ARRIVALS + j] = arrival;
     table[tables::EARLIER + 2 * j] = (earlier % 65536) as u16;
     table[tables::EARLIER + 2 * j + 1] = (earlier / 65536) as u16;
+    table[tables::KEPT + j] = kept;
 }
 
 // The job table of a reading.
 pub fn table_of(found: Reading) -> Jobs
-    requires { ⌜ (length (found .jobs) ≡ mostJobs) × (found .count ≤ mostJobs) ⌝ }
+    requires { ⌜ (length (found .jobs) ≡ mostJobs) × ((found .count ≤ mostJobs) × (SumsFit found)) ⌝ }
     ensures { λ r. ⌜ TableOf found r ⌝ }
 {
     let mut table = [0u16; JOB_PLACES];
     table[tables::COUNT] = found.count as u16;
     table[tables::MODULES] = found.modules;
+    table[tables::CHANGEOVER] = found.changeover;
     let mut j: usize = 0;
-    while j < MOST_JOBS {
+    while j < found.count {
         let job = found.jobs[j];
         put_job(
             &mut table,
@@ -41,6 +50,7 @@ pub fn table_of(found: Reading) -> Jobs
             job.minutes,
             job.arrival,
             job.earlier,
+            job.minutes + found.changeover,
         );
         j += 1;
     }

@@ -13,7 +13,7 @@ use Rattle.counting.proofs.Intervals.{sum-from, sum-past}
 use Rattle.bits.specs.Bits.{bit}
 use Rattle.schedule.specs.Bounds.{gain}
 use Rattle.figures.specs.Figures.{mostModules}
-use Rattle.tables.specs.Tables.{minutesAt, countOf, modulesOf}
+use Rattle.tables.specs.Tables.{keptAt, countOf, modulesOf}
 use Rattle.tables.specs.Part.{Part}
 use Rattle.placement.specs.Profile.{heldOf, ProfileOf}
 use Rattle.weights.specs.Weights.{allWeight}
@@ -168,7 +168,7 @@ overfull-by {t} {lanes} {p} {T = T} h s over = record {
   weighs = h .weighs;
   most-rises = h .most-rises;
   lasts = λ X x m short. h .serves X (x / stepOf lanes) (inside-table s x m)
-      (steps-together (minutesAt t) (countOf t) (stepOf lanes) (s .step-some) X x short);
+      (steps-together (keptAt t) (countOf t) (stepOf lanes) (s .step-some) X x short);
   reach-rises = reach-in-rises s;
   reach-none = reach-in-none s;
   over = omega (

@@ -1,4 +1,4 @@
-// The bound by lanes: whether the jobs that are left have more value than the lanes that come open can serve by a target.
+// The bound by lanes: whether the jobs that are left have more value than the lanes that come open can serve until all modules are given back.
 ghost use mathlib.Core.Path.{_≡_};
 ghost use mathlib.Core.Bool.{true};
 ghost use Prim.Native.Nat.{ℕ, _-_, _/_, _<_, _≤_};
@@ -22,12 +22,12 @@ fn step_of(prepared: &Prepared) -> u32
     tables::lanes(prepared, values::STEP_AT)
 }
 
-// The most value that a lane can serve from minute t up to the target.
-fn reach_from(prepared: &Prepared, t: u16, target: u16) -> u32
-    requires { ⌜ (0 < stepOf (lanesIn (now prepared))) × ((target / stepOf (lanesIn (now prepared)) < steps) × (t ≤ target)) ⌝ }
-    ensures { λ r. ⌜ r ≡ reachIn (lanesIn (now (prepared .entry))) (target - t) ⌝ }
+// The most value that a lane can serve from minute t up to minute `close`.
+fn reach_from(prepared: &Prepared, t: u16, close: u16) -> u32
+    requires { ⌜ (0 < stepOf (lanesIn (now prepared))) × ((close / stepOf (lanesIn (now prepared)) < steps) × (t ≤ close)) ⌝ }
+    ensures { λ r. ⌜ r ≡ reachIn (lanesIn (now (prepared .entry))) (close - t) ⌝ }
 {
-    tables::lanes(prepared, values::steps(target - t, step_of(prepared)))
+    tables::lanes(prepared, values::steps(close - t, step_of(prepared)))
 }
 
 // How many lanes are open on x free modules.
@@ -38,7 +38,7 @@ fn lanes_on(prepared: &Prepared, x: u16) -> u32
     tables::lanes(prepared, values::MOST_AT + (x as usize))
 }
 
-// What the lanes serve from minute `least` up to the target.
+// What the lanes serve from minute `least` up to minute `close`.
 fn served_on(
     jobs: &Jobs,
     prepared: &Prepared,
@@ -46,21 +46,21 @@ fn served_on(
     gone: usize,
     free: u16,
     least: u16,
-    target: u16,
+    close: u16,
 ) -> u32
-    requires { ⌜ Serving (lanesIn (now prepared)) (partIn (now part)) gone free (modulesOf (now jobs)) least target ⌝ }
+    requires { ⌜ Serving (lanesIn (now prepared)) (partIn (now part)) gone free (modulesOf (now jobs)) least close ⌝ }
     ensures { λ r. ⌜ r ≡ servedOn (mostAt (lanesIn (now (prepared .entry)))) (reachIn (lanesIn (now (prepared .entry))))
-        (modulesOf (now (jobs .entry))) (partIn (now (part .entry))) least target ⌝ }
+        (modulesOf (now (jobs .entry))) (partIn (now (part .entry))) least close ⌝ }
 {
     let placed = tables::placed(part);
     let mut total: u32 = 0;
     let mut at = least;
-    let mut reach = reach_from(prepared, least, target);
+    let mut reach = reach_from(prepared, least, close);
     let mut f = free;
     let mut i = gone;
     while i < placed {
-        let to = weights::next_end(at, tables::until(part, i), target);
-        let next = reach_from(prepared, to, target);
+        let to = weights::next_end(at, tables::until(part, i), close);
+        let next = reach_from(prepared, to, close);
         total += lanes_on(prepared, f) * (reach - next);
         at = to;
         reach = next;
@@ -95,8 +95,8 @@ fn set_worth(jobs: &Jobs, prepared: &Prepared, part: &Part) -> u32
     total
 }
 
-// Whether the unplaced jobs have more value than the lanes can serve between minute `least` and the target. `gone` of the placed jobs
-// are known to have ended by then, and the others leave `free` modules.
+// Whether the unplaced jobs have more value than the lanes can serve between minute `least` and minute `close`, by which all modules are
+// given back. `gone` of the placed jobs are known to have given theirs back by then, and the others leave `free` modules.
 pub fn overfull(
     jobs: &Jobs,
     prepared: &Prepared,
@@ -104,17 +104,17 @@ pub fn overfull(
     gone: usize,
     free: u16,
     least: u16,
-    target: u16,
+    close: u16,
 ) -> bool
     requires { ⌜ ((Fit (now jobs)) × (Laned (now jobs) (lanesIn (now prepared))))
         × (ProfileOf (partIn (now part)) gone free (modulesOf (now jobs)) least) ⌝ }
-    ensures { λ r. ⌜ (r ≡ true → Overfull (now (jobs .entry)) (partIn (now (part .entry))) least target) ⌝ }
+    ensures { λ r. ⌜ (r ≡ true → Overfull (now (jobs .entry)) (partIn (now (part .entry))) least close) ⌝ }
 {
-    if target < least {
+    if close < least {
         return false;
     }
-    if values::steps(target, step_of(prepared)) >= values::STEPS {
+    if values::steps(close, step_of(prepared)) >= values::STEPS {
         return false;
     }
-    served_on(jobs, prepared, part, gone, free, least, target) < set_worth(jobs, prepared, part)
+    served_on(jobs, prepared, part, gone, free, least, close) < set_worth(jobs, prepared, part)
 }

@@ -159,10 +159,10 @@ module _ (m : List ℕ) (jobs : ℕ) (ends : List ℕ) (u l : ℕ) where
           rw (p, new-here m e a 736 h s) (rw z at (y (k % 16) (omega arith)))
 
   -- an entry of a group at a, the start of the g-th, is ahead
-  pub hit-at : (a g way : ℕ) → a ≡ g * 736 → a + 736 ≤ length m → way < 16
-      → EntryAhead (entryIn (part a 736 m) way) jobs ends u l → Hit m jobs ends u l
+  pub hit-at : (rest a g way : ℕ) → a ≡ g * 736 → a + 736 ≤ length m → way < 16
+      → EntryAhead (entryIn (part a 736 m) way) jobs ends u l (l - rest) → Hit m jobs ends u l rest
   unfolding entryAt groupAt
-  hit-at a g way q h w o =
+  hit-at rest a g way q h w o =
       let z : a + 736 - a ≡ 736 = omega arith in
       let p : (g * 16 + way) / 16 ≡ g = omega arith in
       let r : (g * 16 + way) % 16 ≡ way = omega arith in

@@ -3,7 +3,7 @@
 use mathlib.Core.Path.{_≡_}
 use mathlib.Core.Logic.{_⊎_}
 use mathlib.Core.List.{List}
-use Prim.Native.Nat.{ℕ, _*_, _/_, _%_, _<_}
+use Prim.Native.Nat.{ℕ, _-_, _*_, _/_, _%_, _<_}
 use lib.ListN.{length, getD, take, drop}
 pub use Rattle.entries.specs.Entry.{ways, setBytes, figureBytes, groupBytes, Entry, lastAt, endAt, EntryAhead}
 unfoldable pub use Rattle.entries.specs.Entry.{entryIn}
@@ -32,11 +32,11 @@ pub record EntryOf (e : Entry) (jobs : ℕ) (ends : List ℕ) (unplaced start : 
 unfoldable pub groupOf : ℕ → ℕ → ℕ
 groupOf len unplaced = unplaced % (len / groupBytes)
 
--- some entry is ahead
-pub record Hit (m : List ℕ) (jobs : ℕ) (ends : List ℕ) (unplaced l : ℕ) : Type 0 where
+-- some entry is ahead: where its jobs end later than these, they have rested by minute l
+pub record Hit (m : List ℕ) (jobs : ℕ) (ends : List ℕ) (unplaced l rest : ℕ) : Type 0 where
   pub at : ℕ
   pub inside : at < entries m
-  pub ahead : EntryAhead (entryAt m at) jobs ends unplaced l
+  pub ahead : EntryAhead (entryAt m at) jobs ends unplaced l (l - rest)
 
 -- each entry of a group is as it was, or has this set and these figures
 abbrev pub Stored : List ℕ → List ℕ → ℕ → List ℕ → ℕ → ℕ → Type 0

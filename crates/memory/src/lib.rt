@@ -3,7 +3,7 @@
 // forgotten, changes no answer.
 ghost use mathlib.Core.Path.{_≡_};
 ghost use mathlib.Core.Bool.{true};
-ghost use Prim.Native.Nat.{_+_, _*_, _<_, _≤_};
+ghost use Prim.Native.Nat.{_+_, _-_, _*_, _<_, _≤_};
 ghost use lib.ListN.{length, replicate};
 ghost use Rattle.figures.specs.Figures.{mostJobs};
 ghost use Rattle.tables.specs.Part.{partIn};
@@ -95,11 +95,21 @@ fn way_of(part: &Part, jobs: usize) -> usize
     h / 8 % WAYS
 }
 
-// Whether a remembered part-plan with the same unplaced jobs is ahead, from minute l on, of this one.
-pub fn recall(memory: &[u8], part: &Part, jobs: usize, l: u16) -> bool
+// The last minute from which a rest is over by minute l, or 0.
+fn rested_by(l: u16, rest: u16) -> u16
+    ensures { λ r. ⌜ r ≡ l - rest ⌝ }
+{
+    if l < rest {
+        return 0;
+    }
+    l - rest
+}
+
+// Whether a remembered part-plan with the same unplaced jobs is ahead, from minute l on, of this one, where modules rest so long.
+pub fn recall(memory: &[u8], part: &Part, jobs: usize, l: u16, rest: u16) -> bool
     requires { ⌜ jobs ≤ mostJobs ⌝ }
     ensures { λ r. ⌜ (r ≡ true
-        → Hit (now (memory .entry)) jobs (partIn (now (part .entry)) .ends) (partIn (now (part .entry)) .unplaced) l) ⌝ }
+        → Hit (now (memory .entry)) jobs (partIn (now (part .entry)) .ends) (partIn (now (part .entry)) .unplaced) l rest) ⌝ }
 {
     let len = memory.len();
     if len < GROUP {
@@ -108,10 +118,11 @@ pub fn recall(memory: &[u8], part: &Part, jobs: usize, l: u16) -> bool
     let unplaced = tables::unplaced(part);
     let from = group_at(len, unplaced);
     let to = from + GROUP;
+    let rested = rested_by(l, rest);
     let mut ways = ways_with(&memory[from..to], unplaced);
     while ways > 0 {
         let way = u32::trailing_zeros(ways) as usize;
-        if entries::entry_ahead(&memory[from..to], way, part, jobs, unplaced, l) {
+        if entries::entry_ahead(&memory[from..to], way, part, jobs, unplaced, l, rested) {
             return true;
         }
         ways = ways & (ways - 1);

@@ -1,4 +1,4 @@
--- E1 as it was: the hypotheses of the theorems hold of it, it is E1 of today with arrivals 0, and its card is E1's.
+-- E1 as it was before F-2: the hypotheses of the theorems hold of it, it is E1 of today with arrivals and changeover 0, and its card is E1's.
 use mathlib.Core.Path.{_≡_, refl, sym, _∙_}
 use mathlib.Core.List.{List, [], _∷_, _++_}
 use Prim.Native.Nat.{ℕ}
@@ -17,6 +17,7 @@ use Rattle.card.specs.Card as card
 use Rattle.planable.specs.Planable.{noOrder}
 use Rattle.planner.specs.Planning.{planRefusal, bestCard, cardAfter}
 use Rattle.older_sheets.specs.Older as older
+use Rattle.older_sheets.specs.Older.{beforeArrivals}
 use Rattle.older_sheets.specs.Relaid.{relaid, LaidOut}
 use Rattle.older_sheets.proofs.Relaid.{reads-laid-out, relaid-plans}
 
@@ -35,18 +36,18 @@ e1-today =
     ++ (1 ∷ 1 ∷ 10 ∷ 0 ∷ 0 ∷ 0 ∷ 0 ∷ 0 ∷ 30 ∷ 0 ∷ 0 ∷ 0 ∷ [])
     ++ (1 ∷ 2 ∷ 20 ∷ 0 ∷ 0 ∷ 0 ∷ 0 ∷ 0 ∷ 25 ∷ 0 ∷ 0 ∷ 0 ∷ [])
     ++ (1 ∷ 1 ∷ 10 ∷ 0 ∷ 0 ∷ 0 ∷ 0 ∷ 0 ∷ 30 ∷ 0 ∷ 0 ∷ 0 ∷ [])
-    ++ (3 ∷ 0 ∷ 0 ∷ 0 ∷ 3 ∷ 0 ∷ 2 ∷ 0 ∷ [])
+    ++ (3 ∷ 0 ∷ 0 ∷ 0 ∷ 3 ∷ 0 ∷ 2 ∷ 0 ∷ 0 ∷ 0 ∷ [])
 
-pub e1-relaid : relaid e1 ≡ e1-today
+pub e1-relaid : relaid beforeArrivals e1 ≡ e1-today
 unfolding e1 e1-today relaid joined numberAt
 e1-relaid = refl
 
-e1-reads : older.readRefusal e1 ≡ 0
-unfolding e1 firstFailing outside older.faulty wrongLabel any sum older.recordAt numberAt
+e1-reads : older.readRefusal beforeArrivals e1 ≡ 0
+unfolding e1 firstFailing outside faulty wrongLabel any sum older.recordAt numberAt
 e1-reads = refl
 
-pub e1-laid-out : LaidOut e1
-e1-laid-out = reads-laid-out e1 e1-reads
+pub e1-laid-out : LaidOut beforeArrivals e1
+e1-laid-out = reads-laid-out beforeArrivals e1 e1-reads
 
 -- 47 bytes, and one behind them
 pub e1-card : List ℕ
@@ -56,7 +57,7 @@ e1-card =
     ++ (0 ∷ 0 ∷ 10 ∷ 0 ∷ 2 ∷ 0 ∷ 0 ∷ 0 ∷ 0 ∷ 0 ∷ 0 ∷ 0 ∷ [])
     ++ (0 ∷ 2 ∷ 1 ∷ 36 ∷ 0 ∷ 0 ∷ 0 ∷ 30 ∷ 0 ∷ 3 ∷ 0 ∷ 7 ∷ [])
 
-today : cardAfter (relaid e1) (replicate 48 7) ≡ e1-card
+today : cardAfter (relaid beforeArrivals e1) (replicate 48 7) ≡ e1-card
 unfolding
     e1 relaid e1-card reading firstFailing outside faulty wrongLabel any sum places joined recordAt numberAt largest every bit setOf
     overWide ready firstMinute startOf placeAll ordersAfter earliestOf noOrder planRefusal bestCard cardAfter card.rowBytes card.trailerBytes
@@ -64,5 +65,5 @@ unfolding
 today = refl
 
 -- so the card that it had
-pub e1-planned : older.cardAfter e1 (replicate 48 7) ≡ e1-card
-e1-planned = sym (relaid-plans e1 e1-laid-out (replicate 48 7) [] .1) ∙ today
+pub e1-planned : older.cardAfter beforeArrivals e1 (replicate 48 7) ≡ e1-card
+e1-planned = sym (relaid-plans beforeArrivals e1 e1-laid-out (replicate 48 7) [] .1) ∙ today

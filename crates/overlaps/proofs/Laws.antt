@@ -9,7 +9,7 @@ use Rattle.counting.proofs.Tests.{only-le}
 use Rattle.figures.specs.Figures.{mostModules}
 use Rattle.bits.specs.Bits.{bit}
 use Rattle.schedule.specs.Bounds.{mustRun}
-use Rattle.tables.specs.Tables.{needAt, minutesAt, countOf, modulesOf, Fit}
+use Rattle.tables.specs.Tables.{needAt, keptAt, countOf, modulesOf, Fit}
 use Rattle.tables.specs.Part.{Part}
 use Rattle.tables.specs.Prepared.{tailsIn, headsIn}
 use Rattle.placement.specs.declared.Ended.{Ended}
@@ -19,7 +19,7 @@ use Rattle.overlaps.specs.Overlaps.{mustHold, Overlapping}
 
 -- no job holds more than a cabinet has
 pub hold-small : {t : List ℕ} → Fit t → (prepared : List ℕ) (l T m k : ℕ) → k < countOf t → mustHold t prepared l T m k ≤ mostModules
-hold-small {t} fit prepared l T m k x = le-trans (only-le (mustRun (max l (getD (headsIn prepared) k 0)) (getD (tailsIn prepared) k 0) T m (minutesAt t k)) (needAt t k))
+hold-small {t} fit prepared l T m k x = le-trans (only-le (mustRun (max l (getD (headsIn prepared) k 0)) (getD (tailsIn prepared) k 0) T m (keptAt t k)) (needAt t k))
     (omega (arith, fit .narrow k x, fit .most))
 
 pub overlapping-at : {t prepared : List ℕ} {p : Part} {l T : ℕ} (m : ℕ) (r : Ended) → l ≤ m → EndedOf p (modulesOf t) m r

@@ -1,4 +1,4 @@
-// Whether jobs that are left must run at the same minute and have no room there.
+// Whether jobs that are left must have their modules at the same minute and have no room there.
 ghost use mathlib.Core.Path.{_≡_};
 ghost use mathlib.Core.Bool.{true};
 ghost use Prim.Native.Nat.{_<_, _≤_};
@@ -14,13 +14,13 @@ use tables::Jobs;
 use tables::Part;
 use tables::Prepared;
 
-// The modules of a job that must run at minute m, as it starts from minute `first` on, and so early that its chain ends by the target; 0
-// where it need not.
-fn must_hold(need: u16, minutes: u16, first: u32, tail: u32, target: u16, m: u16) -> u16
-    ensures { λ r. ⌜ r ≡ only (mustRun first tail target m minutes) need ⌝ }
+// The modules of a job that must have them at minute m, as it starts from minute `first` on and keeps them for so long, and starts so early
+// that its chain ends by the target; 0 where it need not.
+fn must_hold(need: u16, kept: u16, first: u32, tail: u32, target: u16, m: u16) -> u16
+    ensures { λ r. ⌜ r ≡ only (mustRun first tail target m kept) need ⌝ }
 {
     if (target as u64) <= (m as u64) + (tail as u64) {
-        if (m as u64) < (first as u64) + (minutes as u64) {
+        if (m as u64) < (first as u64) + (kept as u64) {
             return need;
         }
     }
@@ -39,7 +39,7 @@ fn all_hold(jobs: &Jobs, prepared: &Prepared, set: u32, l: u16, target: u16, m: 
         let k = bits::lowest32(todo);
         total += must_hold(
             tables::need(jobs, k),
-            tables::minutes(jobs, k),
+            tables::kept(jobs, k),
             heads::first_start(prepared, l, k),
             tables::tail(prepared, k),
             target,
@@ -50,8 +50,8 @@ fn all_hold(jobs: &Jobs, prepared: &Prepared, set: u32, l: u16, target: u16, m: 
     total
 }
 
-// Whether the unplaced jobs have no room at minute m beside the placed jobs that still run. By minute l `gone` of the placed jobs have
-// ended, and `free` modules are free then.
+// Whether the unplaced jobs have no room at minute m beside the placed jobs that still hold theirs. By minute l `gone` of the placed jobs
+// have given theirs back, and `free` modules are free then.
 fn no_room_at(
     jobs: &Jobs,
     prepared: &Prepared,
@@ -69,7 +69,7 @@ fn no_room_at(
     ended.free < all_hold(jobs, prepared, tables::unplaced(part), l, target, m)
 }
 
-// Whether that is so at the last minute at which job k can start, where it runs then wherever it starts.
+// Whether that is so at the last minute at which job k can start, where it has its modules then wherever it starts.
 fn no_room_for(
     jobs: &Jobs,
     prepared: &Prepared,
@@ -92,13 +92,13 @@ fn no_room_for(
         return false;
     }
     let first = heads::first_start(prepared, l, k);
-    if (first as u64) + (tables::minutes(jobs, k) as u64) <= (m as u64) {
+    if (first as u64) + (tables::kept(jobs, k) as u64) <= (m as u64) {
         return false;
     }
     no_room_at(jobs, prepared, part, gone, free, l, target, m)
 }
 
-// Whether unplaced jobs must run at the same minute, between minute l and the target, and have no room there.
+// Whether unplaced jobs must have their modules at the same minute, between minute l and the target, and have no room there.
 pub fn overlapping(
     jobs: &Jobs,
     prepared: &Prepared,

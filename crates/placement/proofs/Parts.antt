@@ -12,7 +12,7 @@ use lib.Count.{ones}
 use lib.ListN.{length, getD}
 use lib.Pow.{pow-pos}
 use borrow.Author.Tests.{eqb-true, eqb-false, eq-eqb, not-true, not-false}
-use Rattle.figures.specs.Figures.{lastEnd}
+use Rattle.figures.specs.Figures.{lastEnd, longestChangeover}
 use Rattle.counting.specs.Counting.{only, sum, count}
 use Rattle.counting.proofs.Tests.{true-or-false, clash, only-le, only-within, mul-only, same-test, and-left, and-right, and-both}
 use Rattle.counting.proofs.Sums.{sum-same, sum-zero, sum-add, sum-single, sum-most, le-sum}
@@ -31,12 +31,16 @@ use Rattle.schedule.proofs.Occupied.{room-sum}
 use Rattle.schedule.proofs.Jumps.{start-here}
 use Rattle.tables.proofs.Ends.{ends-short}
 use Rattle.schedule.proofs.Prefixes.{part-count, part-more, follows-more}
-use Rattle.tables.specs.Tables.{sheetOf, needAt, minutesAt, arrivalAt, earlierAt, countOf, modulesOf, Fit}
+use Rattle.tables.specs.Tables.{sheetOf, needAt, minutesAt, keptAt, mostKept, arrivalAt, earlierAt, countOf, modulesOf, changeoverOf, Fit}
 use Rattle.tables.specs.Part.{Part}
 use Rattle.tables.proofs.Laws.{job-area, all-minutes}
 use Rattle.placement.specs.Profile.{heldAt, heldAfter, heldFrom, heldOf, heldSince}
 use Rattle.placement.specs.Part.{waits, StartFor, Figures, IsPart, Placeable, Placed, isReady, FirstPart}
 use Rattle.placement.proofs.Inserts.{inserted-sum}
+
+-- the minute from which all modules are free
+abbrev lastFree : ℕ
+lastFree = lastEnd + longestChangeover
 
 module _ (t : List ℕ) (fit : Fit t) where
   abbrev S : Sheet
@@ -59,7 +63,7 @@ module _ (t : List ℕ) (fit : Fit t) where
       sizes = rw (f .placed, f .unplaced) (omega (arith, ones-ones jobs));
       last = f .last;
       ends = λ i l. f .ends i (omega (arith, fit .few));
-      left = f .left;
+      left = f .left ∙ sum-same jobs _ _ (λ i l. ap (λ (k : ℕ). needAt t i * k) (fit .keeps i l));
       profile = rw (f .placed, f .gone, f .free) (record {
         sorted = λ i k l m. absurd (not-suc-le-zero m);
         few = zero-le;
@@ -91,12 +95,12 @@ module _ (t : List ℕ) (fit : Fit t) where
         ∙ sum-same jobs _ _ (λ i l. one i (P .placed i) refl)
       where
         one : (i : ℕ) (b : Bool) → P .placed i ≡ b
-            → only (P .placed i) (S .need i * only (ltb u (finish S (P .plan) i)) 1) ≡ only (occupies S P u i) (S .need i)
-        one i true e = rw (e, add-zero (finish S (P .plan) i), mul-only, mul-one)
+            → only (P .placed i) (S .need i * only (ltb u (finish S (P .plan) i + S .rest)) 1) ≡ only (occupies S P u i) (S .need i)
+        one i true e = rw (e, mul-only, mul-one)
         one i false e = rw e refl
 
     pub after-is : (u : ℕ) → heldSince p u
-        ≡ sum jobs (λ i. only (P .placed i) (S .need i * (finish S (P .plan) i - u)))
+        ≡ sum jobs (λ i. only (P .placed i) (S .need i * (finish S (P .plan) i + S .rest - u)))
     unfolding heldAfter
     after-is u = F .by-end (λ e. e - u)
 
@@ -116,6 +120,16 @@ module _ (t : List ℕ) (fit : Fit t) where
     pub end-short : (i : ℕ) → i < jobs → P .placed i ≡ true → finish S (P .plan) i ≤ lastEnd
     end-short = ends-short t fit w (is .follows)
 
+    -- its modules are free again a changeover later
+    pub free-short : (i : ℕ) → i < jobs → P .placed i ≡ true → finish S (P .plan) i + S .rest ≤ lastFree
+    free-short i l e = omega (arith, end-short i l e, fit .rests)
+
+    -- the same of the ends in code, 0 for a job that is not placed
+    pub ends-fit : (i : ℕ) → i < jobs → getD (p .ends) i 0 + S .rest ≤ lastFree
+    ends-fit i l =
+        let end = only-within (P .placed i) (finish S (P .plan) i) lastEnd (end-short i l) in
+        omega (arith, F .ends i l, fit .rests)
+
     pub last-short : p .last ≤ lastEnd
     last-short =
         let ends = largest-le jobs (λ i. only (P .placed i) (finish S (P .plan) i)) lastEnd
@@ -124,21 +138,21 @@ module _ (t : List ℕ) (fit : Fit t) where
 
     pub after-small : (u : ℕ) → heldSince p u ≤ 40000000
     after-small u =
-        let most = sum-most jobs (λ i. only (P .placed i) (S .need i * (finish S (P .plan) i - u))) (64 * lastEnd)
-        (λ i l. only-within (P .placed i) _ (64 * lastEnd) (one i l)) in
-        let all : jobs * (64 * lastEnd) ≤ 20 * (64 * lastEnd) = mul-le-mul-right (64 * lastEnd) (fit .few) in
+        let most = sum-most jobs (λ i. only (P .placed i) (S .need i * (finish S (P .plan) i + S .rest - u))) (64 * lastFree)
+        (λ i l. only-within (P .placed i) _ (64 * lastFree) (one i l)) in
+        let all : jobs * (64 * lastFree) ≤ 20 * (64 * lastFree) = mul-le-mul-right (64 * lastFree) (fit .few) in
         omega (arith, after-is u)
       where
-        one : (i : ℕ) → i < jobs → P .placed i ≡ true → S .need i * (finish S (P .plan) i - u) ≤ 64 * lastEnd
+        one : (i : ℕ) → i < jobs → P .placed i ≡ true → S .need i * (finish S (P .plan) i + S .rest - u) ≤ 64 * lastFree
         one i l e =
             let w : needAt t i ≤ 64 = omega (arith, fit .narrow i l, fit .most) in
-            le-trans (mul-le-mul-left (needAt t i) (omega (arith, end-short i l e))) (mul-le-mul-right lastEnd w)
+            le-trans (mul-le-mul-left (needAt t i) (omega (arith, free-short i l e))) (mul-le-mul-right lastFree w)
 
     pub left-small : p .left ≤ 2000000
     left-small =
-        let most = sum-most jobs (λ i. only (not (P .placed i)) (S .need i * S .minutes i)) (64 * 1440)
-        (λ i l. le-trans (only-le (not (P .placed i)) (S .need i * S .minutes i)) (job-area t fit i l)) in
-        let all : jobs * (64 * 1440) ≤ 20 * (64 * 1440) = mul-le-mul-right (64 * 1440) (fit .few) in
+        let most = sum-most jobs (λ i. only (not (P .placed i)) (S .need i * (S .minutes i + S .rest))) (64 * mostKept)
+        (λ i l. le-trans (only-le (not (P .placed i)) (S .need i * (S .minutes i + S .rest))) (rw (fit .keeps i l) at (job-area t fit i l))) in
+        let all : jobs * (64 * mostKept) ≤ 20 * (64 * mostKept) = mul-le-mul-right (64 * mostKept) (fit .few) in
         omega (arith, F .left)
 
     -- ---- which jobs may come next
@@ -210,11 +224,14 @@ module _ (t : List ℕ) (fit : Fit t) where
       unplaced-yet : bit (p .unplaced) j ≡ true
       unplaced-yet = F .set j (R .job) ∙ ap not (R .new)
 
-      area-le : needAt t j * minutesAt t j ≤ p .left
+      kept-is : keptAt t j ≡ minutesAt t j + changeoverOf t
+      kept-is = fit .keeps j (R .job)
+
+      area-le : needAt t j * keptAt t j ≤ p .left
       area-le =
-          let one : needAt t j * minutesAt t j ≤ sum jobs (λ i. only (not (P .placed i)) (S .need i * S .minutes i)) =
-          rw (R .new) at (le-sum jobs (λ i. only (not (P .placed i)) (S .need i * S .minutes i)) j (R .job)) in
-          omega (arith, F .left)
+          let one : needAt t j * (minutesAt t j + changeoverOf t) ≤ sum jobs (λ i. only (not (P .placed i)) (S .need i * (S .minutes i + S .rest))) =
+          rw (R .new) at (le-sum jobs (λ i. only (not (P .placed i)) (S .need i * (S .minutes i + S .rest))) j (R .job)) in
+          omega (arith, F .left, ap (λ (k : ℕ). needAt t j * k) kept-is)
 
       pub placeable : Placeable t p j (startOf S P j)
       placeable =
@@ -224,7 +241,8 @@ module _ (t : List ℕ) (fit : Fit t) where
             count = omega (arith, F .sizes, fit .few, ones-without (p .unplaced) j unplaced-yet);
             later = omega (arith, F .last, g .later);
             lasts = fit .lasting j (R .job);
-            fits = omega (arith, start-short);
+            fits = omega (arith, start-short, kept-is, fit .rests);
+            keeps = kept-is;
             most = fit .most;
             profile = F .profile;
             room = omega (arith, occupied-is (startOf S P j), room-sum S P sound j (startOf S P j) g);
@@ -256,32 +274,33 @@ module _ (t : List ℕ) (fit : Fit t) where
             rw e (ap (λ (k : ℕ). getD (q .ends) k 0) y ∙ h .end ∙ ap (λ (k : ℕ). startOf S P j + minutesAt t k) (sym y))
         next-ends i l false e = rw e (h .ends i (omega (arith, fit .few)) (eqb-false i j e) ∙ F .ends i l)
 
-        next-left : q .left ≡ sum jobs (λ i. only (not (Q .placed i)) (S .need i * S .minutes i))
+        next-left : q .left ≡ sum jobs (λ i. only (not (Q .placed i)) (S .need i * (S .minutes i + S .rest)))
         next-left =
-            let f : ℕ → ℕ = λ i. S .need i * S .minutes i in
+            let f : ℕ → ℕ = λ i. S .need i * (S .minutes i + S .rest) in
             let parts = sum-same jobs (λ i. only (not (P .placed i)) (f i))
             (λ i. only (eqb i j) (f i) + only (not (Q .placed i)) (f i)) (λ i l. one i (eqb i j) refl) in
             let split = sum-add jobs (λ i. only (eqb i j) (f i)) (λ i. only (not (Q .placed i)) (f i)) in
-            omega (arith, h .left, F .left, area-le, sum-single jobs f j (R .job))
+            omega (arith, h .left, F .left, area-le, ap (λ (k : ℕ). needAt t j * k) kept-is, sum-single jobs f j (R .job))
           where
             one : (i : ℕ) (b : Bool) → eqb i j ≡ b
-                → only (not (P .placed i)) (S .need i * S .minutes i)
-                ≡ only (eqb i j) (S .need i * S .minutes i) + only (not (Q .placed i)) (S .need i * S .minutes i)
+                → only (not (P .placed i)) (S .need i * (S .minutes i + S .rest))
+                ≡ only (eqb i j) (S .need i * (S .minutes i + S .rest)) + only (not (Q .placed i)) (S .need i * (S .minutes i + S .rest))
             one i true e = let n : P .placed i ≡ false = rw (eqb-true i j e) (R .new) in rw (e, n) (omega arith)
             one i false e = rw e (omega arith)
 
         next-by-end : (g : ℕ → ℕ) → sum (q .placed) (λ k. getD (q .held) k 0 * g (getD (q .until) k 0))
-            ≡ sum jobs (λ i. only (Q .placed i) (S .need i * g (finish S (Q .plan) i)))
+            ≡ sum jobs (λ i. only (Q .placed i) (S .need i * g (finish S (Q .plan) i + S .rest)))
         next-by-end g =
-            let f : ℕ → ℕ = λ i. S .need i * g (startOf S P j + S .minutes i) in
-            let parts = sum-same jobs (λ i. only (Q .placed i) (S .need i * g (finish S (Q .plan) i)))
-            (λ i. only (P .placed i) (S .need i * g (finish S (P .plan) i)) + only (eqb i j) (f i)) (λ i l. one i (eqb i j) refl) in
-            let split = sum-add jobs (λ i. only (P .placed i) (S .need i * g (finish S (P .plan) i))) (λ i. only (eqb i j) (f i)) in
-            rw (h .placed) (omega (arith, inserted-sum (h .lists) g, F .by-end g, sum-single jobs f j (R .job)))
+            let f : ℕ → ℕ = λ i. S .need i * g (startOf S P j + S .minutes i + S .rest) in
+            let parts = sum-same jobs (λ i. only (Q .placed i) (S .need i * g (finish S (Q .plan) i + S .rest)))
+            (λ i. only (P .placed i) (S .need i * g (finish S (P .plan) i + S .rest)) + only (eqb i j) (f i)) (λ i l. one i (eqb i j) refl) in
+            let split = sum-add jobs (λ i. only (P .placed i) (S .need i * g (finish S (P .plan) i + S .rest))) (λ i. only (eqb i j) (f i)) in
+            let until : startOf S P j + keptAt t j ≡ startOf S P j + S .minutes j + S .rest = omega (arith, kept-is) in
+            rw (h .placed) (omega (arith, inserted-sum (h .lists) g, ap (λ (u : ℕ). needAt t j * g u) until, F .by-end g, sum-single jobs f j (R .job)))
           where
             one : (i : ℕ) (b : Bool) → eqb i j ≡ b
-                → only (Q .placed i) (S .need i * g (finish S (Q .plan) i))
-                ≡ only (P .placed i) (S .need i * g (finish S (P .plan) i)) + only (eqb i j) (S .need i * g (startOf S P j + S .minutes i))
+                → only (Q .placed i) (S .need i * g (finish S (Q .plan) i + S .rest))
+                ≡ only (P .placed i) (S .need i * g (finish S (P .plan) i + S .rest)) + only (eqb i j) (S .need i * g (startOf S P j + S .minutes i + S .rest))
             one i true e = let n : P .placed i ≡ false = rw (eqb-true i j e) (R .new) in rw (e, n) (omega arith)
             one i false e = rw e (omega arith)
 

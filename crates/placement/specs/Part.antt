@@ -13,7 +13,7 @@ use Rattle.figures.specs.Figures.{mostJobs, mostModules}
 use Rattle.bits.specs.Bits.{bit, withoutBit}
 use Rattle.schedule.specs.Plan.{Sheet, finish}
 use Rattle.schedule.specs.ListPlan.{PartPlan, noJobs, Follows, partOf}
-use Rattle.tables.specs.Tables.{wholeAt, needAt, minutesAt, arrivalAt, earlierAt, countOf, modulesOf}
+use Rattle.tables.specs.Tables.{wholeAt, needAt, minutesAt, keptAt, arrivalAt, earlierAt, countOf, modulesOf, changeoverOf}
 use Rattle.tables.specs.Part.{Part, partSize, partIn, wordOf}
 use Rattle.placement.specs.Profile.{heldOf, ProfileOf, FirstRoomOf, Inserted}
 
@@ -28,12 +28,12 @@ pub record Figures (S : Sheet) (P : PartPlan) (p : Part) : Type 0 where
   pub last : p .last ≡ P .last
   -- an unplaced job's end is 0
   pub ends : (i : ℕ) → i < S .jobs → getD (p .ends) i 0 ≡ only (P .placed i) (finish S (P .plan) i)
-  -- the module-minutes of the unplaced jobs
-  pub left : p .left ≡ sum (S .jobs) (λ i. only (not (P .placed i)) (S .need i * S .minutes i))
+  -- the module-minutes that the unplaced jobs keep from others
+  pub left : p .left ≡ sum (S .jobs) (λ i. only (not (P .placed i)) (S .need i * (S .minutes i + S .rest)))
   pub profile : ProfileOf p (p .gone) (p .free) (S .modules) (p .last)
-  -- whatever is counted of an end and for each module, the placed jobs sorted by their ends give the same
+  -- whatever is counted for each module of the minute from which it is free again, the placed jobs sorted by their ends give the same
   pub by-end : (g : ℕ → ℕ) → sum (p .placed) (λ k. getD (p .held) k 0 * g (getD (p .until) k 0))
-      ≡ sum (S .jobs) (λ i. only (P .placed i) (S .need i * g (finish S (P .plan) i)))
+      ≡ sum (S .jobs) (λ i. only (P .placed i) (S .need i * g (finish S (P .plan) i + S .rest)))
 
 -- p is the part-plan of the jobs w, which follow one another
 pub record IsPart (S : Sheet) (w : List ℕ) (p : Part) : Type 0 where
@@ -50,11 +50,12 @@ pub record Placeable (t : List ℕ) (p : Part) (j start : ℕ) : Type 0 where
   pub count : p .placed < mostJobs
   pub later : p .last ≤ start
   pub lasts : 0 < minutesAt t j
-  pub fits : start + minutesAt t j < 65536
+  pub fits : start + keptAt t j < 65536
+  pub keeps : keptAt t j ≡ minutesAt t j + changeoverOf t
   pub most : modulesOf t ≤ mostModules
   pub profile : ProfileOf p (p .gone) (p .free) (modulesOf t) (p .last)
   pub room : heldOf p start + needAt t j ≤ modulesOf t
-  pub area : needAt t j * minutesAt t j ≤ p .left
+  pub area : needAt t j * keptAt t j ≤ p .left
 
 -- r has the single numbers of a part-plan, in their order
 pub record Numbers (last free placed gone unplaced left : ℕ) (r : List ℕ) : Type 0 where
@@ -68,18 +69,18 @@ pub record Numbers (last free placed gone unplaced left : ℕ) (r : List ℕ) : 
 -- the single numbers of p with job j placed there
 pub record NumbersWith (t : List ℕ) (p : Part) (j start : ℕ) (r : List ℕ) : Type 0 where
   pub last : getD r 0 0 ≡ start
-  -- how many have ended by then, and how many modules are free beside the new job
+  -- how many have given theirs back by then, and how many modules are free beside the new job
   pub ended : ProfileOf p (getD r 3 0) (getD r 1 0 + needAt t j) (modulesOf t) start
   pub placed : getD r 2 0 ≡ p .placed + 1
   pub unplaced : wholeAt r 4 ≡ withoutBit (p .unplaced) j
-  pub left : wholeAt r 6 ≡ p .left - needAt t j * minutesAt t j
+  pub left : wholeAt r 6 ≡ p .left - needAt t j * keptAt t j
 
--- the lists of the table p with job j, which ends at `end` and needs `width` modules
-pub record ListsWith (p : List ℕ) (j end width : ℕ) (r : List ℕ) : Type 0 where
+-- the lists of the table p with job j, which ends at `end` and keeps `width` modules until minute `until`
+pub record ListsWith (p : List ℕ) (j end until width : ℕ) (r : List ℕ) : Type 0 where
   pub size : length r ≡ partSize
   pub here : getD r j 0 ≡ end
   pub ends : (i : ℕ) → i < mostJobs → i ≢ j → getD r i 0 ≡ getD p i 0
-  pub lists : Inserted (partIn p) (partIn r) end width
+  pub lists : Inserted (partIn p) (partIn r) until width
   pub order : (k : ℕ) → k < partIn p .placed → getD (partIn r .order) k 0 ≡ getD (partIn p .order) k 0
   pub job : getD (partIn r .order) (partIn p .placed) 0 ≡ j
 
@@ -87,13 +88,13 @@ pub record ListsWith (p : List ℕ) (j end width : ℕ) (r : List ℕ) : Type 0 
 pub record Placed (t : List ℕ) (p : Part) (j start : ℕ) (r : Part) : Type 0 where
   pub size : length (r .ends) ≡ partSize
   pub unplaced : r .unplaced ≡ withoutBit (p .unplaced) j
-  pub left : r .left ≡ p .left - needAt t j * minutesAt t j
+  pub left : r .left ≡ p .left - needAt t j * keptAt t j
   pub last : r .last ≡ start
   pub placed : r .placed ≡ p .placed + 1
   pub end : getD (r .ends) j 0 ≡ start + minutesAt t j
   pub ends : (i : ℕ) → i < mostJobs → i ≢ j → getD (r .ends) i 0 ≡ getD (p .ends) i 0
   pub word : wordOf r ≡ wordOf p ++ (j ∷ [])
-  pub lists : Inserted p r (start + minutesAt t j) (needAt t j)
+  pub lists : Inserted p r (start + keptAt t j) (needAt t j)
   pub profile : ProfileOf r (r .gone) (r .free) (modulesOf t) start
 
 -- ---- the next job
@@ -116,7 +117,7 @@ isReady t p j = bit (p .unplaced) j && eqb (bitAnd (earlierAt t j) (p .unplaced)
 pub record FirstPart (t : List ℕ) (p : Part) : Type 0 where
   pub size : length (p .ends) ≡ partSize
   pub unplaced : p .unplaced ≡ 2 ^ countOf t - 1
-  pub left : p .left ≡ sum (countOf t) (λ i. needAt t i * minutesAt t i)
+  pub left : p .left ≡ sum (countOf t) (λ i. needAt t i * keptAt t i)
   pub last : p .last ≡ 0
   pub free : p .free ≡ modulesOf t
   pub placed : p .placed ≡ 0

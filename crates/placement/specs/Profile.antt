@@ -1,4 +1,4 @@
--- The placed jobs sorted by their ends: the k-th ends at until k and then gives back held k modules.
+-- The placed jobs sorted by their ends: the k-th gives back held k modules at minute until k, its end plus the changeover.
 use mathlib.Core.Path.{_≡_}
 use mathlib.Core.Logic.{_⊎_}
 use mathlib.Core.List.{List}
@@ -26,7 +26,7 @@ heldFrom held count i = sum count (λ k. only (leb i k) (getD held k 0))
 abbrev pub Sorted : List ℕ → ℕ → Type 0
 Sorted until count = (i k : ℕ) → i ≤ k → k < count → getD until i 0 ≤ getD until k 0
 
--- the first of them, `gone` in number, have ended by minute t, and so many modules are free then of `modules`
+-- the first of them, `gone` in number, have given theirs back by minute t, and so many modules are free then of `modules`
 pub record Profile (until held : List ℕ) (count gone free modules t : ℕ) : Type 0 where
   pub sorted : Sorted until count
   pub few : count ≤ mostJobs
@@ -40,12 +40,12 @@ pub record FirstRoom (until held : List ℕ) (count modules want t r : ℕ) : Ty
   pub room : heldAt until held count r + want ≤ modules
   pub first : (u : ℕ) → t ≤ u → heldAt until held count u + want ≤ modules → r ≤ u
 
--- r says how many have ended by minute t, and none of the others has
+-- r says how many have given theirs back by minute t, and none of the others has
 pub record EndedBy (until held : List ℕ) (count modules t : ℕ) (r : Ended) : Type 0 where
   pub profile : Profile until held count (r .gone) (r .free) modules t
   pub live : (k : ℕ) → r .gone ≤ k → k < count → t < getD until k 0
 
--- the place of a job that ends at `end` among the others
+-- the place of a job that gives its modules back at minute `end` among the others
 pub record PlaceOf (until : List ℕ) (count end at : ℕ) : Type 0 where
   pub inside : at ≤ count
   pub lower : (k : ℕ) → k < at → getD until k 0 ≤ end
@@ -81,7 +81,7 @@ FirstRoomOf p modules want t r = FirstRoom (p .until) (p .held) (p .placed) modu
 abbrev pub EndedOf : Part → ℕ → ℕ → Ended → Type 0
 EndedOf p modules t r = EndedBy (p .until) (p .held) (p .placed) modules t r
 
--- a job that ends at `end` and holds `width` modules is put in its place among the others
+-- a job that gives `width` modules back at minute `end` is put in its place among the others
 pub record Inserted (p r : Part) (end width : ℕ) : Type 0 where
   pub at : ℕ
   pub place : PlaceOf (p .until) (p .placed) end at

@@ -7,7 +7,7 @@ use native.Mathlib.Omega.{arith}
 use lib.Dec.{eqb}
 use lib.ListN.{length, take, drop, length-take}
 use borrow.Author.Tests.{eqb-true}
-use Rattle.sheet_format.specs.Format.{labelLength, countOf, modulesOf, jobOf}
+use Rattle.sheet_format.specs.Format.{labelLength, countOf, cabinetOf, jobOf}
 use Rattle.sheet_format.proofs.Bounds.{legal}
 use Rattle.sheet.specs.Read.{readRefusal, answered, refused, reading}
 use Rattle.sheet.specs.Label.{labelRefusal, labelStart, labelOf}
@@ -19,8 +19,8 @@ unfolding reading
 few s = go (eqb (readRefusal s) 0) refl
   where
     go : (b : Bool) → eqb (readRefusal s) 0 ≡ b
-        → cond b (answered (countOf s) (jobOf s) (modulesOf s)) (refused (readRefusal s)) .count ≤ 20
-    go true e = reads s (eqb-true (readRefusal s) 0 e) .trailer .few
+        → cond b (answered (countOf s) (jobOf s) (cabinetOf s)) (refused (readRefusal s)) .count ≤ 20
+    go true e = reads s (eqb-true (readRefusal s) 0 e) .trailer .figures .few
     go false e = omega arith
 
 pub label-short : (s : List ℕ) (j : ℕ) → length (labelOf s j) ≤ 16

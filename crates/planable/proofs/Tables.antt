@@ -1,11 +1,11 @@
 -- The figures of a sheet that reads: within their ranges, and in a table.
-use mathlib.Core.Path.{_≡_, refl, sym, ap, subst}
+use mathlib.Core.Path.{_≡_, sym, ap, subst}
 use mathlib.Core.Bool.{false}
 use mathlib.Core.List.{List}
 use Prim.Native.Nat.{ℕ, _≤_, _<_}
 use native.Mathlib.Omega.{arith}
 use lib.ListN.{length}
-use Rattle.figures.specs.Figures.{mostJobs, mostModules}
+use Rattle.figures.specs.Figures.{mostJobs, mostModules, longestChangeover}
 use Rattle.bits.specs.Bits.{bit}
 use Rattle.schedule.specs.Plan.{overWide, Lasting, Needing}
 use Rattle.schedule.proofs.Existence.{narrow-says}
@@ -16,7 +16,7 @@ use Rattle.sheet_format.proofs.Lists.{length-places, job-in-place}
 use Rattle.sheet.specs.declared.Reading.{Reading}
 use Rattle.sheet.specs.Read.{readRefusal, reading}
 use Rattle.sheet.proofs.Answers.{read-answer, reads}
-use Rattle.job_table.specs.Table.{TableOf}
+use Rattle.job_table.specs.Table.{SumsFit, TableOf}
 use Rattle.planable.specs.Planable.{sheetIn}
 use Rattle.schedule.proofs.Same.{SameJobs}
 
@@ -25,17 +25,20 @@ module _ (s : List ℕ) (e : readRefusal s ≡ 0) where
   r = reading s
 
   pub few-read : r .count ≤ mostJobs
-  few-read = subst (λ (r : Reading). r .count ≤ mostJobs) (sym (read-answer s e)) (reads s e .trailer .few)
+  few-read = subst (λ (r : Reading). r .count ≤ mostJobs) (sym (read-answer s e)) (reads s e .trailer .figures .few)
 
   pub some-read : 0 < r .modules
-  some-read = subst (λ (r : Reading). 0 < r .modules) (sym (read-answer s e)) (reads s e .trailer .some)
+  some-read = subst (λ (r : Reading). 0 < r .modules) (sym (read-answer s e)) (reads s e .trailer .figures .some)
 
   pub most-read : r .modules ≤ mostModules
-  most-read = subst (λ (r : Reading). r .modules ≤ mostModules) (sym (read-answer s e)) (reads s e .trailer .most)
+  most-read = subst (λ (r : Reading). r .modules ≤ mostModules) (sym (read-answer s e)) (reads s e .trailer .figures .most)
+
+  pub rests-read : r .changeover ≤ longestChangeover
+  rests-read = subst (λ (r : Reading). r .changeover ≤ longestChangeover) (sym (read-answer s e)) (reads s e .trailer .figures .rests)
 
   pub places-read : length (r .jobs) ≡ mostJobs
   places-read = subst (λ (r : Reading). length (r .jobs) ≡ mostJobs) (sym (read-answer s e))
-      (length-places (countOf s) (jobOf s) (reads s e .trailer .few))
+      (length-places (countOf s) (jobOf s) (reads s e .trailer .figures .few))
 
   pub job-read : (j : ℕ) → j < r .count → Legal (countOf s) (jobsIn (r .jobs) j)
   job-read = subst (λ (r : Reading). (j : ℕ) → j < r .count → Legal (countOf s) (jobsIn (r .jobs) j)) (sym (read-answer s e))
@@ -48,6 +51,9 @@ module _ (s : List ℕ) (e : readRefusal s ≡ 0) where
   pub needing-read : Needing (sheetIn s)
   needing-read j l = job-read j l .modules-some
 
+  pub sums-read : SumsFit r
+  sums-read j l = omega (arith, job-read j l .minutes-most, rests-read)
+
   -- ---- in a table
 
   module _ (t : List ℕ) (h : TableOf r t) where
@@ -55,11 +61,11 @@ module _ (s : List ℕ) (e : readRefusal s ≡ 0) where
     same-jobs = record {
       jobs = h .count;
       modules = h .modules;
-      rest = refl;
-      need = λ j l. h .need j (omega (arith, few-read, h .count));
-      minutes = λ j l. h .minutes j (omega (arith, few-read, h .count));
-      before = λ i j k l. ap (λ (x : ℕ). bit x i) (h .earlier j (omega (arith, few-read, h .count)));
-      arrival = λ j l. h .arrival j (omega (arith, few-read, h .count));
+      rest = h .changeover;
+      need = λ j l. h .need j (omega (arith, h .count));
+      minutes = λ j l. h .minutes j (omega (arith, h .count));
+      before = λ i j k l. ap (λ (x : ℕ). bit x i) (h .earlier j (omega (arith, h .count)));
+      arrival = λ j l. h .arrival j (omega (arith, h .count));
     }
 
     pub fit-table : overWide (sheetIn s) ≡ false → Fit t
@@ -79,4 +85,8 @@ module _ (s : List ℕ) (e : readRefusal s ≡ 0) where
       arrived = λ j l.
           let k : j < r .count = omega (arith, h .count) in
           omega (arith, same-jobs .arrival j l, job-read j k .arrival);
+      rests = omega (arith, rests-read, h .changeover);
+      keeps = λ j l.
+          let k : j < r .count = omega (arith, h .count) in
+          omega (arith, same-jobs .minutes j l, h .kept j k, h .changeover);
     }

@@ -1,4 +1,4 @@
--- The checks that the planning calls share: C-1 to C-9.
+-- The checks that the planning calls share: C-1 to C-9 and C-19.
 use mathlib.Core.Bool.{Bool, true, false}
 use mathlib.Core.List.{List, [], _∷_, _++_}
 use mathlib.Core.Option.{none, some}
@@ -20,7 +20,7 @@ sheetOn r = record {
   minutes = λ j. jobsIn (r .jobs) j .minutes;
   before = λ i j. bit (jobsIn (r .jobs) j .earlier) i;
   arrival = λ j. jobsIn (r .jobs) j .arrival;
-  rest = 0;
+  rest = r .changeover;
 }
 
 -- the sheet that the bytes read as
@@ -38,7 +38,7 @@ orderChecks S = (8, overWide S) ∷ (9, noOrder S) ∷ []
 unfoldable pub orderRefusal : Sheet → ℕ
 orderRefusal S = firstFailing (orderChecks S)
 
--- 1 to 9
+-- 1 to 9, with 19 behind 3
 abbrev pub planableChecks : List ℕ → List Check
 planableChecks s = readChecks s ++ orderChecks (sheetIn s)
 

@@ -7,7 +7,7 @@ use Rattle.job_table.specs.Table.{TableOf}
 use Rattle.planable.specs.declared.Checked.{Checked}
 use Rattle.planable.specs.Planable.{planableRefusal}
 
--- r is the first refusal of 1 to 9 of the bytes s, and where it is 0 the table is the sheet's
+-- r is the first refusal of 1 to 9 and 19 of the bytes s, and where it is 0 the table is the sheet's
 pub record CheckedOf (s : List ℕ) (r : Checked) : Type 0 where
   pub refusal : r .refusal ≡ planableRefusal s
   pub table : r .refusal ≡ 0 → TableOf (reading s) (r .jobs)

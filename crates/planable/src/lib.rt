@@ -8,7 +8,7 @@ ghost use Rattle.planable.specs.Results.{CheckedOf};
 use tables::JOB_PLACES;
 use tables::Jobs;
 
-// The first refusal of 1 to 9, or 0 with the sheet's job table.
+// The first refusal of 1 to 9 and 19, or 0 with the sheet's job table.
 pub struct Checked {
     pub refusal: u32,
     pub jobs: [u16; JOB_PLACES],

@@ -25,11 +25,12 @@ use Rattle.card.proofs.OnCard.{card-valid, card-end}
 use Rattle.checking.specs.Checking.{firstFailing, FirstFails}
 use Rattle.checking.proofs.Order.{all-passed, both-passed, none-failing, first-behind, refused-exactly}
 use Rattle.sheet.specs.Read.{readChecks, readRefusal, reading}
+use Rattle.job_table.specs.Table.{TableOf}
 use Rattle.job_table.proofs.Copies.{has-table}
 use Rattle.planable.specs.Planable.{sheetIn, noOrder, planableChecks, planableRefusal}
 use Rattle.schedule.proofs.Same.{same-back, order-same, finish-same}
 use Rattle.planable.proofs.Circles.{circular-when, ordered-when}
-use Rattle.planable.proofs.Tables.{lasting-read}
+use Rattle.planable.proofs.Tables.{few-read, lasting-read}
 use Rattle.planable.proofs.Planable.{Passes, passes, Ready, ready-table}
 use Rattle.planner.specs.Planning.{roomChecks, planChecks, planRefusal, bestCard, cardAfter}
 use Rattle.planner.specs.Planned.{Answered}
@@ -136,11 +137,14 @@ module _ (s card : List ℕ) (e : planRefusal s (length card) ≡ 0) where
 
   -- ---- by a table of the sheet
 
+  abbrev table : (t : List ℕ) × TableOf (reading s) t
+  table = has-table (reading s) (few-read s (p .reads))
+
   abbrev t : List ℕ
-  t = has-table (reading s) .0
+  t = table .0
 
   abbrev ready : Ready s t
-  ready = ready-table s t front (has-table (reading s) .1)
+  ready = ready-table s t front (table .1)
 
   order : Order (sheetOf t) o
   order = order-same (same-back (ready .same)) o (best .order)

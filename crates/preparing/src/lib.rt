@@ -99,6 +99,6 @@ pub fn put_lanes(prepared: &mut Prepared, jobs: &Jobs, end: u16)
     requires { ⌜ (Begun (now jobs) (now prepared)) × (Fit (now jobs)) ⌝ }
     ensures { λ _. ⌜ Tabled (now (jobs .entry)) (now (prepared .exit)) ⌝ }
 {
-    let lanes = values::lanes_of(jobs, end);
+    let lanes = values::lanes_of(jobs, tables::closing(jobs, end));
     put(prepared, tables::LANES, &lanes.of);
 }

@@ -4,7 +4,6 @@ use mathlib.Core.Bool.{Bool, true, false, cond, not, _&&_, _||_, and-false}
 use mathlib.Core.List.{List, []}
 use Prim.Native.Nat.{ℕ, _+_, _<_}
 use native.Mathlib.Omega.{arith}
-use native.Mathlib.Nat.{add-zero}
 use lib.Dec.{ltb, eqb}
 use lib.ListN.{length, getD, set, replicate, length-set, length-replicate}
 use lib.Seq.{getD-set-same, getD-set-other}
@@ -17,7 +16,7 @@ use Rattle.bits.proofs.Digits.{bit-none, bit-only}
 use Rattle.bits.proofs.Sets.{bit-setOf}
 use Rattle.schedule.specs.Plan.{Sheet, finish}
 use Rattle.schedule.specs.ListPlan.{PartPlan, occupies, free, lowest, place, placeAll, partOf}
-use Rattle.tables.specs.Tables.{sheetOf, needAt, minutesAt, countOf, modulesOf}
+use Rattle.tables.specs.Tables.{sheetOf, needAt, minutesAt, countOf, modulesOf, changeoverOf}
 use Rattle.tables.proofs.Laws.{zeros}
 use Rattle.replay.specs.declared.Slots.{Slots}
 use Rattle.free_modules.specs.Lowest.{outside, lowestOutside}
@@ -69,26 +68,26 @@ module _ (t : List ℕ) where
     -- ---- the free modules
 
     busy-is : (u m i : ℕ) → m < modulesOf t
-        → bit (only (ltb u (getD (s .end) i 0)) (getD (s .modules) i 0)) m ≡ (occupies S P u i && P .plan .uses i m)
+        → bit (only (ltb u (getD (s .end) i 0 + S .rest)) (getD (s .modules) i 0)) m ≡ (occupies S P u i && P .plan .uses i m)
     busy-is u m i l =
-        bit-only (ltb u (getD (s .end) i 0)) (getD (s .modules) i 0) m
-        ∙ ap₂ (λ (x y : ℕ). ltb u x && bit y m) (is .end i) (is .modules i) ∙ go (P .placed i)
+        bit-only (ltb u (getD (s .end) i 0 + S .rest)) (getD (s .modules) i 0) m
+        ∙ ap₂ (λ (x y : ℕ). ltb u (x + S .rest) && bit y m) (is .end i) (is .modules i) ∙ go (P .placed i)
       where
-        go : (b : Bool) → (ltb u (only b (finish S (P .plan) i)) && bit (only b (setOf (modulesOf t) (P .plan .uses i))) m)
-            ≡ ((b && ltb u (finish S (P .plan) i + 0)) && P .plan .uses i m)
-        go true = ap₂ (λ (x : ℕ) b. ltb u x && b) (sym (add-zero (finish S (P .plan) i))) (bit-setOf (modulesOf t) (P .plan .uses i) m l)
-        go false = ap (λ b. ltb u 0 && b) (bit-none m) ∙ and-false (ltb u 0)
+        go : (b : Bool) → (ltb u (only b (finish S (P .plan) i) + S .rest) && bit (only b (setOf (modulesOf t) (P .plan .uses i))) m)
+            ≡ ((b && ltb u (finish S (P .plan) i + S .rest)) && P .plan .uses i m)
+        go true = ap (λ b. ltb u (finish S (P .plan) i + S .rest) && b) (bit-setOf (modulesOf t) (P .plan .uses i) m l)
+        go false = ap (λ b. ltb u (0 + S .rest) && b) (bit-none m) ∙ and-false (ltb u (0 + S .rest))
 
-    free-is : (u m : ℕ) → m < modulesOf t → outside (busyAt s (countOf t) u) m ≡ free S P u m
+    free-is : (u m : ℕ) → m < modulesOf t → outside (busyAt s (countOf t) (changeoverOf t) u) m ≡ free S P u m
     free-is u m l =
-        ap not (bit-union (countOf t) (λ i. only (ltb u (getD (s .end) i 0)) (getD (s .modules) i 0)) m
+        ap not (bit-union (countOf t) (λ i. only (ltb u (getD (s .end) i 0 + S .rest)) (getD (s .modules) i 0)) m
         ∙ any-same (countOf t) _ (λ i. occupies S P u i && P .plan .uses i m) (λ i k. busy-is u m i l))
 
     -- ---- one slot more
 
     module _ (j u : ℕ) (l : j < mostJobs) where
       abbrev taken : ℕ
-      taken = lowestOutside (busyAt s (countOf t) u) (modulesOf t) (needAt t j)
+      taken = lowestOutside (busyAt s (countOf t) (changeoverOf t) u) (modulesOf t) (needAt t j)
 
       abbrev Q : PartPlan
       Q = place S P j u
@@ -107,7 +106,7 @@ module _ (t : List ℕ) where
             (λ i e. rw e (ap (λ (k : ℕ). u + minutesAt t k) (sym (eqb-true i j e)))) (λ i e. rw e);
         modules = placed-more (s .modules) j taken (P .placed) (λ i. setOf (modulesOf t) (P .plan .uses i)) (λ i. setOf (modulesOf t) (Q .plan .uses i))
             (omega (arith, is .modules-length)) (is .modules)
-            (λ i e. lowest-same (modulesOf t) (outside (busyAt s (countOf t) u)) (free S P u) (needAt t j) (free-is u)
+            (λ i e. lowest-same (modulesOf t) (outside (busyAt s (countOf t) (changeoverOf t) u)) (free S P u) (needAt t j) (free-is u)
             ∙ ap (uses-where i) (sym e))
             (λ i e. ap (uses-where i) (sym e));
         start-length = length-set (s .start) j u ∙ is .start-length;

@@ -10,19 +10,21 @@ use lib.ListN.{length, getD, take, drop, length-take}
 use lib.Seq.{getD-take, take-take, split-at, take-suc}
 use borrow.Author.Tests.{eqb-true}
 use Rattle.counting.specs.Counting.{only}
+use Rattle.counting.proofs.Tests.{only-within}
 use Rattle.figures.specs.Figures.{mostJobs, lastEnd}
 use Rattle.bits.specs.Bits.{setOf}
 use Rattle.schedule.specs.Plan.{Sheet, finish}
-use Rattle.schedule.specs.ListPlan.{Order, PartPlan, Follows, ready, startOf, place, emptyPart, placeAll, partOf}
+use Rattle.schedule.specs.ListPlan.{Order, PartPlan, noJobs, Follows, ready, startOf, place, emptyPart, placeAll, partOf}
 use Rattle.schedule.proofs.Starts.{ready-says}
 use Rattle.schedule.proofs.Sound.{completes-all, order-completes}
 use Rattle.schedule.proofs.Prefixes.{order-split, part-more}
-use Rattle.tables.specs.Tables.{sheetOf, minutesAt, countOf, Fit}
+use Rattle.tables.specs.Tables.{sheetOf, minutesAt, countOf, changeoverOf, Fit}
 use Rattle.tables.specs.Part.{Part}
+use Rattle.tables.proofs.Ends.{ends-short}
 use Rattle.placement.specs.Part.{StartFor, IsPart, Placeable, Placed}
 use Rattle.placement.proofs.Parts.{start-is, start-short, placeable, placed-part}
 use Rattle.replay.specs.declared.Slots.{Slots}
-use Rattle.replay.specs.Slots.{withJob, Replayed}
+use Rattle.replay.specs.Slots.{Ending, withJob, Replayed}
 use Rattle.replay.proofs.PlacedSlots.{SlotsOf, slot-more}
 
 -- ---- one turn: the order's next job is placed
@@ -82,6 +84,13 @@ module _ {t order : List ℕ} {k j : ℕ} (turn : Turn t order k j) where
         ap (λ (x : ℕ). place T (partOf T w) j x) start ∙ sym (part-more T w j) ∙ ap (λ (x : List ℕ). partOf T x) (sym word-more) in
         subst (λ (x : Slots). SlotsOf T (partOf T (take (k + 1) order)) x) (sym h)
         (subst (λ (X : PartPlan). SlotsOf T X (withJob t s j u)) next (slot-more t (partOf T w) s g j u next-low))
+
+-- the ends with the changeover are small
+pub ends-fit : {t : List ℕ} {s : Slots} (w : List ℕ) → Fit t → Follows (sheetOf t) noJobs w → SlotsOf (sheetOf t) (partOf (sheetOf t) w) s
+    → Ending s (countOf t) (changeoverOf t)
+ends-fit {t} w fit f g i l =
+    let short = only-within (partOf (sheetOf t) w .placed i) _ lastEnd (ends-short t fit w f i l) in
+    omega (arith, g .end i, fit .rests)
 
 -- ---- all turns
 

@@ -9,7 +9,7 @@ use Rattle.counting.specs.Counting.{only}
 use Rattle.bits.specs.Bits.{setOf}
 use Rattle.schedule.specs.Plan.{Sheet, finish}
 use Rattle.schedule.specs.ListPlan.{listPlan}
-use Rattle.tables.specs.Tables.{needAt, minutesAt, countOf, modulesOf}
+use Rattle.tables.specs.Tables.{needAt, minutesAt, countOf, modulesOf, changeoverOf}
 use Rattle.free_modules.specs.Lowest.{lowestOutside}
 use Rattle.replay.specs.declared.Slots.{Slots}
 
@@ -26,13 +26,17 @@ unfoldable pub union : ℕ → (ℕ → ℕ) → ℕ
 union zero f = 0
 union (suc n) f = bitOr (union n f) (f n)
 
--- the modules of the jobs that end after minute u
-abbrev pub busyAt : Slots → ℕ → ℕ → ℕ
-busyAt s count u = union count (λ i. only (ltb u (getD (s .end) i 0)) (getD (s .modules) i 0))
+-- the modules of the jobs that run or rest at minute u
+abbrev pub busyAt : Slots → ℕ → ℕ → ℕ → ℕ
+busyAt s count rest u = union count (λ i. only (ltb u (getD (s .end) i 0 + rest)) (getD (s .modules) i 0))
+
+-- a job's end plus the rest is a number of 16 bits
+abbrev pub Ending : Slots → ℕ → ℕ → Type 0
+Ending s count rest = (i : ℕ) → i < count → getD (s .end) i 0 + rest < 65536
 
 -- the slots with job j placed from minute u on, on the lowest of the modules that are free then
 abbrev pub withJob : List ℕ → Slots → ℕ → ℕ → Slots
-withJob t s j u = withSlot s j u (u + minutesAt t j) (lowestOutside (busyAt s (countOf t) u) (modulesOf t) (needAt t j))
+withJob t s j u = withSlot s j u (u + minutesAt t j) (lowestOutside (busyAt s (countOf t) (changeoverOf t) u) (modulesOf t) (needAt t j))
 
 -- the slots of the list plan of the order o
 pub record Replayed (S : Sheet) (o : List ℕ) (s : Slots) : Type 0 where

@@ -4,8 +4,8 @@ ghost use Prim.Native.Nat.{_+_, _<_, _≤_};
 ghost use lib.ListN.{take};
 ghost use Rattle.figures.specs.Figures.{mostJobs};
 ghost use Rattle.schedule.specs.ListPlan.{Order};
-ghost use Rattle.tables.specs.Tables.{sheetOf, minutesAt, countOf, Fit};
-ghost use Rattle.replay.specs.Slots.{withSlot, busyAt, withJob, Replayed};
+ghost use Rattle.tables.specs.Tables.{sheetOf, minutesAt, countOf, changeoverOf, Fit};
+ghost use Rattle.replay.specs.Slots.{withSlot, busyAt, Ending, withJob, Replayed};
 use figures::MOST_JOBS;
 use tables::Jobs;
 
@@ -28,15 +28,15 @@ fn with_slot(slots: Slots, j: usize, start: u16, end: u16, modules: u64) -> Slot
     next
 }
 
-// The modules of the jobs that end after minute t.
-fn busy_at(slots: Slots, count: usize, t: u16) -> u64
-    requires { ⌜ count ≤ mostJobs ⌝ }
-    ensures { λ r. ⌜ r ≡ busyAt slots count t ⌝ }
+// The modules of the jobs that run or rest at minute t.
+fn busy_at(slots: Slots, count: usize, rest: u16, t: u16) -> u64
+    requires { ⌜ (count ≤ mostJobs) × (Ending slots count rest) ⌝ }
+    ensures { λ r. ⌜ r ≡ busyAt slots count rest t ⌝ }
 {
     let mut set: u64 = 0;
     let mut i: usize = 0;
     while i < count {
-        set = free_modules::with_busy(set, slots.modules[i], slots.end[i], t);
+        set = free_modules::with_busy(set, slots.modules[i], slots.end[i] + rest, t);
         i += 1;
     }
     set
@@ -44,12 +44,14 @@ fn busy_at(slots: Slots, count: usize, t: u16) -> u64
 
 // The slots with job j placed from minute `start` on, on the lowest of the modules that are free then.
 fn with_job(slots: Slots, jobs: &Jobs, j: usize, start: u16) -> Slots
-    requires { ⌜ (Fit (now jobs)) × ((j < mostJobs) × (start + minutesAt (now jobs) j < 65536)) ⌝ }
+    requires { ⌜ ((Fit (now jobs)) × (Ending slots (countOf (now jobs)) (changeoverOf (now jobs))))
+        × ((j < mostJobs) × (start + minutesAt (now jobs) j < 65536)) ⌝ }
     ensures { λ r. ⌜ r ≡ withJob (now (jobs .entry)) slots j start ⌝ }
 {
     let want = tables::need(jobs, j);
     let lasts = tables::minutes(jobs, j);
-    let busy = busy_at(slots, tables::count(jobs), start);
+    let rest = tables::changeover(jobs);
+    let busy = busy_at(slots, tables::count(jobs), rest, start);
     let set = free_modules::lowest_free(busy, tables::modules(jobs), want);
     with_slot(slots, j, start, start + lasts, set)
 }

@@ -41,7 +41,7 @@ unfolding
 e1-output = refl
 
 -- E2, no jobs and one module: plan 0 0 1
-pub e2-output : reportOf (0 ∷ 0 ∷ 0 ∷ 0 ∷ 0 ∷ 0 ∷ 1 ∷ 0 ∷ []) ≡ 112 ∷ 108 ∷ 97 ∷ 110 ∷ 32 ∷ 48 ∷ 32 ∷ 48 ∷ 32 ∷ 49 ∷ 10 ∷ []
+pub e2-output : reportOf (0 ∷ 0 ∷ 0 ∷ 0 ∷ 0 ∷ 0 ∷ 1 ∷ 0 ∷ 0 ∷ 0 ∷ []) ≡ 112 ∷ 108 ∷ 97 ∷ 110 ∷ 32 ∷ 48 ∷ 32 ∷ 48 ∷ 32 ∷ 49 ∷ 10 ∷ []
 unfolding
     reading firstFailing outside faulty wrongLabel any sum places joined recordAt numberAt largest every bit setOf overWide
     ready firstMinute startOf placeAll ordersAfter earliestOf noOrder planRefusal digit place decimal line planLine
@@ -62,13 +62,13 @@ none-output = refl
 
 -- one job, A, of so many modules with these earlier jobs, in a cabinet of one
 abbrev one : ℕ → ℕ → List ℕ
-one need earlier = 65 ∷ 1 ∷ need ∷ 10 ∷ 0 ∷ earlier ∷ 0 ∷ 0 ∷ 0 ∷ 0 ∷ 0 ∷ 0 ∷ 0 ∷ 1 ∷ 0 ∷ 0 ∷ 0 ∷ 1 ∷ 0 ∷ 1 ∷ 0 ∷ []
+one need earlier = 65 ∷ 1 ∷ need ∷ 10 ∷ 0 ∷ earlier ∷ 0 ∷ 0 ∷ 0 ∷ 0 ∷ 0 ∷ 0 ∷ 0 ∷ 1 ∷ 0 ∷ 0 ∷ 0 ∷ 1 ∷ 0 ∷ 1 ∷ 0 ∷ 0 ∷ 0 ∷ []
 
 -- two jobs, A and B, each before the other; A needs so many modules
 abbrev two : ℕ → List ℕ
 two need =
     65 ∷ 66 ∷ 1 ∷ need ∷ 10 ∷ 0 ∷ 2 ∷ 0 ∷ 0 ∷ 0 ∷ 0 ∷ 0 ∷ 0 ∷ 0 ∷ 1 ∷ 1 ∷ 10 ∷ 0 ∷ 1 ∷ 0 ∷ 0 ∷ 0 ∷ 0 ∷ 0 ∷ 0 ∷ 0
-    ∷ 2 ∷ 0 ∷ 0 ∷ 0 ∷ 2 ∷ 0 ∷ 1 ∷ 0 ∷ []
+    ∷ 2 ∷ 0 ∷ 0 ∷ 0 ∷ 2 ∷ 0 ∷ 1 ∷ 0 ∷ 0 ∷ 0 ∷ []
 
 -- E3, a job that is too wide: refused 8. E4, two jobs each before the other: refused 9. E5, a job before itself: refused 9.
 -- E6, E4 with one job too wide: refused 8.

@@ -47,12 +47,12 @@ first-small k (c ∷ cs) u = either (c .1) (u .0) (first-small k cs (u .1))
     either true l m = l
     either false l m = m
 
-pub refusal-small : (s : List ℕ) → planRefusal s longestCard ≤ 10
+pub refusal-small : (s : List ℕ) → planRefusal s longestCard ≤ 19
 unfolding planRefusal
 refusal-small s =
-    let l : (n : ℕ) → T (leb n 10) → n ≤ 10 = λ n t. leb→le n 10 t in
-    first-small 10 (planChecks s longestCard)
-    (l 1 tt, (l 2 tt, (l 3 tt, (l 4 tt, (l 5 tt, (l 6 tt, (l 7 tt, (l 8 tt, (l 9 tt, (l 10 tt, tt))))))))))
+    let l : (n : ℕ) → T (leb n 19) → n ≤ 19 = λ n t. leb→le n 19 t in
+    first-small 19 (planChecks s longestCard)
+    (l 1 tt, (l 2 tt, (l 3 tt, (l 19 tt, (l 4 tt, (l 5 tt, (l 6 tt, (l 7 tt, (l 8 tt, (l 9 tt, (l 10 tt, tt)))))))))))
 
 -- ---- the figures of a plan
 

@@ -1,4 +1,5 @@
--- The area bound: module-minutes that are gone or still needed, over the modules, are a lower bound on every completion's end.
+-- The area bound: module-minutes that are gone or still kept, over the modules, are a lower bound on every completion's end and the rest
+-- behind it.
 use mathlib.Core.Path.{_≡_, refl, sym, ap, _∙_}
 use mathlib.Core.Logic.{_⊎_, inl, inr}
 use mathlib.Core.Bool.{Bool, true, false, not, _&&_}
@@ -16,7 +17,7 @@ use Rattle.counting.proofs.Counts.{count-insert, sum-alike}
 use Rattle.schedule.specs.Plan.{Sheet, finish, planEnd, Narrow}
 use Rattle.schedule.specs.ListPlan.{PartPlan, occupies, startOf, place, placeAll, occupied}
 use Rattle.schedule.specs.PartPlans.{Sound, Completes, nextStart}
-use Rattle.schedule.specs.Bounds.{todo, work, availableFrom}
+use Rattle.schedule.specs.Bounds.{kept, todo, work, availableFrom}
 use Rattle.schedule.proofs.Starts.{Ready, ready-says, start-may}
 use Rattle.schedule.proofs.Sound.{part-end-le, place-sound, completes-all}
 use Rattle.schedule.proofs.Occupied.{free-count}
@@ -47,14 +48,14 @@ module _ (S : Sheet) (P : PartPlan) (h : Sound S P) (l : ℕ) (m : P .last ≤ l
             → todo S P l i ≤ todo S (place S P j t) t i + only (occupies S P l i) (S .need i) * d
         go true q p o =
             let n : P .placed i ≡ false = rw (eqb-true i j q) (r .new) in
-            let z : t + S .minutes i - t ≡ S .minutes i = omega arith in
+            let z : t + S .minutes i + S .rest - t ≡ kept S i = omega arith in
             rw (q, n, z) (omega arith)
         go false q (inr p) o = rw (q, p) (omega arith)
         go false q (inl p) (inl o) =
-            let f = finish S (P .plan) i in
+            let f = finish S (P .plan) i + S .rest in
             rw (q, p, o) (le-trans (mul-le-mul-left (S .need i) (omega arith)) (le-of-eq (mul-add (S .need i) (f - t) d)))
         go false q (inl p) (inr o) =
-            let z : finish S (P .plan) i - l ≡ 0 = omega (arith, ltb-false l (finish S (P .plan) i + S .rest) o) in
+            let z : finish S (P .plan) i + S .rest - l ≡ 0 = omega (arith, ltb-false l (finish S (P .plan) i + S .rest) o) in
             rw (q, p, o, z) (omega arith)
 
     work-step : work S P l ≤ work S (place S P j t) t
@@ -67,10 +68,11 @@ module _ (S : Sheet) (P : PartPlan) (h : Sound S P) (l : ℕ) (m : P .last ≤ l
 
   -- ---- every job is placed
 
-  work-end : ((i : ℕ) → i < S .jobs → P .placed i ≡ true) → l ≤ planEnd S (P .plan) → work S P l ≤ S .modules * planEnd S (P .plan)
+  work-end : ((i : ℕ) → i < S .jobs → P .placed i ≡ true) → l ≤ planEnd S (P .plan)
+      → work S P l ≤ S .modules * (planEnd S (P .plan) + S .rest)
   unfolding work passed
   work-end full k =
-      let u = planEnd S (P .plan) in
+      let u = planEnd S (P .plan) + S .rest in
       let d = u - l in
       let each = sum-le (S .jobs) (todo S P l) (passed d) (λ i n. one i n (true-or-false (ltb l (finish S (P .plan) i + S .rest)))) in
       let e : u ≡ l + d = omega arith in
@@ -79,16 +81,16 @@ module _ (S : Sheet) (P : PartPlan) (h : Sound S P) (l : ℕ) (m : P .last ≤ l
     where
       one : (i : ℕ) → i < S .jobs
           → (ltb l (finish S (P .plan) i + S .rest) ≡ true) ⊎ (ltb l (finish S (P .plan) i + S .rest) ≡ false)
-          → todo S P l i ≤ only (occupies S P l i) (S .need i) * (planEnd S (P .plan) - l)
+          → todo S P l i ≤ only (occupies S P l i) (S .need i) * (planEnd S (P .plan) + S .rest - l)
       one i n (inl q) = rw (full i n, q) (mul-le-mul-left (S .need i) (omega (arith, le-largest (S .jobs) (finish S (P .plan)) i n)))
       one i n (inr q) =
-          let z : finish S (P .plan) i - l ≡ 0 = omega (arith, ltb-false l (finish S (P .plan) i + S .rest) q) in
+          let z : finish S (P .plan) i + S .rest - l ≡ 0 = omega (arith, ltb-false l (finish S (P .plan) i + S .rest) q) in
           rw (full i n, q, z) (omega arith)
 
--- Whatever order completes P: its end times the modules is at least the work of P, reckoned from any minute
+-- Whatever order completes P: its end and the rest, times the modules, is at least the work of P, reckoned from any minute
 -- between the last start and the next.
 pub area-bound : (S : Sheet) → Narrow S → (P : PartPlan) → Sound S P → (l : ℕ) → P .last ≤ l
-    → (o : List ℕ) → Completes S P o → l ≤ nextStart S P o → work S P l ≤ S .modules * planEnd S (placeAll S P o .plan)
+    → (o : List ℕ) → Completes S P o → l ≤ nextStart S P o → work S P l ≤ S .modules * (planEnd S (placeAll S P o .plan) + S .rest)
 unfolding placeAll
 area-bound S w P h l m [] c k = work-end S P h l m (completes-all S P [] c) (le-trans k (part-end-le S P))
 area-bound S w P h l m (j ∷ o) (f, c) k =
@@ -103,8 +105,9 @@ area-bound S w P h l m (j ∷ o) (f, c) k =
 
 -- The left side of (6) is no more than the work at the last start, so that the area bound cuts wherever (6) does.
 -- (7), with (8), is (6) with the placed jobs' module-minutes taken from both sides.
+-- A rest counts as minutes of the job before it.
 pub formula-six : (S : Sheet) (P : PartPlan) → Sound S P
-    → sum (S .modules) (availableFrom S P) + sum (S .jobs) (λ i. only (not (P .placed i)) (S .need i * S .minutes i)) ≤ work S P (P .last)
+    → sum (S .modules) (availableFrom S P) + sum (S .jobs) (λ i. only (not (P .placed i)) (S .need i * kept S i)) ≤ work S P (P .last)
 unfolding work
 formula-six S P h =
     let n = S .jobs in
@@ -114,31 +117,31 @@ formula-six S P h =
     let split = sum-add N (λ m. P .last) (λ m. sum n (λ i. left i m)) in
     let flat = sum-const N (P .last) in
     let swap = sum-swap n N left in
-    let all : sum n (λ i. sum N (left i)) + sum n (λ i. only (not (P .placed i)) (S .need i * S .minutes i)) ≡ sum n (todo S P (P .last)) =
-    sym (sum-add n (λ i. sum N (left i)) (λ i. only (not (P .placed i)) (S .need i * S .minutes i)))
+    let all : sum n (λ i. sum N (left i)) + sum n (λ i. only (not (P .placed i)) (S .need i * kept S i)) ≡ sum n (todo S P (P .last)) =
+    sym (sum-add n (λ i. sum N (left i)) (λ i. only (not (P .placed i)) (S .need i * kept S i)))
     ∙ sum-same n _ _ (λ i l. two i l (true-or-false (P .placed i))) in
     omega arith
   where
     -- what is left of job i on module m at the last start
     left : ℕ → ℕ → ℕ
-    left i m = only (P .placed i && P .plan .uses i m) (finish S (P .plan) i - P .last)
+    left i m = only (P .placed i && P .plan .uses i m) (finish S (P .plan) i + S .rest - P .last)
 
     one : (i m : ℕ) → i < S .jobs → (P .placed i && P .plan .uses i m) ≡ true
-        → finish S (P .plan) i ≤ P .last + sum (S .jobs) (λ i. left i m)
+        → finish S (P .plan) i + S .rest ≤ P .last + sum (S .jobs) (λ i. left i m)
     one i m l e =
-        let a : finish S (P .plan) i - P .last ≤ sum (S .jobs) (λ i. left i m) = rw e at (le-sum (S .jobs) (λ i. left i m) i l) in
+        let a : finish S (P .plan) i + S .rest - P .last ≤ sum (S .jobs) (λ i. left i m) = rw e at (le-sum (S .jobs) (λ i. left i m) i l) in
         omega arith
 
     two : (i : ℕ) → i < S .jobs → (P .placed i ≡ true) ⊎ (P .placed i ≡ false)
-        → sum (S .modules) (left i) + only (not (P .placed i)) (S .need i * S .minutes i) ≡ todo S P (P .last) i
+        → sum (S .modules) (left i) + only (not (P .placed i)) (S .need i * kept S i) ≡ todo S P (P .last) i
     two i l (inl e) =
-        let d = finish S (P .plan) i - P .last in
+        let d = finish S (P .plan) i + S .rest - P .last in
         let c : sum (S .modules) (left i) ≡ S .need i * d =
         sum-same (S .modules) _ (λ m. only (P .plan .uses i m) d) (λ m k. ap (λ b. only (b && P .plan .uses i m) d) e)
         ∙ sum-alike (S .modules) (P .plan .uses i) d ∙ ap (λ x. x * d) (h .enough i l e) in
         rw e (omega arith)
     two i l (inr e) =
-        let d = finish S (P .plan) i - P .last in
+        let d = finish S (P .plan) i + S .rest - P .last in
         let c : sum (S .modules) (left i) ≡ 0 =
         sum-same (S .modules) _ (λ m. 0) (λ m k. ap (λ b. only (b && P .plan .uses i m) d) e) ∙ sum-zero (S .modules) in
         rw e (omega arith)

@@ -11,7 +11,7 @@ use Rattle.counting.specs.Counting.{only, sum, Rises, Holds}
 use Rattle.counting.proofs.Tests.{true-or-false, clash, less-or-not}
 use Rattle.schedule.specs.Plan.{Sheet, Plan, Valid, finish, planEnd, Narrow, Lasting}
 use Rattle.schedule.specs.ListPlan.{PartPlan, noJobs, Follows, occupies, placeAll, partOf, occupied}
-use Rattle.schedule.specs.Bounds.{chain, head, mustRun, minutesBehind, gain, Lasts}
+use Rattle.schedule.specs.Bounds.{kept, chain, head, mustRun, minutesBehind, gain, Lasts}
 use Rattle.schedule.specs.PartPlans.{Sound, Completes, NoneBefore}
 use Rattle.schedule.specs.Beginnings.{CannotBeat}
 use Rattle.schedule.proofs.Sound.{part-sound, place-all-sound, completes-all, complete-valid}
@@ -69,25 +69,30 @@ module _ (S : Sheet) (lasting : Lasting S) (n : Narrow S) (w : List ℕ) (f : Fo
 
   -- ---- the cuts
 
+  -- the minute by which a plan that ends by T has given back all modules
+  abbrev close : ℕ
+  close = T + S .rest
+
   -- what all completions that end by T would break
-  by-end : ((p : List ℕ) (c : Completes S P p) → planEnd S (Q p c) ≤ T → ⊥) → CannotBeat S (suc T) w
+  by-end : ((p : List ℕ) (c : Completes S P p) → planEnd S (Q p c) + S .rest ≤ close → ⊥) → CannotBeat S (suc T) w
   by-end h = by-completions S n w f (suc T) (λ p c. go p c (less-or-not T (planEnd S (Q p c))))
     where
       go : (p : List ℕ) (c : Completes S P p) → (T < planEnd S (Q p c)) ⊎ (planEnd S (Q p c) ≤ T) → suc T ≤ planEnd S (Q p c)
       go p c (inl x) = x
-      go p c (inr x) = absurd (h p c x)
+      go p c (inr x) = absurd (h p c (omega arith))
 
   pub weights-cut : (y K : ℕ → ℕ) → Holds (S .need) (S .jobs) (S .modules) y K
-      → sum T (λ t. only (leb l t) (K (S .modules - occupied S P t))) < sum (S .jobs) (λ k. only (not (P .placed k)) (S .minutes k * y k))
+      → sum close (λ t. only (leb l t) (K (S .modules - occupied S P t))) < sum (S .jobs) (λ k. only (not (P .placed k)) (kept S k * y k))
       → CannotBeat S (suc T) w
-  weights-cut y K most over = by-end (λ p c x. omega (arith, over, weights-bound S P l (Q p c) (goes-on p c) T x y K most))
+  weights-cut y K most over = by-end (λ p c x. omega (arith, over, weights-bound S P l (Q p c) (goes-on p c) close x y K most))
 
   pub reach-cut : (y v K Z : ℕ → ℕ) → Holds (S .need) (S .jobs) (S .modules) y K → Rises (S .modules) K
-      → Holds (S .minutes) (S .jobs) T v Z → Z 0 ≡ 0 → Rises T Z
-      → sum T (λ t. only (leb l t) (K (S .modules - occupied S P t) * gain Z T t)) < sum (S .jobs) (λ k. only (not (P .placed k)) (y k * v k))
+      → Holds (kept S) (S .jobs) close v Z → Z 0 ≡ 0 → Rises close Z
+      → sum close (λ t. only (leb l t) (K (S .modules - occupied S P t) * gain Z close t))
+      < sum (S .jobs) (λ k. only (not (P .placed k)) (y k * v k))
       → CannotBeat S (suc T) w
   reach-cut y v K Z most more lasts none rises over = by-end (λ p c x.
-      omega (arith, over, reach-bound S lasting P l (Q p c) (goes-on p c) T x y v K Z most more lasts none rises))
+      omega (arith, over, reach-bound S lasting P l (Q p c) (goes-on p c) close x y v K Z most more lasts none rises))
 
   -- a job that is left starts neither before minute l nor before its head
   abbrev first : ℕ → ℕ → ℕ
@@ -97,7 +102,7 @@ module _ (S : Sheet) (lasting : Lasting S) (n : Narrow S) (w : List ℕ) (f : Fo
   starts-from p c a k x z = omega (arith, later p c k x z, head-le S (Q p c) (goes-on p c .timed) a k x)
 
   pub overlap-cut : (a b m : ℕ) → l ≤ m
-      → S .modules < sum (S .jobs) (λ k. only (not (P .placed k) && mustRun (max l (head S a k)) (chain S b k) T m (S .minutes k)) (S .need k))
+      → S .modules < sum (S .jobs) (λ k. only (not (P .placed k) && mustRun (max l (head S a k)) (chain S b k) T m (kept S k)) (S .need k))
       + occupied S P m
       → CannotBeat S (suc T) w
   overlap-cut a b m on over = by-end (λ p c x.
@@ -113,25 +118,27 @@ module _ (S : Sheet) (lasting : Lasting S) (n : Narrow S) (w : List ℕ) (f : Fo
       omega (arith, over, head-le S (Q p c) (goes-on p c .timed) a k x, chain-le S (Q p c) (valid p c) b k x))
 
   pub late-cut : (a m : ℕ) → l ≤ m
-      → S .modules * (T - m)
-      < sum (S .jobs) (λ k. S .need k * cond (P .placed k) (finish S (P .plan) k - m) (minutesBehind (max l (head S a k)) m (S .minutes k)))
+      → S .modules * (close - m)
+      < sum (S .jobs) (λ k. S .need k
+      * cond (P .placed k) (finish S (P .plan) k + S .rest - m) (minutesBehind (max l (head S a k)) m (kept S k)))
       → CannotBeat S (suc T) w
-  late-cut a m on over = by-end (λ p c x. omega (arith, over, late-bound S (Q p c) (goes-on p c .timed) T x m _ (busy p c)))
+  late-cut a m on over = by-end (λ p c x. omega (arith, over, late-bound S (Q p c) (goes-on p c .timed) close x m _ (busy p c)))
     where
       busy : (p : List ℕ) (c : Completes S P p) (k : ℕ) → k < S .jobs
-          → cond (P .placed k) (finish S (P .plan) k - m) (minutesBehind (first a k) m (S .minutes k))
-          ≤ finish S (Q p c) k - max m (Q p c .start k)
+          → cond (P .placed k) (finish S (P .plan) k + S .rest - m) (minutesBehind (first a k) m (kept S k))
+          ≤ Q p c .start k + kept S k - max m (Q p c .start k)
       busy p c k x = go (true-or-false (P .placed k))
         where
           go : (P .placed k ≡ true) ⊎ (P .placed k ≡ false)
-              → cond (P .placed k) (finish S (P .plan) k - m) (minutesBehind (first a k) m (S .minutes k))
-              ≤ finish S (Q p c) k - max m (Q p c .start k)
+              → cond (P .placed k) (finish S (P .plan) k + S .rest - m) (minutesBehind (first a k) m (kept S k))
+              ≤ Q p c .start k + kept S k - max m (Q p c .start k)
           go (inl z) = rw z (omega (arith, goes-on p c .kept k x z, goes-on p c .early k x z))
           go (inr z) = rw z (omega (arith, starts-from p c a k x z))
 
   pub modules-cut : (y Z : ℕ → ℕ) → Lasts S P y Z → ((a b : ℕ) → a ≤ b → Z a ≤ Z b)
-      → sum (S .jobs) (λ k. only (occupies S P l k) (S .need k * Z (T - finish S (P .plan) k))) + (S .modules - occupied S P l) * Z (T - l)
+      → sum (S .jobs) (λ k. only (occupies S P l k) (S .need k * Z (close - (finish S (P .plan) k + S .rest))))
+      + (S .modules - occupied S P l) * Z (close - l)
       < sum (S .jobs) (λ k. only (not (P .placed k)) (S .need k * y k))
       → CannotBeat S (suc T) w
   modules-cut y Z most mono over = by-end (λ p c x.
-      omega (arith, over, by-profile S P sound l from T Z mono, modules-bound S lasting P l (Q p c) (goes-on-with p c) T x y Z most))
+      omega (arith, over, by-profile S P sound l from close Z mono, modules-bound S lasting P l (Q p c) (goes-on-with p c) close x y Z most))

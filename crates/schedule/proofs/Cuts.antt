@@ -62,15 +62,18 @@ module _ (S : Sheet) (n : Narrow S) (w : List ℕ) (f : Follows S noJobs w) wher
   next-from l h m [] (g, c) = absurd (omega (arith, part-count S w f))
   next-from l h m (j ∷ p) (g, c) = h j (g .0)
 
-  -- The area cut: the work of the part-plan is more than the modules can do by minute T.
-  pub area-cut : (l T : ℕ) → P .last ≤ l → NoneBefore S P l → length w < S .jobs → S .modules * T < work S P l → CannotBeat S (suc T) w
+  -- The area cut: the work of the part-plan is more than the modules can do by minute T and the rest behind it.
+  pub area-cut : (l T : ℕ) → P .last ≤ l → NoneBefore S P l → length w < S .jobs → S .modules * (T + S .rest) < work S P l
+      → CannotBeat S (suc T) w
   area-cut l T k h m a = by-completions (suc T) (λ p c.
       go p (area-bound S n P (part-sound S n w f) l k p c (next-from l h m p c)) (less-or-not T (planEnd S (placeAll S P p .plan))))
     where
-      go : (p : List ℕ) → work S P l ≤ S .modules * planEnd S (placeAll S P p .plan)
+      go : (p : List ℕ) → work S P l ≤ S .modules * (planEnd S (placeAll S P p .plan) + S .rest)
           → (T < planEnd S (placeAll S P p .plan)) ⊎ (planEnd S (placeAll S P p .plan) ≤ T) → suc T ≤ planEnd S (placeAll S P p .plan)
       go p b (inl y) = y
-      go p b (inr y) = absurd (omega (arith, a, b, mul-le-mul-left (S .modules) y))
+      go p b (inr y) =
+          let z : planEnd S (placeAll S P p .plan) + S .rest ≤ T + S .rest = omega arith in
+          absurd (omega (arith, a, b, mul-le-mul-left (S .modules) z))
 
   -- The chain cut: a job that can come next, and a chain that begins with it, do not fit before e.
   pub chain-cut : (k j e : ℕ) → ready S (P .placed) j ≡ true → e ≤ startOf S P j + chain S k j → CannotBeat S e w

@@ -1,5 +1,5 @@
--- The bound by modules: where no set of jobs that are left and last x minutes together weighs more than Z x, a module serves, from the
--- minute at which it comes free, no more weight than Z of the minutes up to the end.
+-- The bound by modules: where no set of jobs that are left and keep a module for x minutes together weighs more than Z x, a module serves,
+-- from the minute at which it comes free, no more weight than Z of the minutes up to the end and the rest behind it.
 use mathlib.Core.Path.{_≡_, refl, sym, ap, _∙_}
 use mathlib.Core.Logic.{_⊎_, inl, inr, ⊎-elim, _≢_}
 use mathlib.Core.Bool.{Bool, true, false, not, _&&_, and-true}
@@ -16,7 +16,7 @@ use Rattle.counting.proofs.Counts.{sum-alike}
 use Rattle.schedule.specs.Plan.{Sheet, Plan, Valid, finish, planEnd, Lasting}
 use Rattle.schedule.specs.ListPlan.{PartPlan, occupies, free, occupied}
 use Rattle.schedule.specs.PartPlans.{Sound}
-use Rattle.schedule.specs.Bounds.{availableFrom, Lasts}
+use Rattle.schedule.specs.Bounds.{kept, availableFrom, Lasts}
 use Rattle.schedule.proofs.Occupied.{free-count}
 use Rattle.schedule.proofs.Weights.{GoesOn}
 use Rattle.schedule.proofs.Lanes.{OnLanes, lanes-bound}
@@ -31,7 +31,7 @@ pub record GoesOnWith (S : Sheet) (P : PartPlan) (l : ℕ) (Q : Plan) : Type 0 w
 abbrev pub freeFrom : Sheet → PartPlan → ℕ → ℕ → ℕ
 freeFrom S P l m = max l (availableFrom S P m)
 
-module _ (S : Sheet) (w : Lasting S) (P : PartPlan) (l : ℕ) (Q : Plan) (h : GoesOnWith S P l Q) (T : ℕ) (e : planEnd S Q ≤ T) where
+module _ (S : Sheet) (w : Lasting S) (P : PartPlan) (l : ℕ) (Q : Plan) (h : GoesOnWith S P l Q) (C : ℕ) (e : planEnd S Q + S .rest ≤ C) where
   -- job k is one of those that are left, and module m serves it
   abbrev served : ℕ → ℕ → Bool
   served m k = not (P .placed k) && Q .uses k m
@@ -42,11 +42,11 @@ module _ (S : Sheet) (w : Lasting S) (P : PartPlan) (l : ℕ) (Q : Plan) (h : Go
   -- a job that a module serves starts when the module is free
   starts-free : (m k : ℕ) → k < S .jobs → served m k ≡ true → freeFrom S P l m ≤ Q .start k
   starts-free m k x b =
-      let most = largest-le (S .jobs) (λ i. only (P .placed i && P .plan .uses i m) (finish S (P .plan) i)) (Q .start k)
-      (λ i z. only-within (P .placed i && P .plan .uses i m) (finish S (P .plan) i) (Q .start k) (one i z)) in
+      let most = largest-le (S .jobs) (λ i. only (P .placed i && P .plan .uses i m) (finish S (P .plan) i + S .rest)) (Q .start k)
+      (λ i z. only-within (P .placed i && P .plan .uses i m) (finish S (P .plan) i + S .rest) (Q .start k) (one i z)) in
       omega (arith, most, h .on .later k x (is-left m k b))
     where
-      one : (i : ℕ) → i < S .jobs → (P .placed i && P .plan .uses i m) ≡ true → finish S (P .plan) i ≤ Q .start k
+      one : (i : ℕ) → i < S .jobs → (P .placed i && P .plan .uses i m) ≡ true → finish S (P .plan) i + S .rest ≤ Q .start k
       one i z c =
           let p = and-left (P .placed i) _ c in
           let s = h .on .kept i z p in
@@ -60,7 +60,7 @@ module _ (S : Sheet) (w : Lasting S) (P : PartPlan) (l : ℕ) (Q : Plan) (h : Go
   isOpen : ℕ → ℕ → Bool
   isOpen m t = leb (freeFrom S P l m) t
 
-  on-modules : OnLanes (S .jobs) (λ k. not (P .placed k)) (Q .start) (S .minutes) (S .need) (S .modules) isOpen (Q .uses)
+  on-modules : OnLanes (S .jobs) (λ k. not (P .placed k)) (Q .start) (kept S) (S .need) (S .modules) isOpen (Q .uses)
   unfolding isOpen
   on-modules = record {
     enough = λ k x p. h .valid .enough k x;
@@ -70,52 +70,52 @@ module _ (S : Sheet) (w : Lasting S) (P : PartPlan) (l : ℕ) (Q : Plan) (h : Go
   }
 
   -- a module that is free from minute a on
-  minutes-from : (a : ℕ) → count T (λ t. leb a t) ≡ T - a
-  minutes-from a = sum-same T _ (λ t. only (inside a T t) 1) below ∙ sum-inside T a T 1 ∙ omega arith
+  minutes-from : (a : ℕ) → count C (λ t. leb a t) ≡ C - a
+  minutes-from a = sum-same C _ (λ t. only (inside a C t) 1) below ∙ sum-inside C a C 1 ∙ omega arith
     where
-      below : (t : ℕ) → t < T → only (leb a t) 1 ≡ only (inside a T t) 1
-      below t x = rw (lt-ltb t T x) (ap (λ (b : Bool). only b 1) (sym (and-true (leb a t))))
+      below : (t : ℕ) → t < C → only (leb a t) 1 ≡ only (inside a C t) 1
+      below t x = rw (lt-ltb t C x) (ap (λ (b : Bool). only b 1) (sym (and-true (leb a t))))
 
   -- The jobs that are left weigh no more than what the modules can serve.
   pub modules-bound : (y Z : ℕ → ℕ) → Lasts S P y Z
-      → sum (S .jobs) (λ k. only (not (P .placed k)) (S .need k * y k)) ≤ sum (S .modules) (λ m. Z (T - freeFrom S P l m))
+      → sum (S .jobs) (λ k. only (not (P .placed k)) (S .need k * y k)) ≤ sum (S .modules) (λ m. Z (C - freeFrom S P l m))
   unfolding isOpen
   modules-bound y Z most =
-      let bound = lanes-bound (S .jobs) (λ k. not (P .placed k)) (Q .start) (S .minutes) (S .need) (S .modules) isOpen (Q .uses) on-modules
+      let bound = lanes-bound (S .jobs) (λ k. not (P .placed k)) (Q .start) (kept S) (S .need) (S .modules) isOpen (Q .uses) on-modules
       (λ m t u x b. le-leb (freeFrom S P l m) u (omega (arith, leb-true (freeFrom S P l m) t b)))
-      T (λ k x p. omega (arith, e, le-largest (S .jobs) (finish S Q) k x)) y Z
+      C (λ k x p. omega (arith, e, le-largest (S .jobs) (finish S Q) k x)) y Z
       (λ X x a left short. most X x (λ k b. not-true (P .placed k) (left k b)) short) in
-      let each = sum-same (S .modules) (λ m. Z (count T (isOpen m))) (λ m. Z (T - freeFrom S P l m))
+      let each = sum-same (S .modules) (λ m. Z (count C (isOpen m))) (λ m. Z (C - freeFrom S P l m))
       (λ m x. ap Z (minutes-from (freeFrom S P l m))) in
       omega (arith, bound, each)
 
 -- ---- the same, from the placed jobs that still run
 
-module _ (S : Sheet) (P : PartPlan) (s : Sound S P) (l : ℕ) (from : P .last ≤ l) (T : ℕ) (Z : ℕ → ℕ)
+module _ (S : Sheet) (P : PartPlan) (s : Sound S P) (l : ℕ) (from : P .last ≤ l) (C : ℕ) (Z : ℕ → ℕ)
     (mono : (a b : ℕ) → a ≤ b → Z a ≤ Z b) where
   -- what a placed job leaves of its modules
   rest-of : ℕ → ℕ
-  rest-of k = Z (T - finish S (P .plan) k)
+  rest-of k = Z (C - (finish S (P .plan) k + S .rest))
 
   -- a module that is not free at minute l is held by a job that runs
   one-module : (m : ℕ) → (free S P l m ≡ true) ⊎ (free S P l m ≡ false)
-      → Z (T - freeFrom S P l m)
-      ≤ sum (S .jobs) (λ k. only (occupies S P l k && P .plan .uses k m) (rest-of k)) + only (free S P l m) (Z (T - l))
+      → Z (C - freeFrom S P l m)
+      ≤ sum (S .jobs) (λ k. only (occupies S P l k && P .plan .uses k m) (rest-of k)) + only (free S P l m) (Z (C - l))
   unfolding rest-of
   one-module m (inl f) =
-      let z = mono (T - freeFrom S P l m) (T - l) (omega arith) in
+      let z = mono (C - freeFrom S P l m) (C - l) (omega arith) in
       rw f (omega (arith, z))
   one-module m (inr f) = go (any-some (S .jobs) (λ i. occupies S P l i && P .plan .uses i m) (not-false _ f))
     where
       go : (k : ℕ) × (k < S .jobs) × ((occupies S P l k && P .plan .uses k m) ≡ true)
-          → Z (T - freeFrom S P l m)
-          ≤ sum (S .jobs) (λ k. only (occupies S P l k && P .plan .uses k m) (rest-of k)) + only (free S P l m) (Z (T - l))
+          → Z (C - freeFrom S P l m)
+          ≤ sum (S .jobs) (λ k. only (occupies S P l k && P .plan .uses k m) (rest-of k)) + only (free S P l m) (Z (C - l))
       go (k, x, b) =
           let p = and-left (P .placed k) _ (and-left (occupies S P l k) _ b) in
           let u = and-both (P .placed k) _ p (and-right (occupies S P l k) _ b) in
-          let a : finish S (P .plan) k ≤ availableFrom S P m =
-          rw u at (le-largest (S .jobs) (λ i. only (P .placed i && P .plan .uses i m) (finish S (P .plan) i)) k x) in
-          let z = mono (T - freeFrom S P l m) (T - finish S (P .plan) k) (omega arith) in
+          let a : finish S (P .plan) k + S .rest ≤ availableFrom S P m =
+          rw u at (le-largest (S .jobs) (λ i. only (P .placed i && P .plan .uses i m) (finish S (P .plan) i + S .rest)) k x) in
+          let z = mono (C - freeFrom S P l m) (C - (finish S (P .plan) k + S .rest)) (omega arith) in
           let y : rest-of k ≤ sum (S .jobs) (λ k. only (occupies S P l k && P .plan .uses k m) (rest-of k)) =
           rw b at (le-sum (S .jobs) (λ k. only (occupies S P l k && P .plan .uses k m) (rest-of k)) k x) in
           omega (arith, z, y)
@@ -133,16 +133,17 @@ module _ (S : Sheet) (P : PartPlan) (s : Sound S P) (l : ℕ) (from : P .last �
           ∙ ap (λ (c : ℕ). c * rest-of k) (s .enough k x (and-left (P .placed k) _ q)))
       go false q = rw q (sum-zero (S .modules))
 
-  pub by-profile : sum (S .modules) (λ m. Z (T - freeFrom S P l m))
-      ≤ sum (S .jobs) (λ k. only (occupies S P l k) (S .need k * Z (T - finish S (P .plan) k))) + (S .modules - occupied S P l) * Z (T - l)
+  pub by-profile : sum (S .modules) (λ m. Z (C - freeFrom S P l m))
+      ≤ sum (S .jobs) (λ k. only (occupies S P l k) (S .need k * Z (C - (finish S (P .plan) k + S .rest))))
+      + (S .modules - occupied S P l) * Z (C - l)
   unfolding rest-of
   by-profile =
       let busy : ℕ → ℕ → ℕ = λ k m. only (occupies S P l k && P .plan .uses k m) (rest-of k) in
-      let each = sum-le (S .modules) (λ m. Z (T - freeFrom S P l m)) (λ m. sum (S .jobs) (λ k. busy k m) + only (free S P l m) (Z (T - l)))
+      let each = sum-le (S .modules) (λ m. Z (C - freeFrom S P l m)) (λ m. sum (S .jobs) (λ k. busy k m) + only (free S P l m) (Z (C - l)))
       (λ m x. one-module m (true-or-false (free S P l m))) in
-      let split = sum-add (S .modules) (λ m. sum (S .jobs) (λ k. busy k m)) (λ m. only (free S P l m) (Z (T - l))) in
+      let split = sum-add (S .modules) (λ m. sum (S .jobs) (λ k. busy k m)) (λ m. only (free S P l m) (Z (C - l))) in
       let swap = sum-swap (S .jobs) (S .modules) busy in
       let jobs = sum-same (S .jobs) _ (λ k. only (occupies S P l k) (S .need k * rest-of k)) held in
-      let frees : sum (S .modules) (λ m. only (free S P l m) (Z (T - l))) ≡ (S .modules - occupied S P l) * Z (T - l) =
-      sum-alike (S .modules) (free S P l) (Z (T - l)) ∙ ap (λ (c : ℕ). c * Z (T - l)) (omega (arith, free-count S P s l from)) in
+      let frees : sum (S .modules) (λ m. only (free S P l m) (Z (C - l))) ≡ (S .modules - occupied S P l) * Z (C - l) =
+      sum-alike (S .modules) (free S P l) (Z (C - l)) ∙ ap (λ (c : ℕ). c * Z (C - l)) (omega (arith, free-count S P s l from)) in
       omega (arith, each, split, swap, jobs, frees)

@@ -1,5 +1,5 @@
 -- The bound by lanes: a job fills as many lanes as it weighs, as many lanes are open as weight can stand on the free modules, and no lane
--- serves more value than its minutes reach. With the minutes as values it is the bound by weights.
+-- serves more value than its minutes reach. With the minutes for which jobs keep their modules as values it is the bound by weights.
 use mathlib.Core.Path.{_≡_, refl, ap, _∙_}
 use mathlib.Core.Bool.{Bool, true, false, not, _&&_}
 use Prim.Native.Nat.{ℕ, zero, suc, _+_, _-_, _*_, _≤_, zero-le}
@@ -15,7 +15,7 @@ use Rattle.counting.proofs.Ranges.{le-largest}
 use Rattle.counting.proofs.Counts.{count-same, sum-alike}
 use Rattle.schedule.specs.Plan.{Sheet, Plan, finish, planEnd, Lasting}
 use Rattle.schedule.specs.ListPlan.{PartPlan, occupied}
-use Rattle.schedule.specs.Bounds.{gain}
+use Rattle.schedule.specs.Bounds.{kept, gain}
 use Rattle.schedule.proofs.Occupied.{occupied-falls}
 use Rattle.schedule.proofs.Lanes.{StaysOpen, lanes-bound}
 use Rattle.schedule.proofs.Filling.{put-on-lanes}
@@ -70,9 +70,9 @@ count-below n g l =
     sum-same n (λ m. only (ltb m g) 1) (λ m. only (inside 0 g m) 1) (λ m x. rw (le-leb 0 m zero-le) refl)
     ∙ sum-inside n 0 g 1 ∙ omega arith
 
-module _ (S : Sheet) (lasting : Lasting S) (P : PartPlan) (l : ℕ) (Q : Plan) (h : GoesOn S P l Q) (T : ℕ) (e : planEnd S Q ≤ T)
+module _ (S : Sheet) (lasting : Lasting S) (P : PartPlan) (l : ℕ) (Q : Plan) (h : GoesOn S P l Q) (C : ℕ) (e : planEnd S Q + S .rest ≤ C)
     (w y K Z : ℕ → ℕ) (most : Holds (S .need) (S .jobs) (S .modules) w K) (more : Rises (S .modules) K)
-    (lasts : Holds (S .minutes) (S .jobs) T y Z) (none : Z 0 ≡ 0) (rises : Rises T Z) where
+    (lasts : Holds (kept S) (S .jobs) C y Z) (none : Z 0 ≡ 0) (rises : Rises C Z) where
   -- the lanes that are open at minute t
   width : ℕ → ℕ
   width t = K (S .modules - occupied S P t)
@@ -98,23 +98,24 @@ module _ (S : Sheet) (lasting : Lasting S) (P : PartPlan) (l : ℕ) (Q : Plan) (
 
   -- The jobs that are left have no more value than the lanes can serve.
   pub reach-bound : sum (S .jobs) (λ k. only (not (P .placed k)) (w k * y k))
-      ≤ sum T (λ t. only (leb l t) (K (S .modules - occupied S P t) * gain Z T t))
+      ≤ sum C (λ t. only (leb l t) (K (S .modules - occupied S P t) * gain Z C t))
   unfolding width
   reach-bound =
-      let lanes = put-on-lanes (S .jobs) (λ k. not (P .placed k)) (Q .start) (S .minutes) w (K (S .modules)) isOpen lasting
+      let lanes = put-on-lanes (S .jobs) (λ k. not (P .placed k)) (Q .start) (kept S) w (K (S .modules)) isOpen
+      (λ k x. omega (arith, lasting k x))
       (λ t. omega (arith, minute-weight S P l Q h w K most t, open-at t)) in
-      let bound = lanes-bound (S .jobs) (λ k. not (P .placed k)) (Q .start) (S .minutes) w (K (S .modules)) isOpen (lanes .0) (lanes .1) stays
-      T (λ k x p. omega (arith, e, le-largest (S .jobs) (finish S Q) k x)) y Z (λ X x a b. lasts X x a) in
+      let bound = lanes-bound (S .jobs) (λ k. not (P .placed k)) (Q .start) (kept S) w (K (S .modules)) isOpen (lanes .0) (lanes .1) stays
+      C (λ k x p. omega (arith, e, le-largest (S .jobs) (finish S Q) k x)) y Z (λ X x a b. lasts X x a) in
       let M = K (S .modules) in
-      let gains = sum-same M (λ m. Z (count T (isOpen m))) (λ m. sum T (λ t. only (isOpen m t) (gain Z T t)))
-      (λ m x. by-gains Z none T (isOpen m) (stays m) rises) in
-      let swap = sum-swap M T (λ m t. only (isOpen m t) (gain Z T t)) in
-      let each = sum-same T (λ t. sum M (λ m. only (isOpen m t) (gain Z T t)))
-      (λ t. only (leb l t) (K (S .modules - occupied S P t) * gain Z T t)) (λ t x. minute t) in
+      let gains = sum-same M (λ m. Z (count C (isOpen m))) (λ m. sum C (λ t. only (isOpen m t) (gain Z C t)))
+      (λ m x. by-gains Z none C (isOpen m) (stays m) rises) in
+      let swap = sum-swap M C (λ m t. only (isOpen m t) (gain Z C t)) in
+      let each = sum-same C (λ t. sum M (λ m. only (isOpen m t) (gain Z C t)))
+      (λ t. only (leb l t) (K (S .modules - occupied S P t) * gain Z C t)) (λ t x. minute t) in
       omega (arith, bound, gains, swap, each)
     where
-      minute : (t : ℕ) → sum (K (S .modules)) (λ m. only (isOpen m t) (gain Z T t))
-          ≡ only (leb l t) (K (S .modules - occupied S P t) * gain Z T t)
+      minute : (t : ℕ) → sum (K (S .modules)) (λ m. only (isOpen m t) (gain Z C t))
+          ≡ only (leb l t) (K (S .modules - occupied S P t) * gain Z C t)
       minute t =
-          sum-alike (K (S .modules)) (λ m. isOpen m t) (gain Z T t) ∙ ap (λ (x : ℕ). x * gain Z T t) (open-at t)
-          ∙ only-mul (leb l t) (width t) (gain Z T t)
+          sum-alike (K (S .modules)) (λ m. isOpen m t) (gain Z C t) ∙ ap (λ (x : ℕ). x * gain Z C t) (open-at t)
+          ∙ only-mul (leb l t) (width t) (gain Z C t)

@@ -1,5 +1,6 @@
 -- The bound by weights: where no set of jobs that fits on x modules weighs more than K x, the jobs that are left weigh, minute by minute,
--- no more than K of what the placed jobs leave free. With the widths as weights it is the area bound.
+-- no more than K of what the placed jobs leave free. A job is counted for as long as it keeps its modules, so up to the plan's end and the
+-- rest behind it. With the widths as weights it is the area bound.
 use mathlib.Core.Path.{_≡_, refl, sym, ap, _∙_}
 use mathlib.Core.Logic.{_⊎_, inl, inr}
 use mathlib.Core.Bool.{Bool, true, false, not, _&&_}
@@ -14,6 +15,7 @@ use Rattle.counting.proofs.Intervals.{inside, sum-inside}
 use Rattle.counting.proofs.Ranges.{le-largest}
 use Rattle.schedule.specs.Plan.{Sheet, Plan, finish, planEnd}
 use Rattle.schedule.specs.ListPlan.{PartPlan, occupies, occupied}
+use Rattle.schedule.specs.Bounds.{kept}
 use Rattle.schedule.proofs.Timed.{runs, Timed}
 
 -- Q goes on from P: it keeps the placed jobs and starts the others from minute l on
@@ -24,9 +26,9 @@ pub record GoesOn (S : Sheet) (P : PartPlan) (l : ℕ) (Q : Plan) : Type 0 where
   pub later : (k : ℕ) → k < S .jobs → P .placed k ≡ false → l ≤ Q .start k
 
 module _ (S : Sheet) (P : PartPlan) (l : ℕ) (Q : Plan) (h : GoesOn S P l Q) where
-  -- job k is one of those that are left, and it runs at minute t
+  -- job k is one of those that are left, and it keeps its modules at minute t
   abbrev pub left : ℕ → ℕ → Bool
-  left t k = not (P .placed k) && inside (Q .start k) (finish S Q k) t
+  left t k = not (P .placed k) && inside (Q .start k) (Q .start k + kept S k) t
 
   -- at a minute, what is left beside what is placed
   pub beside : (t : ℕ) → l ≤ t → sum (S .jobs) (λ k. only (left t k) (S .need k)) + occupied S P t ≤ S .modules
@@ -46,8 +48,8 @@ module _ (S : Sheet) (P : PartPlan) (l : ℕ) (Q : Plan) (h : GoesOn S P l Q) wh
           and-both _ _ (le-leb (Q .start k) t (omega (arith, h .early k x p))) (lt-ltb t (finish S Q k + S .rest) (omega arith))) in
           rw p (omega (arith, on))
       one k x (inr p) =
-          let on = only-mono (inside (Q .start k) (finish S Q k) t) (runs S Q t k) (S .need k) (λ b.
-          let z = ltb-true t (finish S Q k) (and-right (leb (Q .start k) t) _ b) in
+          let on = only-mono (inside (Q .start k) (Q .start k + kept S k) t) (runs S Q t k) (S .need k) (λ b.
+          let z = ltb-true t (Q .start k + kept S k) (and-right (leb (Q .start k) t) _ b) in
           and-both _ _ (and-left (leb (Q .start k) t) _ b) (lt-ltb t (finish S Q k + S .rest) (omega arith))) in
           rw p (omega (arith, on))
 
@@ -67,27 +69,27 @@ module _ (S : Sheet) (P : PartPlan) (l : ℕ) (Q : Plan) (h : GoesOn S P l Q) wh
           sum-same (S .jobs) _ (λ k. 0) (λ k x. zero m k x (true-or-false (P .placed k))) ∙ sum-zero (S .jobs) in
           rw none zero-le
 
-module _ (S : Sheet) (P : PartPlan) (l : ℕ) (Q : Plan) (h : GoesOn S P l Q) (T : ℕ) (e : planEnd S Q ≤ T) where
+module _ (S : Sheet) (P : PartPlan) (l : ℕ) (Q : Plan) (h : GoesOn S P l Q) (C : ℕ) (e : planEnd S Q + S .rest ≤ C) where
   abbrev left-at : ℕ → ℕ → Bool
   left-at = left S P l Q h
 
-  -- over all minutes a job that is left weighs its minutes
+  -- over all minutes a job that is left weighs the minutes for which it keeps its modules
   over-minutes : (y : ℕ → ℕ) (k : ℕ) → k < S .jobs
-      → only (not (P .placed k)) (S .minutes k * y k) ≡ sum T (λ t. only (left-at t k) (y k))
+      → only (not (P .placed k)) (kept S k * y k) ≡ sum C (λ t. only (left-at t k) (y k))
   over-minutes y k m = go (not (P .placed k)) refl
     where
-      go : (b : Bool) → not (P .placed k) ≡ b → only (not (P .placed k)) (S .minutes k * y k) ≡ sum T (λ t. only (left-at t k) (y k))
+      go : (b : Bool) → not (P .placed k) ≡ b → only (not (P .placed k)) (kept S k * y k) ≡ sum C (λ t. only (left-at t k) (y k))
       go true q =
-          let d : min T (finish S Q k) - Q .start k ≡ S .minutes k = omega (arith, e, le-largest (S .jobs) (finish S Q) k m) in
-          rw q (ap (λ (x : ℕ). x * y k) (sym d) ∙ sym (sum-inside T (Q .start k) (finish S Q k) (y k)))
-      go false q = rw q (sym (sum-zero T))
+          let d : min C (Q .start k + kept S k) - Q .start k ≡ kept S k = omega (arith, e, le-largest (S .jobs) (finish S Q) k m) in
+          rw q (ap (λ (x : ℕ). x * y k) (sym d) ∙ sym (sum-inside C (Q .start k) (Q .start k + kept S k) (y k)))
+      go false q = rw q (sym (sum-zero C))
 
   -- The jobs that are left weigh no more than the free modules hold.
   pub weights-bound : (y K : ℕ → ℕ) → Holds (S .need) (S .jobs) (S .modules) y K
-      → sum (S .jobs) (λ k. only (not (P .placed k)) (S .minutes k * y k)) ≤ sum T (λ t. only (leb l t) (K (S .modules - occupied S P t)))
+      → sum (S .jobs) (λ k. only (not (P .placed k)) (kept S k * y k)) ≤ sum C (λ t. only (leb l t) (K (S .modules - occupied S P t)))
   weights-bound y K most =
-      let all = sum-same (S .jobs) _ (λ k. sum T (λ t. only (left-at t k) (y k))) (over-minutes y)
-      ∙ sum-swap (S .jobs) T (λ k t. only (left-at t k) (y k)) in
-      let each = sum-le T (λ t. sum (S .jobs) (λ k. only (left-at t k) (y k))) (λ t. only (leb l t) (K (S .modules - occupied S P t)))
+      let all = sum-same (S .jobs) _ (λ k. sum C (λ t. only (left-at t k) (y k))) (over-minutes y)
+      ∙ sum-swap (S .jobs) C (λ k t. only (left-at t k) (y k)) in
+      let each = sum-le C (λ t. sum (S .jobs) (λ k. only (left-at t k) (y k))) (λ t. only (leb l t) (K (S .modules - occupied S P t)))
       (λ t x. minute-weight S P l Q h y K most t) in
       omega (arith, all, each)

@@ -107,17 +107,17 @@ module _ {t prepared : List ℕ} {part : Part} {target : ℕ} {memory settled : 
   same-minute z (u, i, q, e, (f, a)) =
       in-its-minute u i q w e follows a (omega (arith, f, z, starts-at, s .going .known .is .figures .last))
 
-  -- one that ends as the job starts
+  -- one that has ended and rested as the job starts
   behind : (u : List ℕ) (i : ℕ) (q x : List ℕ) → x ≡ u ++ (i ∷ q) → Follows S noJobs x → SettledAt S target u i job
       → partOf S x .placed job ≡ false → Swapping t i job
-      → startOf S (partOf S x) job ≡ partOf S x .plan .start i + S .minutes i + 0 → Fails S target (x ++ (job ∷ []))
+      → startOf S (partOf S x) job ≡ partOf S x .plan .start i + S .minutes i + S .rest → Fails S target (x ++ (job ∷ []))
   behind u i q x e = subst (λ (x : List ℕ). Follows S noJobs x → SettledAt S target u i job → partOf S x .placed job ≡ false
       → Swapping t i job
-      → startOf S (partOf S x) job ≡ partOf S x .plan .start i + S .minutes i + 0 → Fails S target (x ++ (job ∷ []))) (sym e)
+      → startOf S (partOf S x) job ≡ partOf S x .plan .start i + S .minutes i + S .rest → Fails S target (x ++ (job ∷ []))) (sym e)
       (λ f a n t z. swap-cut S lasting narrow u i q f job (a .may-come) n (t .0) (t .1)
       (omega (arith, a .soon, branch-start S narrow u i q f)) z (suc target) (a .fails))
 
-  swapped : (i : ℕ) → i < jobs → Swapping t i job → getD (part .ends) i 0 ≡ at → bit (part .unplaced) i ≡ false
+  swapped : (i : ℕ) → i < jobs → Swapping t i job → getD (part .ends) i 0 + S .rest ≡ at → bit (part .unplaced) i ≡ false
       → bit (getD settled i 0) job ≡ true → Fails S target (w ++ (job ∷ []))
   swapped i m t e p b = go (placed-splits S w i placed)
     where
@@ -186,7 +186,7 @@ module _ {t prepared : List ℕ} {part : Part} {target : ℕ} {memory settled : 
     kept : (k : ℕ) → partOf S u .placed k ≡ true → P .placed k ≡ true
     kept k p = subst (λ (v : List ℕ). partOf S v .placed k ≡ true) (sym word) (branch-kept S narrow u i q onward k p .0)
 
-    before-it : (k : ℕ) → k < jobs → partOf S u .placed k ≡ true → finish S (P .plan) k + 0 ≤ P .plan .start i
+    before-it : (k : ℕ) → k < jobs → partOf S u .placed k ≡ true → finish S (P .plan) k + S .rest ≤ P .plan .start i
     before-it k x p =
         let z = place-in S u (i ∷ q) k p in
         let small : z .0 < m = omega (arith, z .1, parts .3) in
@@ -195,7 +195,7 @@ module _ {t prepared : List ℕ} {part : Part} {target : ℕ} {memory settled : 
         let e = rw (is, sym i-is) at (b .block .before (z .0) small) in
         omega (arith, e, end-of k x (kept k p), end-of i i-in i-placed)
 
-    all-ended : (k : ℕ) → k < jobs → P .placed k ≡ true → finish S (P .plan) k + 0 ≤ startOf S P job
+    all-ended : (k : ℕ) → k < jobs → P .placed k ≡ true → finish S (P .plan) k + S .rest ≤ startOf S P job
     all-ended k x p =
         let z = place-in S w [] k p in
         let small : z .0 < part .placed = omega (arith, z .1, size) in

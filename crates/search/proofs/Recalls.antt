@@ -86,7 +86,7 @@ module _ {t : List ℕ} {part : Part} (known : Known t part) where
 
   -- a remembered part-plan is ahead from a minute on, before which no job that may come next starts
   pub hit-cut : {m : List ℕ} {l : ℕ} (e : ℕ) → 0 < ones (part .unplaced) → NoneBefore S (partOf S w) l
-      → Remembered S m e → Hit m jobs (part .ends) (part .unplaced) l → CannotBeat S e w
+      → Remembered S m e → Hit m jobs (part .ends) (part .unplaced) l (S .rest) → CannotBeat S e w
   unfolding Remembered
   hit-cut {m} {l} e pos none h found =
       let x = entryAt m (found .at) in

@@ -171,7 +171,7 @@ module _ {t : List ℕ} {part : Part} (known : Known t part)
           which : ComesBefore t related at (part .unplaced) i j → Fails S target (w ++ (j ∷ []))
           which (inl e) =
               idle-cut S (known .fit .lasting) (known .fit .narrow) w (known .is .follows) i j ri
-              (omega (arith, starts .each i m .here ri, starts .each j l .here r)) (suc target) (h i m b ri)
+              (omega (arith, starts .each i m .here ri, starts .each j l .here r, known .fit .keeps i m)) (suc target) (h i m b ri)
           which (inr (e, alone)) =
               alone-cut S (known .fit .lasting) (known .fit .narrow) w (known .is .follows) i j ri
               (omega (arith, starts .each i m .here ri, starts .each j l .here r))
@@ -184,7 +184,7 @@ module _ {t : List ℕ} {part : Part} (known : Known t part)
     low = starts .first;
     top = λ j l. top j l (true-or-false (ready S (P .placed) j));
     inside = λ j l k. known .is .figures .set j l ∙ ap not (ready-says S (P .placed) j (started (starts .each j l) k) .new);
-    lasting = known .fit .lasting;
+    lasting = λ j l. omega (arith, known .fit .lasting j l, known .fit .keeps j l);
   }
     where
       top : (j : ℕ) → (l : j < jobs) → (ready S (P .placed) j ≡ true) ⊎ (ready S (P .placed) j ≡ false) → getD at j 0 ≤ 65535

@@ -63,7 +63,7 @@ module _ {t : List ℕ} {part : Part} (known : Known t part) where
   -- ---- a part-plan that was remembered
 
   pub recall-cut : {at : List ℕ} {least : ℕ} → JobStarts t part at least → (e : ℕ) {m : List ℕ}
-      → 0 < ones (part .unplaced) → Remembered S m e → Hit m jobs (part .ends) (part .unplaced) least → CannotBeat S e w
+      → 0 < ones (part .unplaced) → Remembered S m e → Hit m jobs (part .ends) (part .unplaced) least (S .rest) → CannotBeat S e w
   recall-cut starts e pos = hit-cut known e pos (none-before known starts)
 
   -- ---- all children

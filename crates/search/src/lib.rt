@@ -56,7 +56,13 @@ fn cut_off(
     if bounds::hopeless(jobs, prepared, part, at, least, target) {
         return true;
     }
-    memory::recall(memory, part, tables::count(jobs), least)
+    memory::recall(
+        memory,
+        part,
+        tables::count(jobs),
+        least,
+        tables::changeover(jobs),
+    )
 }
 
 // P-15: the search goes from a part-plan to each next job. Finds an order that goes on from this part-plan and ends by the

@@ -14,7 +14,7 @@ use Rattle.counting.proofs.Ranges.{any-none}
 use Rattle.checking.specs.Checking.{firstFailing}
 use Rattle.sheet_format.specs.declared.Job.{Job}
 use Rattle.words.specs.Words.{byteAt, numberAt}
-use Rattle.sheet_format.specs.Format.{recordAt, recordBytes, trailerBytes, sheetBytes, jobsIn}
+use Rattle.sheet_format.specs.Format.{recordAt, recordBytes, trailerBytes, sheetBytes, jobsIn, cabinet}
 use Rattle.sheet_format.specs.Format.{places}
 use Rattle.sheet_format.specs.Checks.{outside, faulty, wrongLabel}
 use Rattle.sheet.specs.declared.Reading.{Reading}
@@ -43,9 +43,9 @@ e1 =
     ++ (1 ∷ 1 ∷ 10 ∷ 0 ∷ 0 ∷ 0 ∷ 0 ∷ 0 ∷ 30 ∷ 0 ∷ 0 ∷ 0 ∷ [])
     ++ (1 ∷ 2 ∷ 20 ∷ 0 ∷ 0 ∷ 0 ∷ 0 ∷ 0 ∷ 25 ∷ 0 ∷ 0 ∷ 0 ∷ [])
     ++ (1 ∷ 1 ∷ 10 ∷ 0 ∷ 0 ∷ 0 ∷ 0 ∷ 0 ∷ 30 ∷ 0 ∷ 0 ∷ 0 ∷ [])
-    ++ (3 ∷ 0 ∷ 0 ∷ 0 ∷ 3 ∷ 0 ∷ 2 ∷ 0 ∷ [])
+    ++ (3 ∷ 0 ∷ 0 ∷ 0 ∷ 3 ∷ 0 ∷ 2 ∷ 0 ∷ 0 ∷ 0 ∷ [])
 
-pub e1-reads : reading e1 ≡ answered 3 (jobsIn jobs) 2
+pub e1-reads : reading e1 ≡ answered 3 (jobsIn jobs) (cabinet 2 0)
 unfolding e1 labels jobs job reading firstFailing outside faulty wrongLabel any sum places joined recordAt numberAt
 e1-reads = refl
 
@@ -58,24 +58,24 @@ unfolding e1 labels firstFailing outside faulty wrongLabel any sum recordAt numb
 e1-no-label = refl
 
 -- into a buffer that is longer than the sheet
-pub e1-written : writeLeaves (jobsIn jobs) 3 labels 2 (replicate 51 7) ≡ e1 ++ (7 ∷ 7 ∷ 7 ∷ 7 ∷ [])
+pub e1-written : writeLeaves (jobsIn jobs) 3 labels (cabinet 2 0) (replicate 53 7) ≡ e1 ++ (7 ∷ 7 ∷ 7 ∷ 7 ∷ [])
 unfolding e1 labels jobs job writeLeaves firstFailing outside faulty wrongLabel any sum sheetBytes recordBytes trailerBytes joined
 e1-written = refl
 
 -- the round trip's premise holds of it
-e1-answered : writeAnswer (jobsIn jobs) 3 labels 2 (replicate 51 7) .refusal ≡ 0
+e1-answered : writeAnswer (jobsIn jobs) 3 labels (cabinet 2 0) (replicate 53 7) .refusal ≡ 0
 unfolding labels jobs job writeAnswer firstFailing outside faulty wrongLabel any sum sheetBytes
 e1-answered = refl
 
-pub e1-back : reading (writtenSheet (jobsIn jobs) 3 labels 2 (replicate 51 7)) ≡ answered 3 (jobsIn jobs) 2
-e1-back = written-reads (jobsIn jobs) 3 labels 2 (replicate 51 7) e1-answered
+pub e1-back : reading (writtenSheet (jobsIn jobs) 3 labels (cabinet 2 0) (replicate 53 7)) ≡ answered 3 (jobsIn jobs) (cabinet 2 0)
+e1-back = written-reads (jobsIn jobs) 3 labels (cabinet 2 0) (replicate 53 7) e1-answered
 
 -- ---- 5 before 6 before 7
 
 -- one job: the label's bytes, a label length, minutes
 pub one : List ℕ → ℕ → ℕ → List ℕ
 one label len minutes =
-    label ++ (len ∷ 1 ∷ minutes ∷ 0 ∷ 0 ∷ 0 ∷ 0 ∷ 0 ∷ 0 ∷ 0 ∷ 0 ∷ 0 ∷ length label ∷ 0 ∷ 0 ∷ 0 ∷ 1 ∷ 0 ∷ 1 ∷ 0 ∷ [])
+    label ++ (len ∷ 1 ∷ minutes ∷ 0 ∷ 0 ∷ 0 ∷ 0 ∷ 0 ∷ 0 ∷ 0 ∷ 0 ∷ 0 ∷ length label ∷ 0 ∷ 0 ∷ 0 ∷ 1 ∷ 0 ∷ 1 ∷ 0 ∷ 0 ∷ 0 ∷ [])
 
 pub all-wrong : reading (one (32 ∷ []) 2 0) .refusal ≡ 5
 unfolding one reading firstFailing outside faulty wrongLabel any sum places joined recordAt numberAt
@@ -109,7 +109,7 @@ lengths-edge = (refl, refl)
 -- one job of departure 0, and the two bytes of its arrival
 pub arriving : ℕ → ℕ → List ℕ
 arriving low high =
-    65 ∷ 1 ∷ 1 ∷ 1 ∷ 0 ∷ 0 ∷ 0 ∷ 0 ∷ 0 ∷ 0 ∷ 0 ∷ low ∷ high ∷ 1 ∷ 0 ∷ 0 ∷ 0 ∷ 1 ∷ 0 ∷ 1 ∷ 0 ∷ []
+    65 ∷ 1 ∷ 1 ∷ 1 ∷ 0 ∷ 0 ∷ 0 ∷ 0 ∷ 0 ∷ 0 ∷ 0 ∷ low ∷ high ∷ 1 ∷ 0 ∷ 0 ∷ 0 ∷ 1 ∷ 0 ∷ 1 ∷ 0 ∷ 0 ∷ 0 ∷ []
 
 -- 1440, behind the departure, and 1441
 pub arrival-edge : (reading (arriving 160 5) .refusal ≡ 0) × (reading (arriving 161 5) .refusal ≡ 5)
@@ -119,6 +119,22 @@ arrival-edge = (refl, refl)
 pub arrival-read : jobsIn (reading (arriving 160 5) .jobs) 0 .arrival ≡ 1440
 unfolding arriving reading firstFailing outside faulty wrongLabel any sum places joined recordAt numberAt
 arrival-read = refl
+
+-- ---- the changeover
+
+-- no job: a record offset, N and a changeover
+pub resting : ℕ → ℕ → ℕ → List ℕ
+resting offset N changeover = offset ∷ 0 ∷ 0 ∷ 0 ∷ 0 ∷ 0 ∷ N ∷ 0 ∷ changeover ∷ 0 ∷ []
+
+-- 30 minutes, and 31: behind 3, before 4
+pub changeover-edge : (reading (resting 0 1 30) .refusal ≡ 0) × (reading (resting 0 1 31) .refusal ≡ 19)
+    × (reading (resting 0 0 31) .refusal ≡ 3) × (reading (resting 1 1 31) .refusal ≡ 19) × (reading (resting 1 1 30) .refusal ≡ 4)
+unfolding resting reading firstFailing outside faulty wrongLabel any sum places joined recordAt numberAt
+changeover-edge = (refl, refl, refl, refl, refl)
+
+pub changeover-read : reading (resting 0 1 30) .changeover ≡ 30
+unfolding resting reading firstFailing outside faulty wrongLabel any sum places joined recordAt numberAt
+changeover-read = refl
 
 -- ---- E1 read and written again
 
@@ -137,9 +153,9 @@ e1-bytes : (i : ℕ) → byteAt e1 i < 256
 unfolding e1 labels any
 e1-bytes = bytes-by-test e1 refl
 
-e1-fits : length e1 ≤ length (replicate {A = ℕ} 51 7)
+e1-fits : length e1 ≤ length (replicate {A = ℕ} 53 7)
 unfolding e1 labels
 e1-fits = lit≤ tt
 
-pub e1-again : rewriteLeaves e1 (reading e1) (replicate 51 7) ≡ over e1 (replicate 51 7)
-e1-again = read-is-written-bytes e1 e1-bytes e1-answers (replicate 51 7) e1-fits
+pub e1-again : rewriteLeaves e1 (reading e1) (replicate 53 7) ≡ over e1 (replicate 53 7)
+e1-again = read-is-written-bytes e1 e1-bytes e1-answers (replicate 53 7) e1-fits

@@ -8,14 +8,13 @@ use native.Mathlib.Omega.{arith}
 use lib.Dec.{eqb}
 use lib.ListN.{length, take, drop, length-drop, take-append-drop}
 use lib.Seq.{length-take-le, take-append-le, drop-append-le}
-use borrow.Author.Tests.{le-ltb, eq-eqb}
+use borrow.Author.Tests.{eq-eqb}
 use Rattle.counting.proofs.Ranges.{any-none, none-any}
 use Rattle.checking.specs.Checking.{firstFailing}
 use Rattle.checking.proofs.Order.{all-passed, first-behind}
 use Rattle.sheet_format.specs.declared.Job.{Job}
-use Rattle.sheet_format.specs.Figures.{mostJobs}
-use Rattle.sheet_format.specs.Format.{labelLength, labelLengths, labelIn, offsetOf, countOf, jobOf, labelsOf}
-use Rattle.sheet_format.specs.Checks.{faulty, someFaulty, wrongModules, wrongLabel, wrongLabels, tooShort, trailerChecks, contentChecks}
+use Rattle.sheet_format.specs.Format.{labelLength, labelLengths, labelIn, offsetOf, countOf, jobOf, labelsOf, Cabinet}
+use Rattle.sheet_format.specs.Checks.{faulty, someFaulty, wrongLabel, wrongLabels, tooShort, figureChecks, trailerChecks, contentChecks}
 use Rattle.sheet_format.specs.Checks.{WrongLabel, LegalLabel}
 use Rattle.sheet_format.proofs.Bounds.{legal}
 use Rattle.sheet_format.proofs.Cuts.{label-within}
@@ -25,7 +24,7 @@ use Rattle.sheet.specs.Label.{labelRefusal, labelOf}
 use Rattle.sheet.specs.Write.{writeRefusal}
 use Rattle.sheet.proofs.Answers.{reads}
 use Rattle.sheet.proofs.Labels.{label-there}
-use Rattle.sheet.proofs.Writes.{Writes}
+use Rattle.sheet.proofs.Writes.{behind-figures, Writes}
 
 -- where 5 and 6 find nothing, 7 is decided by the labels, whatever is checked behind it
 module _ (n : ℕ) (jobs : ℕ → Job) (labels : List ℕ) (sound : someFaulty n jobs ≡ false) (whole : labelLengths n jobs ≡ length labels) where
@@ -86,15 +85,15 @@ read-labels-legal s e i l =
 
 -- ---- writing
 
-module _ (jobs : ℕ → Job) (n : ℕ) (labels : List ℕ) (N room : ℕ) where
-  -- Writing gives 7 by the same rule, where 2, 3, 5 and 6 find nothing.
-  pub write-7-when : n ≤ mostJobs → wrongModules N ≡ false → someFaulty n jobs ≡ false → labelLengths n jobs ≡ length labels
-      → (writeRefusal jobs n labels N room ≡ 7) ↔ ((i : ℕ) × (i < n) × WrongLabel (labelIn jobs labels i))
+module _ (jobs : ℕ → Job) (n : ℕ) (labels : List ℕ) (C : Cabinet) (room : ℕ) where
+  -- Writing gives 7 by the same rule, where 2, 3, 19, 5 and 6 find nothing.
+  pub write-7-when : firstFailing (figureChecks n C) ≡ 0 → someFaulty n jobs ≡ false → labelLengths n jobs ≡ length labels
+      → (writeRefusal jobs n labels C room ≡ 7) ↔ ((i : ℕ) × (i < n) × WrongLabel (labelIn jobs labels i))
   unfolding firstFailing
-  write-7-when few modules sound whole =
+  write-7-when figures sound whole =
       let behind : ℕ = cond (tooShort n labels room) 10 0 in
-      let e : writeRefusal jobs n labels N room ≡ cond (wrongLabels n jobs labels) 7 behind =
-      rw (le-ltb mostJobs n few, modules) (behind-lengths n jobs labels sound whole behind) in
+      let e : writeRefusal jobs n labels C room ≡ cond (wrongLabels n jobs labels) 7 behind =
+      behind-figures jobs n labels C room figures ∙ behind-lengths n jobs labels sound whole behind in
       let seven = seven-when n jobs labels sound whole behind (not-seven (tooShort n labels room)) in
       (λ h. seven .0 (sym e ∙ h), λ w. e ∙ seven .1 w)
     where
@@ -103,5 +102,5 @@ module _ (jobs : ℕ → Job) (n : ℕ) (labels : List ℕ) (N room : ℕ) where
       not-seven false z = absurd (omega arith)
 
   -- Each label that is written is as it must be.
-  pub written-labels-legal : Writes jobs n labels N room → (i : ℕ) → i < n → LegalLabel (labelIn jobs labels i)
+  pub written-labels-legal : Writes jobs n labels C room → (i : ℕ) → i < n → LegalLabel (labelIn jobs labels i)
   written-labels-legal w = labels-legal n jobs labels (none-any n (λ j. faulty n (jobs j)) (w .sound)) (w .lengths) (w .printable)

@@ -12,9 +12,9 @@ use Rattle.counting.specs.Counting.{sum}
 use Rattle.counting.proofs.Sums.{sum-up}
 use Rattle.counting.proofs.Tests.{or-right}
 use Rattle.checking.specs.Checking.{firstFailing}
-use Rattle.checking.proofs.Order.{all-passed, none-failing, first-in-front, first-behind}
+use Rattle.checking.proofs.Order.{all-passed, both-passed, none-failing, first-in-front, first-behind}
 use Rattle.sheet_format.specs.Figures.{mostJobs}
-use Rattle.sheet_format.specs.Format.{labelLength, labelLengths, places, jobsIn, jobOf, offsetOf, countOf, modulesOf}
+use Rattle.sheet_format.specs.Format.{labelLength, labelLengths, places, jobsIn, jobOf, offsetOf, countOf, cabinetOf}
 use Rattle.sheet_format.specs.Checks.{noSuchJob}
 use Rattle.sheet_format.proofs.Lists.{job-in-place}
 use Rattle.sheet_format.proofs.Cuts.{lengths-same}
@@ -48,10 +48,9 @@ module _ (s : List ℕ) (job : ℕ) where
   pub there : (k : ℕ) → k ≡ labelRefusal s job → k ≡ 0 → There
   unfolding sum
   there k e z =
-      let p = all-passed (labelChecks s job) refl (sym e ∙ z) in
-      let r = reads s (none-failing (readChecks s)
-      (p .0, (p .1 .0, (p .1 .1 .0, (p .1 .1 .1 .0, (p .1 .1 .1 .1 .0, (p .1 .1 .1 .1 .1 .0, (p .1 .1 .1 .1 .1 .1 .0, tt)))))))) in
-      let l = leb-false (countOf s) job (p .1 .1 .1 .1 .1 .1 .1 .0) in
+      let p = both-passed (readChecks s) ((14, noSuchJob (countOf s) job) ∷ []) (all-passed (labelChecks s job) refl (sym e ∙ z)) in
+      let r = reads s (none-failing (readChecks s) (p .0)) in
+      let l = leb-false (countOf s) job (p .1 .0) in
       record {
         sheet = r;
         below = l;
@@ -147,14 +146,14 @@ job-placed r job e = go (eqb (r .refusal) 0) refl
 pub place-in-reading : (s : List ℕ) (job : ℕ) → placeIn (reading s) job ≡ labelPlace s job
 place-in-reading s job = go (eqb (readRefusal s) 0) refl
   where
-    here : readRefusal s ≡ 0 → (b : Bool) → leb (countOf s) job ≡ b → placeIn (answered (countOf s) (jobOf s) (modulesOf s)) job ≡ labelPlace s job
+    here : readRefusal s ≡ 0 → (b : Bool) → leb (countOf s) job ≡ b → placeIn (answered (countOf s) (jobOf s) (cabinetOf s)) job ≡ labelPlace s job
     here z true e =
-        place-of-none (answered (countOf s) (jobOf s) (modulesOf s)) job refl (leb-true (countOf s) job e)
+        place-of-none (answered (countOf s) (jobOf s) (cabinetOf s)) job refl (leb-true (countOf s) job e)
         ∙ no-place s job 14 (no-job-there s job z (leb-true (countOf s) job e)) (λ w. omega arith)
     here z false e =
         let l = leb-false (countOf s) job e in
         let same = job-in-place (countOf s) (jobOf s) in
-        place-of-one (answered (countOf s) (jobOf s) (modulesOf s)) job refl l (reads s z .trailer .few)
+        place-of-one (answered (countOf s) (jobOf s) (cabinetOf s)) job refl l (reads s z .trailer .figures .few)
         ∙ ap₂ (λ (o k : ℕ). record { refusal = 0; offset = o; length = k })
         (lengths-same (countOf s) (jobsIn (places (countOf s) (jobOf s))) (jobOf s) same job (omega arith)) (ap labelLength (same job l))
         ∙ placed s job (sym (label-there s job z l))

@@ -110,4 +110,4 @@ module _ (s : List ℕ) (offset n : ℕ) where
 -- what the trailer says of the records
 pub records-there : (s : List ℕ) (offset n : ℕ) → Trailer s → offset ≡ offsetOf s → n ≡ countOf s
     → (n ≤ mostJobs) × (offset + recordSize * n ≤ length s)
-records-there s offset n t eo en = (omega (arith, t .few), omega (arith, t .whole))
+records-there s offset n t eo en = (omega (arith, t .figures .few), omega (arith, t .whole))

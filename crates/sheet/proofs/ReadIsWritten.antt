@@ -1,7 +1,7 @@
 -- Every sheet that reads is what writing its jobs gives, byte for byte (R-2.2).
 use mathlib.Core.Path.{_≡_, refl, sym, ap, ap₂, _∙_}
 use mathlib.Core.Bool.{not}
-use mathlib.Core.List.{List, _++_}
+use mathlib.Core.List.{List, [], _∷_, _++_}
 use Prim.Native.Nat.{ℕ, zero, suc, _+_, _*_, _≤_, _<_}
 use native.Mathlib.Omega.{arith}
 use lib.ListN.{length, take, drop, length-drop, take-append-drop}
@@ -10,14 +10,14 @@ use borrow.Author.Tests.{le-ltb, eq-eqb}
 use Rattle.counting.specs.Counting.{sum, joined}
 use Rattle.counting.proofs.Ranges.{none-any}
 use Rattle.counting.proofs.Joins.{joined-same}
-use Rattle.checking.proofs.Order.{none-failing}
+use Rattle.checking.proofs.Order.{none-failing, together-passed}
 use Rattle.sheet_format.specs.declared.Job.{Job}
-use Rattle.sheet_format.specs.Figures.{mostJobs, mostModules, recordSize, trailerSize}
+use Rattle.sheet_format.specs.Figures.{recordSize, trailerSize}
 use Rattle.words.specs.Words.{byteAt}
 use Rattle.sheet_format.specs.Format.{recordBytes, trailerBytes, labelLength, labelLengths, sheetBytes}
-use Rattle.sheet_format.specs.Format.{jobsIn, places, trailerAt, offsetOf, countOf, modulesOf, jobOf, labelsOf}
-use Rattle.sheet_format.specs.Checks.{faulty}
-use Rattle.sheet_format.proofs.Bounds.{not-outside}
+use Rattle.sheet_format.specs.Format.{jobsIn, places, trailerAt, offsetOf, countOf, cabinetOf, jobOf, labelsOf}
+use Rattle.sheet_format.specs.Checks.{faulty, tooShort, figureChecks, contentChecks}
+use Rattle.sheet_format.proofs.Trailers.{fit-passed}
 use Rattle.sheet_format.proofs.Lists.{job-in-place}
 use Rattle.sheet_format.proofs.Cuts.{lengths-same, labels-same}
 use Rattle.sheet_format.proofs.Digits.{record-back, trailer-back}
@@ -63,7 +63,7 @@ module _ (s : List ℕ) (e : readRefusal s ≡ 0) where
         ∙ sym (take-add (recordSize * i) recordSize (drop o s)))
 
     -- the trailer
-    trailer-run : trailerBytes o n (modulesOf s) ≡ drop (recordSize * n) (drop o s)
+    trailer-run : trailerBytes o n (cabinetOf s) ≡ drop (recordSize * n) (drop o s)
     trailer-run =
         let t = reads s e .trailer in
         let long = t .long in
@@ -76,7 +76,7 @@ module _ (s : List ℕ) (e : readRefusal s ≡ 0) where
         ∙ sym (drop-drop (recordSize * n) o s)
 
     -- the whole sheet
-    sheet-again : (jobs : ℕ → Job) → ((i : ℕ) → i < n → jobs i ≡ jobOf s i) → sheetBytes jobs n (labelsOf s) (modulesOf s) ≡ s
+    sheet-again : (jobs : ℕ → Job) → ((i : ℕ) → i < n → jobs i ≡ jobOf s i) → sheetBytes jobs n (labelsOf s) (cabinetOf s) ≡ s
     unfolding sheetBytes
     sheet-again jobs same =
         let whole = reads s e .trailer .whole in
@@ -84,43 +84,38 @@ module _ (s : List ℕ) (e : readRefusal s ≡ 0) where
         let records : joined n (λ i. recordBytes (jobs i)) ≡ take (recordSize * n) (drop o s) =
         joined-same n (λ i. recordBytes (jobs i)) (λ i. recordBytes (jobOf s i)) (λ i l. ap recordBytes (same i l))
         ∙ records-run n (omega arith) in
-        ap₂ (λ (x y : List ℕ). labelsOf s ++ (x ++ y)) records (ap (λ (k : ℕ). trailerBytes k n (modulesOf s)) size ∙ trailer-run)
+        ap₂ (λ (x y : List ℕ). labelsOf s ++ (x ++ y)) records (ap (λ (k : ℕ). trailerBytes k n (cabinetOf s)) size ∙ trailer-run)
         ∙ ap (λ (x : List ℕ). labelsOf s ++ x) (take-append-drop (recordSize * n) (drop o s))
         ∙ take-append-drop o s
 
     module _ (out : List ℕ) (room : length s ≤ length out) (jobs : ℕ → Job) (same : (i : ℕ) → i < n → jobs i ≡ jobOf s i) where
-      writes-again : writeRefusal jobs n (labelsOf s) (modulesOf s) (length out) ≡ 0
+      writes-again : writeRefusal jobs n (labelsOf s) (cabinetOf s) (length out) ≡ 0
       writes-again =
           let r = reads s e in
           let t = r .trailer in
-          let few = t .few in
+          let few = t .figures .few in
           let whole = t .whole in
           let size : length (labelsOf s) ≡ o = length-take-le o s (omega arith) in
           let total : labelLengths n jobs ≡ length (labelsOf s) =
           lengths-same n jobs (jobOf s) same n (omega arith) ∙ r .lengths ∙ sym size in
-          none-failing (writeChecks jobs n (labelsOf s) (modulesOf s) (length out)) (
-            le-ltb mostJobs n (omega arith),
+          none-failing (writeChecks jobs n (labelsOf s) (cabinetOf s) (length out))
+          (together-passed (figureChecks n (cabinetOf s)) (contentChecks n jobs (labelsOf s) ++ ((10, tooShort n (labelsOf s) (length out)) ∷ []))
+          (fit-passed n (cabinetOf s) (t .figures))
+          (together-passed (contentChecks n jobs (labelsOf s)) ((10, tooShort n (labelsOf s) (length out)) ∷ []) (
+            none-any n (λ i. faulty n (jobs i)) (λ i l. ap (faulty n) (same i l) ∙ r .sound i l),
             (
-              not-outside 1 mostModules (modulesOf s) (t .some) (t .most),
-              (
-                none-any n (λ i. faulty n (jobs i)) (λ i l. ap (faulty n) (same i l) ∙ r .sound i l),
-                (
-                  ap not (eq-eqb (labelLengths n jobs) (length (labelsOf s)) total),
-                  (
-                    labels-same n jobs (jobOf s) same (labelsOf s) ∙ r .printable,
-                    (le-ltb (length out) (length (labelsOf s) + recordSize * n + trailerSize) (omega arith), tt),
-                  ),
-                ),
-              ),
+              ap not (eq-eqb (labelLengths n jobs) (length (labelsOf s)) total),
+              (labels-same n jobs (jobOf s) same (labelsOf s) ∙ r .printable, tt),
             ),
           )
+          (le-ltb (length out) (length (labelsOf s) + recordSize * n + trailerSize) (omega arith), tt)))
 
-      answer-again : writeAnswer jobs n (labelsOf s) (modulesOf s) out ≡ record { refusal = 0; length = length s }
+      answer-again : writeAnswer jobs n (labelsOf s) (cabinetOf s) out ≡ record { refusal = 0; length = length s }
       unfolding writeAnswer
       answer-again =
           rw writes-again (ap (λ (x : List ℕ). record { refusal = 0; length = length x }) (sheet-again jobs same))
 
-      leaves-again : writeLeaves jobs n (labelsOf s) (modulesOf s) out ≡ over s out
+      leaves-again : writeLeaves jobs n (labelsOf s) (cabinetOf s) out ≡ over s out
       unfolding writeLeaves
       leaves-again = rw writes-again (ap (λ (x : List ℕ). over x out) (sheet-again jobs same))
 
@@ -133,7 +128,7 @@ module _ (s : List ℕ) (bytes : (i : ℕ) → byteAt s i < 256) (answered-0 : r
   pub read-is-written : rewriteAnswer s (reading s) out ≡ record { refusal = 0; length = length s }
   read-is-written =
       ap (λ (r : Reading). rewriteAnswer s r out) (read-answer s reads-0)
-      ∙ ap (λ (ls : List ℕ). writeAnswer (jobsIn (places (countOf s) (jobOf s))) (countOf s) ls (modulesOf s) out)
+      ∙ ap (λ (ls : List ℕ). writeAnswer (jobsIn (places (countOf s) (jobOf s))) (countOf s) ls (cabinetOf s) out)
       (labels-are s reads-0)
       ∙ answer-again s reads-0 bytes out room (jobsIn (places (countOf s) (jobOf s))) (job-in-place (countOf s) (jobOf s))
 
@@ -141,6 +136,6 @@ module _ (s : List ℕ) (bytes : (i : ℕ) → byteAt s i < 256) (answered-0 : r
   pub read-is-written-bytes : rewriteLeaves s (reading s) out ≡ over s out
   read-is-written-bytes =
       ap (λ (r : Reading). rewriteLeaves s r out) (read-answer s reads-0)
-      ∙ ap (λ (ls : List ℕ). writeLeaves (jobsIn (places (countOf s) (jobOf s))) (countOf s) ls (modulesOf s) out)
+      ∙ ap (λ (ls : List ℕ). writeLeaves (jobsIn (places (countOf s) (jobOf s))) (countOf s) ls (cabinetOf s) out)
       (labels-are s reads-0)
       ∙ leaves-again s reads-0 bytes out room (jobsIn (places (countOf s) (jobOf s))) (job-in-place (countOf s) (jobOf s))

@@ -10,7 +10,7 @@ use borrow.Author.Tests.{eqb-true, ne-eqb}
 use Rattle.checking.specs.Checking.{FirstFails, NoneFails}
 use Rattle.checking.proofs.Order.{refused-exactly, answered-exactly}
 use Rattle.sheet_format.specs.declared.Job.{Job}
-use Rattle.sheet_format.specs.Format.{sheetBytes}
+use Rattle.sheet_format.specs.Format.{sheetBytes, Cabinet}
 use Rattle.sheet.specs.declared.Written.{Written}
 use Rattle.sheet.specs.Read.{readChecks, readRefusal, refused, reading}
 use Rattle.sheet.specs.Label.{labelChecks, labelRefusal, labelPlace}
@@ -49,36 +49,36 @@ pub label-refused-place : (s : List ℕ) (job : ℕ) → (labelRefusal s job ≡
     → labelPlace s job ≡ record { refusal = labelRefusal s job; offset = 0; length = 0 }
 label-refused-place s job h = sym (no-place s job (labelRefusal s job) refl h)
 
-module _ (jobs : ℕ → Job) (n : ℕ) (labels : List ℕ) (N : ℕ) (out : List ℕ) where
-  pub write-number : writeAnswer jobs n labels N out .refusal ≡ writeRefusal jobs n labels N (length out)
+module _ (jobs : ℕ → Job) (n : ℕ) (labels : List ℕ) (C : Cabinet) (out : List ℕ) where
+  pub write-number : writeAnswer jobs n labels C out .refusal ≡ writeRefusal jobs n labels C (length out)
   unfolding writeAnswer
-  write-number = go (eqb (writeRefusal jobs n labels N (length out)) 0) refl
+  write-number = go (eqb (writeRefusal jobs n labels C (length out)) 0) refl
     where
-      go : (b : Bool) → eqb (writeRefusal jobs n labels N (length out)) 0 ≡ b
-          → cond {A = Written} b (record { refusal = 0; length = length (sheetBytes jobs n labels N) })
-          (record { refusal = writeRefusal jobs n labels N (length out); length = 0 }) .refusal
-          ≡ writeRefusal jobs n labels N (length out)
-      go true e = sym (eqb-true (writeRefusal jobs n labels N (length out)) 0 e)
+      go : (b : Bool) → eqb (writeRefusal jobs n labels C (length out)) 0 ≡ b
+          → cond {A = Written} b (record { refusal = 0; length = length (sheetBytes jobs n labels C) })
+          (record { refusal = writeRefusal jobs n labels C (length out); length = 0 }) .refusal
+          ≡ writeRefusal jobs n labels C (length out)
+      go true e = sym (eqb-true (writeRefusal jobs n labels C (length out)) 0 e)
       go false e = refl
 
   -- writing gives k exactly when check k fails and no earlier one of 2, 3, 5, 6, 7, 10 does
   pub write-refused : (k : ℕ) → 0 < k
-      → (writeAnswer jobs n labels N out .refusal ≡ k) ↔ FirstFails (writeChecks jobs n labels N (length out)) k
+      → (writeAnswer jobs n labels C out .refusal ≡ k) ↔ FirstFails (writeChecks jobs n labels C (length out)) k
   write-refused k h =
-      same-number _ (writeRefusal jobs n labels N (length out)) k write-number
-      (refused-exactly (writeChecks jobs n labels N (length out)) k h)
+      same-number _ (writeRefusal jobs n labels C (length out)) k write-number
+      (refused-exactly (writeChecks jobs n labels C (length out)) k h)
 
-  pub write-answered : (writeAnswer jobs n labels N out .refusal ≡ 0) ↔ NoneFails (writeChecks jobs n labels N (length out))
+  pub write-answered : (writeAnswer jobs n labels C out .refusal ≡ 0) ↔ NoneFails (writeChecks jobs n labels C (length out))
   write-answered =
-      same-number _ (writeRefusal jobs n labels N (length out)) 0 write-number
-      (answered-exactly (writeChecks jobs n labels N (length out)) refl)
+      same-number _ (writeRefusal jobs n labels C (length out)) 0 write-number
+      (answered-exactly (writeChecks jobs n labels C (length out)) refl)
 
   -- a refused call writes no byte and answers the length 0
-  pub write-refused-leaves : (writeAnswer jobs n labels N out .refusal ≡ 0 → ⊥)
-      → (writeLeaves jobs n labels N out ≡ out) × (writeAnswer jobs n labels N out .length ≡ 0)
+  pub write-refused-leaves : (writeAnswer jobs n labels C out .refusal ≡ 0 → ⊥)
+      → (writeLeaves jobs n labels C out ≡ out) × (writeAnswer jobs n labels C out .length ≡ 0)
   unfolding writeAnswer
   write-refused-leaves h =
-      let z : writeRefusal jobs n labels N (length out) ≡ 0 → ⊥ = λ e. h (write-number ∙ e) in (
-        sym (refused-leaves jobs n labels N out (writeRefusal jobs n labels N (length out)) refl z),
-        rw (ne-eqb (writeRefusal jobs n labels N (length out)) 0 z),
+      let z : writeRefusal jobs n labels C (length out) ≡ 0 → ⊥ = λ e. h (write-number ∙ e) in (
+        sym (refused-leaves jobs n labels C out (writeRefusal jobs n labels C (length out)) refl z),
+        rw (ne-eqb (writeRefusal jobs n labels C (length out)) 0 z),
       )

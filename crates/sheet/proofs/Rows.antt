@@ -19,9 +19,9 @@ row s figures shown = record { sheet = s; figures = figures; shown = shown }
 abbrev jobFigures : Job → List ℕ
 jobFigures j = j .«label_len» ∷ j .modules ∷ j .minutes ∷ j .earlier ∷ j .departure ∷ j .arrival ∷ []
 
--- the refusal, n, N and the figures of the jobs
+-- the refusal, n, N, the changeover and the figures of the jobs
 abbrev readFigures : Reading → List ℕ
-readFigures r = r .refusal ∷ r .count ∷ r .modules ∷ joined (r .count) (λ i. jobFigures (jobsIn (r .jobs) i))
+readFigures r = r .refusal ∷ r .count ∷ r .modules ∷ r .changeover ∷ joined (r .count) (λ i. jobFigures (jobsIn (r .jobs) i))
 
 -- for each job and one number past them, the number that the label call gives and the label that it shows
 abbrev shownLabels : List ℕ → List ℕ

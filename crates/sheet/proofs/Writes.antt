@@ -10,129 +10,123 @@ use borrow.Rule.Slice.PartMut.{putMid}
 use Rattle.counting.specs.Counting.{joined}
 use Rattle.counting.proofs.Ranges.{any-none}
 use Rattle.counting.proofs.Sums.{sum-most}
-use Rattle.checking.specs.Checking.{firstFailing}
-use Rattle.checking.proofs.Order.{all-passed, first-in-front, first-behind}
+use Rattle.checking.specs.Checking.{Check, firstFailing}
+use Rattle.checking.proofs.Order.{all-passed, both-passed, none-failing, first-in-front, first-behind}
 use Rattle.sheet_format.specs.declared.Job.{Job}
 use Rattle.sheet.specs.declared.Written.{Written}
-use Rattle.sheet_format.specs.Figures.{mostJobs, mostModules, recordSize, trailerSize, longestLabel}
-use Rattle.sheet_format.specs.Format.{recordBytes, trailerBytes, sheetBytes, labelLength, labelLengths}
-use Rattle.sheet_format.specs.Checks.{faulty, wrongModules, wrongLabels, tooShort, contentChecks}
+use Rattle.sheet_format.specs.Figures.{recordSize, trailerSize, longestLabel}
+use Rattle.sheet_format.specs.Format.{recordBytes, trailerBytes, sheetBytes, labelLength, labelLengths, Cabinet}
+use Rattle.sheet_format.specs.Checks.{faulty, wrongLabels, tooShort, figureChecks, contentChecks}
 use Rattle.sheet.specs.Write.{over, writeChecks, writeRefusal, writeAnswer, writeLeaves}
-use Rattle.sheet_format.proofs.Bounds.{inside, legal}
+use Rattle.sheet_format.proofs.Bounds.{legal}
+use Rattle.sheet_format.proofs.Trailers.{FiguresFit, figures-fit}
 use Rattle.words.proofs.Parts.{next-part}
 use Rattle.sheet_format.proofs.Parts.{length-records, length-trailer}
 
 -- ---- lengths
 
-pub length-sheet : (jobs : ℕ → Job) (n : ℕ) (labels : List ℕ) (N : ℕ)
-    → length (sheetBytes jobs n labels N) ≡ length labels + recordSize * n + trailerSize
+pub length-sheet : (jobs : ℕ → Job) (n : ℕ) (labels : List ℕ) (C : Cabinet)
+    → length (sheetBytes jobs n labels C) ≡ length labels + recordSize * n + trailerSize
 unfolding sheetBytes
-length-sheet jobs n labels N =
+length-sheet jobs n labels C =
     let records = joined n (λ i. recordBytes (jobs i)) in
-    length-append labels (records ++ trailerBytes (length labels) n N)
-    ∙ omega (arith, length-append records (trailerBytes (length labels) n N), length-records n jobs, length-trailer (length labels) n N)
+    length-append labels (records ++ trailerBytes (length labels) n C)
+    ∙ omega (arith, length-append records (trailerBytes (length labels) n C), length-records n jobs, length-trailer (length labels) n C)
 
 -- ---- the cases of the answer
 
-module _ (jobs : ℕ → Job) (n : ℕ) (labels : List ℕ) (N : ℕ) where
+module _ (jobs : ℕ → Job) (n : ℕ) (labels : List ℕ) (C : Cabinet) where
   module _ (room : ℕ) where
-    pub refused-count : mostJobs < n → 2 ≡ writeRefusal jobs n labels N room
-    unfolding firstFailing
-    refused-count l = rw (lt-ltb mostJobs n l)
+    abbrev behind : List Check
+    behind = contentChecks n jobs labels ++ ((10, tooShort n labels room) ∷ [])
 
-    pub refused-modules : n ≤ mostJobs → wrongModules N ≡ true → 3 ≡ writeRefusal jobs n labels N room
-    unfolding firstFailing
-    refused-modules l e = rw (le-ltb mostJobs n l, e)
+    pub refused-figures : (k : ℕ) → k ≡ firstFailing (figureChecks n C) → (k ≡ 0 → ⊥) → k ≡ writeRefusal jobs n labels C room
+    refused-figures k e h = e ∙ sym (first-in-front (figureChecks n C) behind (λ z. h (e ∙ z)))
 
-    module _ (few : n ≤ mostJobs) (mods : wrongModules N ≡ false) where
-      behind-modules : writeRefusal jobs n labels N room
-          ≡ firstFailing (contentChecks n jobs labels ++ ((10, tooShort n labels room) ∷ []))
-      unfolding firstFailing
-      behind-modules = rw (le-ltb mostJobs n few, mods)
+    module _ (passed : firstFailing (figureChecks n C) ≡ 0) where
+      pub behind-figures : writeRefusal jobs n labels C room ≡ firstFailing behind
+      behind-figures = first-behind (figureChecks n C) behind (all-passed (figureChecks n C) refl passed)
 
       pub refused-content : (k : ℕ) → k ≡ firstFailing (contentChecks n jobs labels) → (k ≡ 0 → ⊥)
-          → k ≡ writeRefusal jobs n labels N room
+          → k ≡ writeRefusal jobs n labels C room
       refused-content k e h =
-          e ∙ sym (first-in-front (contentChecks n jobs labels) ((10, tooShort n labels room) ∷ []) (λ z. h (e ∙ z))) ∙ sym behind-modules
+          e ∙ sym (first-in-front (contentChecks n jobs labels) ((10, tooShort n labels room) ∷ []) (λ z. h (e ∙ z))) ∙ sym behind-figures
 
       behind-content : firstFailing (contentChecks n jobs labels) ≡ 0
-          → writeRefusal jobs n labels N room ≡ cond (tooShort n labels room) 10 0
+          → writeRefusal jobs n labels C room ≡ cond (tooShort n labels room) 10 0
       unfolding firstFailing
       behind-content e =
-          behind-modules
+          behind-figures
           ∙ first-behind (contentChecks n jobs labels) ((10, tooShort n labels room) ∷ [])
           (all-passed (contentChecks n jobs labels) refl e)
 
       pub refused-room : firstFailing (contentChecks n jobs labels) ≡ 0 → room < length labels + recordSize * n + trailerSize
-          → 10 ≡ writeRefusal jobs n labels N room
+          → 10 ≡ writeRefusal jobs n labels C room
       refused-room e l = sym (behind-content e ∙ ap (λ b. cond b 10 0) (lt-ltb room (length labels + recordSize * n + trailerSize) l))
 
       pub not-refused : firstFailing (contentChecks n jobs labels) ≡ 0 → length labels + recordSize * n + trailerSize ≤ room
-          → 0 ≡ writeRefusal jobs n labels N room
+          → 0 ≡ writeRefusal jobs n labels C room
       not-refused e l = sym (behind-content e ∙ ap (λ b. cond b 10 0) (le-ltb room (length labels + recordSize * n + trailerSize) l))
 
 -- ---- what an answered call says
 
-pub record Writes (jobs : ℕ → Job) (n : ℕ) (labels : List ℕ) (N room : ℕ) : Type 0 where
-  pub few : n ≤ mostJobs
-  pub some : 1 ≤ N
-  pub most : N ≤ mostModules
+pub record Writes (jobs : ℕ → Job) (n : ℕ) (labels : List ℕ) (C : Cabinet) (room : ℕ) : Type 0 where
+  pub figures : FiguresFit n C
   pub sound : (i : ℕ) → i < n → faulty n (jobs i) ≡ false
   pub lengths : labelLengths n jobs ≡ length labels
   pub printable : wrongLabels n jobs labels ≡ false
   pub short : length labels ≤ n * longestLabel
   pub fits : length labels + recordSize * n + trailerSize ≤ room
 
-pub writes : (jobs : ℕ → Job) (n : ℕ) (labels : List ℕ) (N room k : ℕ) → k ≡ writeRefusal jobs n labels N room → k ≡ 0
-    → Writes jobs n labels N room
-writes jobs n labels N room k e z =
-    let p = all-passed (writeChecks jobs n labels N room) refl (sym e ∙ z) in
-    let m = inside 1 mostModules N (p .1 .0) in
-    let sound = any-none n (λ i. faulty n (jobs i)) (p .1 .1 .0) in
-    let lengths = eqb-true (labelLengths n jobs) (length labels) (not-false _ (p .1 .1 .1 .0)) in
+pub writes : (jobs : ℕ → Job) (n : ℕ) (labels : List ℕ) (C : Cabinet) (room k : ℕ) → k ≡ writeRefusal jobs n labels C room → k ≡ 0
+    → Writes jobs n labels C room
+writes jobs n labels C room k e z =
+    let p = both-passed (figureChecks n C) (contentChecks n jobs labels ++ ((10, tooShort n labels room) ∷ []))
+    (all-passed (writeChecks jobs n labels C room) refl (sym e ∙ z)) in
+    let q = both-passed (contentChecks n jobs labels) ((10, tooShort n labels room) ∷ []) (p .1) in
+    let sound = any-none n (λ i. faulty n (jobs i)) (q .0 .0) in
+    let lengths = eqb-true (labelLengths n jobs) (length labels) (not-false _ (q .0 .1 .0)) in
     let each : (i : ℕ) → i < n → labelLength (jobs i) ≤ longestLabel = λ i l. legal n (jobs i) (sound i l) .label-most in
     record {
-      few = ltb-false mostJobs n (p .0);
-      some = m .0;
-      most = m .1;
+      figures = figures-fit n C (none-failing (figureChecks n C) (p .0));
       sound = sound;
       lengths = lengths;
-      printable = p .1 .1 .1 .1 .0;
+      printable = q .0 .1 .1 .0;
       short = omega (arith, lengths, sum-most n (λ i. labelLength (jobs i)) longestLabel each);
-      fits = ltb-false room (length labels + recordSize * n + trailerSize) (p .1 .1 .1 .1 .1 .0);
+      fits = ltb-false room (length labels + recordSize * n + trailerSize) (q .1 .0);
     }
 
 -- ---- the answer and the buffer
 
-module _ (jobs : ℕ → Job) (n : ℕ) (labels : List ℕ) (N : ℕ) (out : List ℕ) where
-  pub refused-answer : (k : ℕ) → k ≡ writeRefusal jobs n labels N (length out) → (k ≡ 0 → ⊥)
-      → _≡_ {A = Written} (record { refusal = k; length = 0 }) (writeAnswer jobs n labels N out)
+module _ (jobs : ℕ → Job) (n : ℕ) (labels : List ℕ) (C : Cabinet) (out : List ℕ) where
+  pub refused-answer : (k : ℕ) → k ≡ writeRefusal jobs n labels C (length out) → (k ≡ 0 → ⊥)
+      → _≡_ {A = Written} (record { refusal = k; length = 0 }) (writeAnswer jobs n labels C out)
   unfolding writeAnswer
   refused-answer k e h = rw (← e, ne-eqb k 0 h)
 
-  pub refused-leaves : (k : ℕ) → k ≡ writeRefusal jobs n labels N (length out) → (k ≡ 0 → ⊥) → out ≡ writeLeaves jobs n labels N out
+  pub refused-leaves : (k : ℕ) → k ≡ writeRefusal jobs n labels C (length out) → (k ≡ 0 → ⊥) → out ≡ writeLeaves jobs n labels C out
   unfolding writeLeaves
   refused-leaves k e h = rw (← e, ne-eqb k 0 h)
 
-  module _ (k : ℕ) (e : k ≡ writeRefusal jobs n labels N (length out)) (z : k ≡ 0) where
+  module _ (k : ℕ) (e : k ≡ writeRefusal jobs n labels C (length out)) (z : k ≡ 0) where
     pub written-answer : (m : ℕ) → m ≡ length labels + recordSize * n + trailerSize
-        → _≡_ {A = Written} (record { refusal = 0; length = m }) (writeAnswer jobs n labels N out)
+        → _≡_ {A = Written} (record { refusal = 0; length = m }) (writeAnswer jobs n labels C out)
     unfolding writeAnswer
-    written-answer m l = rw (sym e ∙ z) (ap (λ (x : ℕ). record { refusal = 0; length = x }) (l ∙ sym (length-sheet jobs n labels N)))
+    written-answer m l = rw (sym e ∙ z) (ap (λ (x : ℕ). record { refusal = 0; length = x }) (l ∙ sym (length-sheet jobs n labels C)))
 
-    pub written-leaves : (after : List ℕ) → after ≡ over (sheetBytes jobs n labels N) out → after ≡ writeLeaves jobs n labels N out
+    pub written-leaves : (after : List ℕ) → after ≡ over (sheetBytes jobs n labels C) out → after ≡ writeLeaves jobs n labels C out
     unfolding writeLeaves
     written-leaves after l = rw (sym e ∙ z) l
 
   -- the three parts, written one behind another
-  pub parts-are : (ls rs ts : List ℕ) → ls ≡ labels → rs ≡ joined n (λ i. recordBytes (jobs i)) → ts ≡ trailerBytes (length labels) n N
+  pub parts-are : (ls rs ts : List ℕ) → ls ≡ labels → rs ≡ joined n (λ i. recordBytes (jobs i)) → ts ≡ trailerBytes (length labels) n C
       → putMid (length labels + recordSize * n) (length labels + recordSize * n + trailerSize - (length labels + recordSize * n))
       (putMid (length labels) (length labels + recordSize * n - length labels) (ls ++ drop (length labels) out) rs) ts
-      ≡ over (sheetBytes jobs n labels N) out
+      ≡ over (sheetBytes jobs n labels C) out
   unfolding sheetBytes
   parts-are ls rs ts el er et =
       let records : List ℕ = joined n (λ i. recordBytes (jobs i)) in
-      let trailer : List ℕ = trailerBytes (length labels) n N in
+      let trailer : List ℕ = trailerBytes (length labels) n C in
       let k : length labels + recordSize * n + trailerSize - (length labels + recordSize * n) ≡ trailerSize = omega arith in
       let m : length labels + recordSize * n - length labels ≡ recordSize * n = omega arith in
       let size : length (labels ++ records) ≡ length labels + recordSize * n =
@@ -141,4 +135,4 @@ module _ (jobs : ℕ → Job) (n : ℕ) (labels : List ℕ) (N : ℕ) (out : Lis
       (ap (λ (x : List ℕ). putMid (length labels + recordSize * n) trailerSize x trailer)
       (next-part out labels records (length labels) (recordSize * n) refl)
       ∙ next-part out (labels ++ records) trailer (length labels + recordSize * n) trailerSize size
-      ∙ ap₂ (λ (x : List ℕ) (i : ℕ). x ++ drop i out) (append-assoc labels records trailer) (sym (length-sheet jobs n labels N)))
+      ∙ ap₂ (λ (x : List ℕ) (i : ℕ). x ++ drop i out) (append-assoc labels records trailer) (sym (length-sheet jobs n labels C)))

@@ -12,7 +12,7 @@ use Rattle.sheet.specs.declared.LabelPlace.{LabelPlace}
 use Rattle.sheet.specs.declared.Reading.{Reading}
 use Rattle.sheet.specs.Read.{readChecks}
 
--- labels check 1 to 7, then 14
+-- labels check as reading does, then 14
 abbrev pub labelChecks : List ℕ → ℕ → List Check
 labelChecks s job = readChecks s ++ ((14, noSuchJob (countOf s) job) ∷ [])
 

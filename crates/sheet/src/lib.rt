@@ -4,12 +4,11 @@ ghost use Prim.Native.Nat.{_+_, _*_, _≤_};
 ghost use lib.ListN.{length};
 ghost use Rattle.checking.specs.Checking.{firstFailing};
 ghost use Rattle.sheet_format.specs.Figures.{mostJobs, recordSize, trailerSize, longestLabel};
-ghost use Rattle.sheet_format.specs.Format.{jobsIn, sheetBytes, offsetOf, countOf, modulesOf};
+ghost use Rattle.sheet_format.specs.Format.{jobsIn, sheetBytes, offsetOf, countOf, modulesOf, changeoverOf, cabinet};
 ghost use Rattle.sheet_format.specs.Checks.{trailerChecks};
 ghost use Rattle.sheet.specs.Read.{refused, reading};
 ghost use Rattle.sheet.specs.Write.{over, writeRefusal, writeAnswer, writeLeaves};
 use figures::MOST_JOBS;
-use figures::MOST_MODULES;
 pub use sheet_format::Job;
 use sheet_format::checks::either;
 use sheet_format::checks::faulty;
@@ -20,13 +19,14 @@ use sheet_format::records::label_length;
 use sheet_format::records::no_jobs;
 use sheet_format::records::read_one;
 
-// What reading answers: refusal 0 with the jobs, n and N, or the number of the refusal with all else 0.
+// What reading answers: refusal 0 with the jobs, n, N and the changeover, or the number of the refusal with all else 0.
 #[repr(C)]
 pub struct Reading {
     pub refusal: u32,
     pub jobs: [Job; MOST_JOBS],
     pub count: usize,
     pub modules: u16,
+    pub changeover: u16,
 }
 
 // Where a label lies: refusal 0 with its offset in the sheet and its length, or the number of the refusal with all else 0.
@@ -54,14 +54,16 @@ pub fn refused(refusal: u32) -> Reading
         jobs,
         count: 0,
         modules: 0,
+        changeover: 0,
     }
 }
 
-// One pass over the records, each with its label: what reading answers where 1 to 4 pass. A label is looked at where it ends within the
+// One pass over the records, each with its label: what reading answers where 1 to 4 and 19 pass. A label is looked at where it ends within the
 // labels; where one does not, 6 fails.
-fn read_records(sheet: &[u8], offset: usize, count: usize, modules: u16) -> Reading
+fn read_records(sheet: &[u8], offset: usize, count: usize, modules: u16, changeover: u16) -> Reading
     requires { ⌜ (firstFailing (trailerChecks (now sheet)) ≡ 0)
-        × (offset ≡ offsetOf (now sheet)) × (count ≡ countOf (now sheet)) × (modules ≡ modulesOf (now sheet)) ⌝ }
+        × (offset ≡ offsetOf (now sheet)) × (count ≡ countOf (now sheet))
+        × (modules ≡ modulesOf (now sheet)) × (changeover ≡ changeoverOf (now sheet)) ⌝ }
     ensures { λ r. ⌜ r ≡ reading (now (sheet .entry)) ⌝ }
 {
     let jobs = no_jobs();
@@ -70,6 +72,7 @@ fn read_records(sheet: &[u8], offset: usize, count: usize, modules: u16) -> Read
         jobs,
         count,
         modules,
+        changeover,
     };
     let mut total: usize = 0;
     let mut wrong = false;
@@ -94,7 +97,7 @@ fn read_records(sheet: &[u8], offset: usize, count: usize, modules: u16) -> Read
     answer
 }
 
-// The jobs of a sheet, or the first refusal of 1 to 7.
+// The jobs of a sheet, or the first refusal of 1, 2, 3, 19 and 4 to 7.
 pub fn read(sheet: &[u8]) -> Reading
     ensures { λ r. ⌜ r ≡ reading (now (sheet .entry)) ⌝ }
 {
@@ -105,24 +108,24 @@ pub fn read(sheet: &[u8]) -> Reading
     let offset = sheet_format::trailer::offset(sheet) as usize;
     let count = sheet_format::trailer::count(sheet) as usize;
     let modules = sheet_format::trailer::modules(sheet);
-    read_records(sheet, offset, count, modules)
+    let changeover = sheet_format::trailer::changeover(sheet);
+    read_records(sheet, offset, count, modules, changeover)
 }
 
-// The first refusal of 2, 3, 5, 6, 7 and 10, for a lent buffer of `room` bytes, or 0.
+// The first refusal of 2, 3, 19, 5, 6, 7 and 10, for a lent buffer of `room` bytes, or 0.
 fn write_refusal(
     jobs: [Job; MOST_JOBS],
     count: usize,
     labels: &[u8],
     modules: u16,
+    changeover: u16,
     room: usize,
 ) -> u32
-    ensures { λ r. ⌜ r ≡ writeRefusal (jobsIn jobs) count (now (labels .entry)) modules room ⌝ }
+    ensures { λ r. ⌜ r ≡ writeRefusal (jobsIn jobs) count (now (labels .entry)) (cabinet modules changeover) room ⌝ }
 {
-    if MOST_JOBS < count {
-        return 2;
-    }
-    if sheet_format::checks::outside(1, MOST_MODULES, modules as usize) {
-        return 3;
+    let wrong = sheet_format::checks::figures_refusal(count, modules, changeover);
+    if wrong != 0 {
+        return wrong;
     }
     let found = sheet_format::records::survey(jobs, count);
     let refusal = sheet_format::checks::content_refusal(
@@ -147,19 +150,26 @@ fn write_parts(
     count: usize,
     labels: &[u8],
     modules: u16,
+    changeover: u16,
     out: &mut [u8],
 ) -> usize
     requires { ⌜ (count ≤ mostJobs) × (length (now labels) ≤ count * longestLabel)
         × (length (now labels) + recordSize * count + trailerSize ≤ length (now out)) ⌝ }
     ensures { λ r. ⌜ (r ≡ length (now (labels .entry)) + recordSize * count + trailerSize)
-        × (now (out .exit) ≡ over (sheetBytes (jobsIn jobs) count (now (labels .entry)) modules) (now (out .entry))) ⌝ }
+        × (now (out .exit) ≡ over (sheetBytes (jobsIn jobs) count (now (labels .entry)) (cabinet modules changeover)) (now (out .entry))) ⌝ }
 {
     let offset = labels.len();
     let end = offset + RECORD_SIZE * count;
     let length = end + TRAILER_SIZE;
     sheet_format::records::write_labels(&mut out[..offset], labels);
     sheet_format::records::write_all(&mut out[offset..end], jobs, count);
-    sheet_format::trailer::write(&mut out[end..length], offset as u32, count as u16, modules);
+    sheet_format::trailer::write(
+        &mut out[end..length],
+        offset as u32,
+        count as u16,
+        modules,
+        changeover,
+    );
     length
 }
 
@@ -169,17 +179,18 @@ pub fn write(
     count: usize,
     labels: &[u8],
     modules: u16,
+    changeover: u16,
     out: &mut [u8],
 ) -> Written
-    ensures { λ r. ⌜ (r ≡ writeAnswer (jobsIn jobs) count (now (labels .entry)) modules (now (out .entry)))
-        × (now (out .exit) ≡ writeLeaves (jobsIn jobs) count (now (labels .entry)) modules (now (out .entry))) ⌝ }
+    ensures { λ r. ⌜ (r ≡ writeAnswer (jobsIn jobs) count (now (labels .entry)) (cabinet modules changeover) (now (out .entry)))
+        × (now (out .exit) ≡ writeLeaves (jobsIn jobs) count (now (labels .entry)) (cabinet modules changeover) (now (out .entry))) ⌝ }
 {
-    let refusal = write_refusal(jobs, count, labels, modules, out.len());
+    let refusal = write_refusal(jobs, count, labels, modules, changeover, out.len());
     if refusal != 0 {
         return Written { refusal, length: 0 };
     }
     Written {
         refusal: 0,
-        length: write_parts(jobs, count, labels, modules, out),
+        length: write_parts(jobs, count, labels, modules, changeover, out),
     }
 }

@@ -14,7 +14,7 @@ use Rattle.words.proofs.Bytes.{segment}
 use Rattle.words.proofs.Numbers.{number-first, number-next, number-last, number-behind, bytes-each}
 use Rattle.sheet_format.specs.declared.Job.{Job}
 use Rattle.sheet_format.specs.Figures.{mostJobs, recordSize, trailerSize}
-use Rattle.sheet_format.specs.Format.{recordAt, recordBytes, trailerBytes}
+use Rattle.sheet_format.specs.Format.{recordAt, recordBytes, trailerBytes, Cabinet, cabinet}
 use Rattle.sheet_format.specs.Checks.{faulty}
 use Rattle.sheet_format.proofs.Bounds.{legal}
 
@@ -41,14 +41,26 @@ record-read n j rest few sound =
     ap₂ (λ (w x : ℕ). with w x (u16At s 8) (u16At s 10)) minutes earlier ∙ ap₂ (with (j .minutes) (j .earlier)) departure arrival
 
 -- a trailer of figures that fit their bytes
-pub trailer-read : (offset n N : ℕ) → offset < 2 ^ 32 → n < 2 ^ 16 → N < 2 ^ 16
-    → (u32At (trailerBytes offset n N) 0 ≡ offset) × (u16At (trailerBytes offset n N) 4 ≡ n) × (u16At (trailerBytes offset n N) 6 ≡ N)
+pub record TrailerHolds (s : List ℕ) (offset n : ℕ) (C : Cabinet) : Type 0 where
+  pub offset-is : u32At s 0 ≡ offset
+  pub count-is : u16At s 4 ≡ n
+  pub modules-is : u16At s 6 ≡ C .modules
+  pub changeover-is : u16At s 8 ≡ C .changeover
+
+pub trailer-read : (offset n : ℕ) (C : Cabinet) → offset < 2 ^ 32 → n < 2 ^ 16 → C .modules < 2 ^ 16 → C .changeover < 2 ^ 16
+    → TrailerHolds (trailerBytes offset n C) offset n C
 unfolding trailerBytes joined
-trailer-read offset n N a b c = (
-  number-first 4 offset (bytesOf 2 n ++ bytesOf 2 N) a,
-  number-next 4 2 n (bytesOf 4 offset) (bytesOf 2 N) refl b,
-  number-last 6 2 N (bytesOf 4 offset ++ bytesOf 2 n) refl c,
-)
+trailer-read offset n C a b c d =
+    let o = bytesOf 4 offset in
+    let k = bytesOf 2 n in
+    let m = bytesOf 2 (C .modules) in
+    let r = bytesOf 2 (C .changeover) in
+    record {
+      offset-is = number-first 4 offset (k ++ (m ++ r)) a;
+      count-is = number-next 4 2 n o (m ++ r) refl b;
+      modules-is = number-next 6 2 (C .modules) (o ++ k) r refl c;
+      changeover-is = number-last 8 2 (C .changeover) (o ++ (k ++ m)) refl d;
+    }
 
 -- ---- behind other bytes
 
@@ -73,8 +85,9 @@ module _ (s : List ℕ) (bytes : (i : ℕ) → byteAt s i < 256) where
       ∙ rw (segment s at recordSize h) (simp (add-assoc, add-zero))
 
   pub trailer-back : (at : ℕ) → at + trailerSize ≤ length s
-      → trailerBytes (u32At s at) (u16At s (at + 4)) (u16At s (at + 6)) ≡ take trailerSize (drop at s)
+      → trailerBytes (u32At s at) (u16At s (at + 4)) (cabinet (u16At s (at + 6)) (u16At s (at + 8))) ≡ take trailerSize (drop at s)
   unfolding trailerBytes joined
   trailer-back at h =
-      ap₂ _++_ (bytes-each s bytes at 4) (ap₂ _++_ (bytes-each s bytes (at + 4) 2) (bytes-each s bytes (at + 6) 2))
+      ap₂ _++_ (bytes-each s bytes at 4)
+      (ap₂ _++_ (bytes-each s bytes (at + 4) 2) (ap₂ _++_ (bytes-each s bytes (at + 6) 2) (bytes-each s bytes (at + 8) 2)))
       ∙ rw (segment s at trailerSize h) (simp (add-assoc, add-zero))

@@ -2,6 +2,7 @@
 pub mod Bounds
 pub mod Lists
 pub mod Parts
+pub mod Trailers
 pub mod Cuts
 pub mod LabelRule
 pub mod Digits

@@ -14,7 +14,7 @@ use Rattle.words.proofs.Bytes.{bytes-length}
 use Rattle.words.proofs.Writes.{written-next, three-numbers}
 use Rattle.words.proofs.Parts.{next-part}
 use Rattle.sheet_format.specs.Figures.{recordSize, trailerSize}
-use Rattle.sheet_format.specs.Format.{recordBytes, trailerBytes}
+use Rattle.sheet_format.specs.Format.{recordBytes, trailerBytes, Cabinet}
 
 -- the first n bytes are p, and four numbers fill the rest
 pub four-numbers : (l p s t u v w : List ℕ) (n h i j k a b c d : ℕ) → length p ≡ n → length l ≡ n + h + i + j + k → s ≡ p ++ drop n l
@@ -32,9 +32,9 @@ length-record j = refl
 pub length-records : (n : ℕ) (jobs : ℕ → Job) → length (joined n (λ i. recordBytes (jobs i))) ≡ recordSize * n
 length-records n jobs = joined-length n recordSize (λ i. recordBytes (jobs i)) (λ i l. length-record (jobs i))
 
-pub length-trailer : (offset n N : ℕ) → length (trailerBytes offset n N) ≡ trailerSize
+pub length-trailer : (offset n : ℕ) (C : Cabinet) → length (trailerBytes offset n C) ≡ trailerSize
 unfolding trailerBytes joined
-length-trailer offset n N = refl
+length-trailer offset n C = refl
 
 -- ---- one record more
 

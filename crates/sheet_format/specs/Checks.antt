@@ -2,23 +2,23 @@
 use mathlib.Core.Path.{_≡_}
 use mathlib.Core.Logic.{_⊎_, _≢_}
 use mathlib.Core.Bool.{Bool, not, _||_}
-use mathlib.Core.List.{List, [], _∷_}
+use mathlib.Core.List.{List, [], _∷_, _++_}
 use Prim.Native.Nat.{ℕ, _+_, _-_, _*_, _^_, _≤_, _<_}
 use lib.Dec.{ltb, leb, eqb}
 use lib.ListN.{length}
 use Rattle.counting.specs.Counting.{any}
 use Rattle.checking.specs.Checking.{Check}
 use Rattle.sheet_format.specs.declared.Job.{Job}
-use Rattle.sheet_format.specs.Figures.{mostJobs, mostModules, longestSheet, recordSize, trailerSize, longestLabel}
+use Rattle.sheet_format.specs.Figures.{mostJobs, mostModules, longestChangeover, longestSheet, recordSize, trailerSize, longestLabel}
 use Rattle.sheet_format.specs.Figures.{firstLabelByte, lastLabelByte, space, widestJob, mostMinutes, lastDeparture, lastArrival}
 use Rattle.words.specs.Words.{byteAt}
-use Rattle.sheet_format.specs.Format.{labelLength, labelLengths, labelIn, offsetOf, countOf, modulesOf}
+use Rattle.sheet_format.specs.Format.{labelLength, labelLengths, labelIn, offsetOf, countOf, Cabinet, cabinetOf}
 
 -- x is not one of low to high
 unfoldable pub outside : ℕ → ℕ → ℕ → Bool
 outside low high x = ltb x low || ltb high x
 
--- 1. The sheet has fewer than 8 or more than 568 bytes.
+-- 1. The sheet has fewer than 10 or more than 570 bytes.
 abbrev pub wrongLength : List ℕ → Bool
 wrongLength s = outside trailerSize longestSheet (length s)
 
@@ -30,7 +30,11 @@ tooManyJobs n = ltb mostJobs n
 abbrev pub wrongModules : ℕ → Bool
 wrongModules N = outside 1 mostModules N
 
--- 4. The record offset plus 12n plus 8 is not the sheet's length.
+-- 19. The changeover is above 30.
+abbrev pub wrongChangeover : ℕ → Bool
+wrongChangeover changeover = ltb longestChangeover changeover
+
+-- 4. The record offset plus 12n plus 10 is not the sheet's length.
 abbrev pub wrongOffset : List ℕ → Bool
 wrongOffset s = not (eqb (offsetOf s + recordSize * countOf s + trailerSize) (length s))
 
@@ -88,10 +92,13 @@ noSuchJob n job = leb n job
 
 -- ---- in order
 
--- 1 to 4, of the length and the trailer
+-- 2, 3 and 19, of n and the cabinet
+abbrev pub figureChecks : ℕ → Cabinet → List Check
+figureChecks n C = (2, tooManyJobs n) ∷ (3, wrongModules (C .modules)) ∷ (19, wrongChangeover (C .changeover)) ∷ []
+
+-- 1, then those, then 4, of the length and the trailer
 abbrev pub trailerChecks : List ℕ → List Check
-trailerChecks s =
-    (1, wrongLength s) ∷ (2, tooManyJobs (countOf s)) ∷ (3, wrongModules (modulesOf s)) ∷ (4, wrongOffset s) ∷ []
+trailerChecks s = (1, wrongLength s) ∷ (figureChecks (countOf s) (cabinetOf s) ++ ((4, wrongOffset s) ∷ []))
 
 -- 5 to 7, of n jobs and the label bytes there are
 abbrev pub contentChecks : ℕ → (ℕ → Job) → List ℕ → List Check

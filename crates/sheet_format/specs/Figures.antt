@@ -1,20 +1,20 @@
 -- The figures of job sheets (requirements, S and C). Each stands here or in `figures` once; src/layout.rt has a
 -- constant for each.
 use Prim.Native.Nat.{ℕ}
--- n is 0 to 20, N is 1 to 64, a job takes 1 to 1440 minutes, an arrival is 0 to 1440
-pub use Rattle.figures.specs.Figures.{mostJobs, mostModules, mostMinutes, lastArrival}
+-- n is 0 to 20, N is 1 to 64, a changeover takes 0 to 30 minutes, a job 1 to 1440 minutes, an arrival is 0 to 1440
+pub use Rattle.figures.specs.Figures.{mostJobs, mostModules, longestChangeover, mostMinutes, lastArrival}
 
--- the longest sheet has 568 bytes
+-- the longest sheet has 570 bytes
 abbrev pub longestSheet : ℕ
-longestSheet = 568
+longestSheet = 570
 
 -- a record has 12 bytes
 abbrev pub recordSize : ℕ
 recordSize = 12
 
--- the trailer has 8 bytes, and the shortest sheet is a trailer alone
+-- the trailer has 10 bytes, and the shortest sheet is a trailer alone
 abbrev pub trailerSize : ℕ
-trailerSize = 8
+trailerSize = 10
 
 -- a label has 1 to 16 bytes
 abbrev pub longestLabel : ℕ

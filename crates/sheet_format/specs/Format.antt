@@ -31,7 +31,7 @@ recordBytes j =
 abbrev pub noJob : Job
 noJob = record { «label_len» = 0; modules = 0; minutes = 0; earlier = 0; departure = 0; arrival = 0 }
 
--- ---- the trailer: offset of the first record (4 bytes), n (2), modules N in the cabinet (2)
+-- ---- the trailer: offset of the first record (4 bytes), n (2), modules N in the cabinet (2), changeover (2)
 
 abbrev pub trailerAt : List ℕ → ℕ
 trailerAt s = length s - trailerSize
@@ -45,8 +45,22 @@ countOf s = u16At s (trailerAt s + 4)
 abbrev pub modulesOf : List ℕ → ℕ
 modulesOf s = u16At s (trailerAt s + 6)
 
-unfoldable pub trailerBytes : ℕ → ℕ → ℕ → List ℕ
-trailerBytes offset n N = bytesOf 4 offset ++ (bytesOf 2 n ++ bytesOf 2 N)
+abbrev pub changeoverOf : List ℕ → ℕ
+changeoverOf s = u16At s (trailerAt s + 8)
+
+-- what a sheet says of the cabinet: its modules N, and the minutes that a module rests between two jobs
+pub record Cabinet : Type 0 where
+  pub modules : ℕ
+  pub changeover : ℕ
+
+abbrev pub cabinet : ℕ → ℕ → Cabinet
+cabinet modules changeover = record { modules = modules; changeover = changeover }
+
+abbrev pub cabinetOf : List ℕ → Cabinet
+cabinetOf s = cabinet (modulesOf s) (changeoverOf s)
+
+unfoldable pub trailerBytes : ℕ → ℕ → Cabinet → List ℕ
+trailerBytes offset n C = bytesOf 4 offset ++ (bytesOf 2 n ++ (bytesOf 2 (C .modules) ++ bytesOf 2 (C .changeover)))
 
 -- ---- a sheet: the labels one after another from offset 0, then n records, then the trailer
 
@@ -70,9 +84,9 @@ jobOf s i = jobFrom s (offsetOf s) i
 abbrev pub labelsOf : List ℕ → List ℕ
 labelsOf s = take (offsetOf s) s
 
--- the sheet of n jobs, their labels run together, and N
-unfoldable pub sheetBytes : (ℕ → Job) → ℕ → List ℕ → ℕ → List ℕ
-sheetBytes jobs n labels N = labels ++ (joined n (λ i. recordBytes (jobs i)) ++ trailerBytes (length labels) n N)
+-- the sheet of n jobs, their labels run together, for a cabinet
+unfoldable pub sheetBytes : (ℕ → Job) → ℕ → List ℕ → Cabinet → List ℕ
+sheetBytes jobs n labels C = labels ++ (joined n (λ i. recordBytes (jobs i)) ++ trailerBytes (length labels) n C)
 
 -- ---- the jobs of a list of fixed length
 

@@ -4,16 +4,18 @@ ghost use mathlib.Core.Bool.{_||_};
 ghost use Prim.Native.Nat.{_≤_};
 ghost use Rattle.checking.specs.Checking.{firstFailing};
 ghost use Rattle.sheet_format.specs.Figures.{mostJobs};
-ghost use Rattle.sheet_format.specs.Format.{jobsIn, labelLengths};
-ghost use Rattle.sheet_format.specs.Checks.{outside, faulty, someFaulty, contentChecks};
+ghost use Rattle.sheet_format.specs.Format.{jobsIn, labelLengths, cabinet};
+ghost use Rattle.sheet_format.specs.Checks.{outside, faulty, someFaulty, figureChecks, contentChecks};
 use super::Job;
 use super::labels::wrong_labels;
 use super::layout::LAST_DEPARTURE;
 use super::layout::LONGEST_LABEL;
 use super::layout::WIDEST_JOB;
 use figures::LAST_ARRIVAL;
+use figures::LONGEST_CHANGEOVER;
 use figures::MOST_JOBS;
 use figures::MOST_MINUTES;
+use figures::MOST_MODULES;
 
 pub fn outside(low: usize, high: usize, x: usize) -> bool
     ensures { λ r. ⌜ r ≡ outside low high x ⌝ }
@@ -31,6 +33,22 @@ pub fn either(a: bool, b: bool) -> bool
         return true;
     }
     b
+}
+
+// The first of 2, 3 and 19 that fails, or 0.
+pub fn figures_refusal(count: usize, modules: u16, changeover: u16) -> u32
+    ensures { λ r. ⌜ r ≡ firstFailing (figureChecks count (cabinet modules changeover)) ⌝ }
+{
+    if MOST_JOBS < count {
+        return 2;
+    }
+    if outside(1, MOST_MODULES, modules as usize) {
+        return 3;
+    }
+    if LONGEST_CHANGEOVER < changeover {
+        return 19;
+    }
+    0
 }
 
 // Whether a record of `count` jobs has a field outside its range or an earlier-job bit at `count` or higher.

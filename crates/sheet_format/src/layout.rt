@@ -1,9 +1,9 @@
 // The figures of the format, each once; specs/Figures.antt has a definition for each. Those that plans share stand in crate `figures`.
-pub const LONGEST_SHEET: usize = 568;
+pub const LONGEST_SHEET: usize = 570;
 
 pub const RECORD_SIZE: usize = 12;
 
-pub const TRAILER_SIZE: usize = 8;
+pub const TRAILER_SIZE: usize = 10;
 
 pub const LONGEST_LABEL: usize = 16;
 

@@ -4,14 +4,13 @@ ghost use Prim.Native.Nat.{_≤_};
 ghost use lib.ListN.{length};
 ghost use Rattle.checking.specs.Checking.{firstFailing};
 ghost use Rattle.sheet_format.specs.Figures.{trailerSize};
-ghost use Rattle.sheet_format.specs.Format.{trailerBytes, offsetOf, countOf, modulesOf};
+ghost use Rattle.sheet_format.specs.Format.{trailerBytes, offsetOf, countOf, modulesOf, changeoverOf, cabinet};
 ghost use Rattle.sheet_format.specs.Checks.{trailerChecks};
+use super::checks::figures_refusal;
 use super::checks::outside;
 use super::layout::LONGEST_SHEET;
 use super::layout::RECORD_SIZE;
 use super::layout::TRAILER_SIZE;
-use figures::MOST_JOBS;
-use figures::MOST_MODULES;
 use words::read16;
 use words::read32;
 use words::write16;
@@ -41,7 +40,15 @@ pub fn modules(sheet: &[u8]) -> u16
     read16(sheet, sheet.len() - TRAILER_SIZE + 6)
 }
 
-// The first of 1 to 4 that fails, or 0.
+// The changeover.
+pub fn changeover(sheet: &[u8]) -> u16
+    requires { ⌜ trailerSize ≤ length (now sheet) ⌝ }
+    ensures { λ r. ⌜ r ≡ changeoverOf (now (sheet .entry)) ⌝ }
+{
+    read16(sheet, sheet.len() - TRAILER_SIZE + 8)
+}
+
+// The first of 1, 2, 3, 19 and 4 that fails, or 0.
 pub fn refusal(sheet: &[u8]) -> u32
     ensures { λ r. ⌜ r ≡ firstFailing (trailerChecks (now (sheet .entry))) ⌝ }
 {
@@ -49,11 +56,9 @@ pub fn refusal(sheet: &[u8]) -> u32
         return 1;
     }
     let n = count(sheet) as usize;
-    if MOST_JOBS < n {
-        return 2;
-    }
-    if outside(1, MOST_MODULES, modules(sheet) as usize) {
-        return 3;
+    let wrong = figures_refusal(n, modules(sheet), changeover(sheet));
+    if wrong != 0 {
+        return wrong;
     }
     if offset(sheet) as usize + RECORD_SIZE * n + TRAILER_SIZE != sheet.len() {
         return 4;
@@ -62,11 +67,12 @@ pub fn refusal(sheet: &[u8]) -> u32
 }
 
 // A trailer, into its own bytes.
-pub fn write(part: &mut [u8], offset: u32, count: u16, modules: u16)
+pub fn write(part: &mut [u8], offset: u32, count: u16, modules: u16, changeover: u16)
     requires { ⌜ length (now part) ≡ trailerSize ⌝ }
-    ensures { λ _. ⌜ now (part .exit) ≡ trailerBytes offset count modules ⌝ }
+    ensures { λ _. ⌜ now (part .exit) ≡ trailerBytes offset count (cabinet modules changeover) ⌝ }
 {
     write32(part, 0, offset);
     write16(part, 4, count);
     write16(part, 6, modules);
+    write16(part, 8, changeover);
 }

@@ -3,7 +3,7 @@ ghost use mathlib.Core.Path.{_≡_};
 ghost use Prim.Native.Nat.{_<_, min};
 ghost use lib.ListN.{length};
 ghost use Rattle.sheet_format.specs.Figures.{mostJobs};
-ghost use Rattle.sheet_format.specs.Format.{noJob, jobsIn};
+ghost use Rattle.sheet_format.specs.Format.{noJob, jobsIn, cabinet};
 ghost use Rattle.sheet.specs.Write.{writeAnswer, writeLeaves};
 ghost use Rattle.sheet_list.specs.Gather.{gathered, listed, placed};
 use figures::MOST_JOBS;
@@ -59,20 +59,33 @@ fn gather(jobs: &[Job]) -> Jobs
     all
 }
 
-fn write_gathered(all: Jobs, count: usize, labels: &[u8], modules: u16, out: &mut [u8]) -> Written
-    ensures { λ r. ⌜ (r ≡ writeAnswer (jobsIn (all .list)) count (now (labels .entry)) modules (now (out .entry)))
-        × (now (out .exit) ≡ writeLeaves (jobsIn (all .list)) count (now (labels .entry)) modules (now (out .entry))) ⌝ }
+fn write_gathered(
+    all: Jobs,
+    count: usize,
+    labels: &[u8],
+    modules: u16,
+    changeover: u16,
+    out: &mut [u8],
+) -> Written
+    ensures { λ r. ⌜ (r ≡ writeAnswer (jobsIn (all .list)) count (now (labels .entry)) (cabinet modules changeover) (now (out .entry)))
+        × (now (out .exit) ≡ writeLeaves (jobsIn (all .list)) count (now (labels .entry)) (cabinet modules changeover) (now (out .entry))) ⌝ }
 {
     let list = all.list;
-    sheet::write(list, count, labels, modules, out)
+    sheet::write(list, count, labels, modules, changeover, out)
 }
 
 // Writes the sheet of a lent list of jobs into the front of the lent buffer; more jobs than there are places: refusal 2.
-pub fn write_list(jobs: &[Job], labels: &[u8], modules: u16, out: &mut [u8]) -> Written
-    ensures { λ r. ⌜ (r ≡ writeAnswer (jobsIn (now (jobs .entry))) (length (now (jobs .entry))) (now (labels .entry)) modules
-        (now (out .entry)))
-        × (now (out .exit) ≡ writeLeaves (jobsIn (now (jobs .entry))) (length (now (jobs .entry))) (now (labels .entry)) modules
-        (now (out .entry))) ⌝ }
+pub fn write_list(
+    jobs: &[Job],
+    labels: &[u8],
+    modules: u16,
+    changeover: u16,
+    out: &mut [u8],
+) -> Written
+    ensures { λ r. ⌜ (r ≡ writeAnswer (jobsIn (now (jobs .entry))) (length (now (jobs .entry))) (now (labels .entry))
+        (cabinet modules changeover) (now (out .entry)))
+        × (now (out .exit) ≡ writeLeaves (jobsIn (now (jobs .entry))) (length (now (jobs .entry))) (now (labels .entry))
+        (cabinet modules changeover) (now (out .entry))) ⌝ }
 {
-    write_gathered(gather(jobs), jobs.len(), labels, modules, out)
+    write_gathered(gather(jobs), jobs.len(), labels, modules, changeover, out)
 }

@@ -12,13 +12,13 @@ use lib.Seq.{getD-set-same, getD-set-other}
 use Rattle.counting.specs.Counting.{only, sum}
 use borrow.Author.Tests.{ne-eqb}
 use Rattle.counting.proofs.Tests.{true-or-false, less-or-not, same-or-not, clash, and-left, and-both}
-use Rattle.figures.specs.Figures.{mostJobs, mostMinutes}
+use Rattle.figures.specs.Figures.{mostJobs}
 use Rattle.bits.specs.Bits.{bit, withoutBit, setOf}
 use Rattle.bits.proofs.Digits.{bit-none}
 use Rattle.bits.proofs.Members.{bit-without-same, bit-without}
 use Rattle.bits.proofs.Sets.{bit-setOf}
 use Rattle.bits.proofs.Walks.{Walk, walk-first, walk-next}
-use Rattle.tables.specs.Tables.{minutesAt}
+use Rattle.tables.specs.Tables.{keptAt, mostKept}
 use Rattle.sums.specs.Sums.{together, Within, SumsOf, Room, Doubled}
 
 -- ---- writing the new sums
@@ -67,7 +67,7 @@ module _ {sums₀ sums : List ℕ} {count minutes i : ℕ} (d : Doubling sums₀
 -- ---- one job more
 
 together-more : (t : List ℕ) (j : ℕ) (X : ℕ → Bool)
-    → together t (j + 1) X ≡ together t j X + only (X j) (minutesAt t j)
+    → together t (j + 1) X ≡ together t j X + only (X j) (keptAt t j)
 unfolding sum
 together-more t j X = rw add-one
 
@@ -96,7 +96,7 @@ module _ {t : List ℕ} {chosen j : ℕ} {sums : List ℕ} {count : ℕ} (s : Su
           → (i : ℕ) × (i < count) × (getD sums i 0 ≡ together t (j + 1) X)
       go X w (i, l, e) (inl y) = clash (bit chosen j) (w j y) out
       go X w (i, l, e) (inr y) =
-          let none : only (X j) (minutesAt t j) ≡ 0 = rw y in
+          let none : only (X j) (keptAt t j) ≡ 0 = rw y in
           (i, l, omega (arith, together-more t j X))
 
   -- there are none where they have no room
@@ -107,11 +107,11 @@ module _ {t : List ℕ} {chosen j : ℕ} {sums : List ℕ} {count : ℕ} (s : Su
     each = λ some X w. absurd (not-suc-le-zero some);
   }
 
-  pub sums-room : j < mostJobs → minutesAt t j ≤ mostMinutes → 2 * count ≤ length sums → Room sums count (minutesAt t j)
+  pub sums-room : j < mostJobs → keptAt t j ≤ mostKept → 2 * count ≤ length sums → Room sums count (keptAt t j)
   sums-room a b few = record { few = few; fits = λ i l. omega (arith, s .short i l) }
 
   -- each choice takes the job or leaves it
-  pub sums-more : {sums′ : List ℕ} → minutesAt t j ≤ mostMinutes → 2 * count ≤ length sums′ → Doubled sums sums′ count (minutesAt t j)
+  pub sums-more : {sums′ : List ℕ} → keptAt t j ≤ mostKept → 2 * count ≤ length sums′ → Doubled sums sums′ count (keptAt t j)
       → SumsOf t chosen (j + 1) sums′ (2 * count)
   sums-more {sums′} day few d = record {
     few = few;
@@ -119,7 +119,7 @@ module _ {t : List ℕ} {chosen j : ℕ} {sums : List ℕ} {count : ℕ} (s : Su
     each = λ some X w. go X (s .each (omega arith) X w) (true-or-false (X j));
   }
     where
-      short : (i : ℕ) → i < 2 * count → (i < count) ⊎ (count ≤ i) → getD sums′ i 0 ≤ mostMinutes * (j + 1)
+      short : (i : ℕ) → i < 2 * count → (i < count) ⊎ (count ≤ i) → getD sums′ i 0 ≤ mostKept * (j + 1)
       short i l (inl m) = omega (arith, d .kept i m, s .short i m)
       short i l (inr m) =
           let k = i - count in
@@ -130,10 +130,10 @@ module _ {t : List ℕ} {chosen j : ℕ} {sums : List ℕ} {count : ℕ} (s : Su
       go : (X : ℕ → Bool) → (i : ℕ) × (i < count) × (getD sums i 0 ≡ together t j X) → (X j ≡ true) ⊎ (X j ≡ false)
           → (i : ℕ) × (i < 2 * count) × (getD sums′ i 0 ≡ together t (j + 1) X)
       go X (i, l, e) (inl y) =
-          let one : only (X j) (minutesAt t j) ≡ minutesAt t j = rw y in
+          let one : only (X j) (keptAt t j) ≡ keptAt t j = rw y in
           (count + i, omega arith, omega (arith, together-more t j X, d .more i l))
       go X (i, l, e) (inr y) =
-          let none : only (X j) (minutesAt t j) ≡ 0 = rw y in
+          let none : only (X j) (keptAt t j) ≡ 0 = rw y in
           (i, omega arith, omega (arith, together-more t j X, d .kept i l))
 
 -- ---- the walk over the set's jobs

@@ -13,7 +13,7 @@ use Rattle.counting.proofs.Sums.{sum-same, sum-add}
 use Rattle.counting.proofs.Ranges.{le-largest, largest-le, every-at}
 use Rattle.figures.specs.Figures.{mostJobs}
 use Rattle.bits.specs.Bits.{bit}
-use Rattle.tables.specs.Tables.{minutesAt, countOf}
+use Rattle.tables.specs.Tables.{keptAt, countOf}
 use Rattle.sums.specs.Sums.{together, SumsOf, longest, longestPair, RoundedToSum}
 use Rattle.sums.proofs.Longest.{longest-le, longest-bounds}
 
@@ -62,9 +62,9 @@ module _ {t : List ℕ} {low : List ℕ} {lows : ℕ} {high : List ℕ} {highs :
       go X m (i, n, e) =
           let split : together t (countOf t) X
           ≡ together t (countOf t) (λ k. X k && bit lowJobs k) + together t (countOf t) (λ k. X k && bit highJobs k) =
-          sum-same (countOf t) _ (λ k. only (X k && bit lowJobs k) (minutesAt t k) + only (X k && bit highJobs k) (minutesAt t k))
-          (λ k y. one-half (X k) k (minutesAt t k) (omega arith))
-          ∙ sum-add (countOf t) (λ k. only (X k && bit lowJobs k) (minutesAt t k)) (λ k. only (X k && bit highJobs k) (minutesAt t k)) in
+          sum-same (countOf t) _ (λ k. only (X k && bit lowJobs k) (keptAt t k) + only (X k && bit highJobs k) (keptAt t k))
+          (λ k y. one-half (X k) k (keptAt t k) (omega arith))
+          ∙ sum-add (countOf t) (λ k. only (X k && bit lowJobs k) (keptAt t k)) (λ k. only (X k && bit highJobs k) (keptAt t k)) in
           let rest = longest-bounds high highs b h (λ k. X k && bit highJobs k) (x - getD low i 0)
           (λ k. and-right (X k) (bit highJobs k)) (omega arith) in
           let most : getD low i 0 + longest high highs (x - getD low i 0) ≤ largest lows with-low =

@@ -1,4 +1,4 @@
--- Sums of the minutes of some of the jobs: the times at which a plan can end.
+-- Sums of the minutes for which some of the jobs keep their modules, and the times at which a plan can end.
 use mathlib.Core.Path.{_≡_}
 use mathlib.Core.Bool.{Bool, true}
 use mathlib.Core.List.{List}
@@ -6,15 +6,14 @@ use Prim.Native.Nat.{ℕ, _+_, _-_, _*_, _≤_, _<_, _∣_}
 use lib.Dec.{leb}
 use lib.ListN.{length, getD}
 use Rattle.counting.specs.Counting.{only, sum, largest}
-use Rattle.figures.specs.Figures.{mostMinutes}
 use Rattle.bits.specs.Bits.{bit}
 use Rattle.schedule.specs.ListPlan.{Order}
 use Rattle.schedule.specs.TieRule.{endOf}
-use Rattle.tables.specs.Tables.{minutesAt, arrivalAt, countOf, sheetOf}
+use Rattle.tables.specs.Tables.{minutesAt, arrivalAt, keptAt, mostKept, countOf, changeoverOf, sheetOf}
 
--- the minutes of those of the first `jobs` jobs that are in X, together
+-- how long those of the first `jobs` jobs that are in X keep a module, one after another
 abbrev pub together : List ℕ → ℕ → (ℕ → Bool) → ℕ
-together t jobs X = sum jobs (λ k. only (X k) (minutesAt t k))
+together t jobs X = sum jobs (λ k. only (X k) (keptAt t k))
 
 -- the jobs of X are in the set
 abbrev pub Within : (ℕ → Bool) → ℕ → Type 0
@@ -23,7 +22,7 @@ Within X set = (k : ℕ) → X k ≡ true → bit set k ≡ true
 -- among the first `count` sums, where there are any, is that of each choice from the first `jobs` jobs of the set
 pub record SumsOf (t : List ℕ) (set jobs : ℕ) (at : List ℕ) (count : ℕ) : Type 0 where
   pub few : count ≤ length at
-  pub short : (i : ℕ) → i < count → getD at i 0 ≤ mostMinutes * jobs
+  pub short : (i : ℕ) → i < count → getD at i 0 ≤ mostKept * jobs
   pub each : 0 < count → (X : ℕ → Bool) → Within X set → (i : ℕ) × (i < count) × (getD at i 0 ≡ together t jobs X)
 
 -- behind the first `count` sums is room for the same with so many minutes more
@@ -56,11 +55,13 @@ pub record Rounded (t : List ℕ) (x r : ℕ) : Type 0 where
 abbrev pub AllHere : List ℕ → ℕ → Type 0
 AllHere t n = (j : ℕ) → j < n → arrivalAt t j ≡ 0
 
--- g divides the minutes and the arrivals of the first n jobs
-abbrev pub Step : List ℕ → ℕ → ℕ → Type 0
-Step t n g = (j : ℕ) → j < n → (g ∣ minutesAt t j) × (g ∣ arrivalAt t j)
+-- g divides the changeover, and the minutes and the arrivals of the first n jobs
+pub record Step (t : List ℕ) (n g : ℕ) : Type 0 where
+  pub rests : g ∣ changeoverOf t
+  pub minutes : (j : ℕ) → j < n → g ∣ minutesAt t j
+  pub arrivals : (j : ℕ) → j < n → g ∣ arrivalAt t j
 
--- each sum of minutes of jobs that is not above x is not above r
+-- each sum of the minutes for which jobs keep their modules that is not above x is not above r
 pub record RoundedToSum (t : List ℕ) (x r : ℕ) : Type 0 where
   pub below : r ≤ x
   pub none-between : (X : ℕ → Bool) → together t (countOf t) X ≤ x → together t (countOf t) X ≤ r

@@ -1,12 +1,12 @@
-// Sums of the minutes of some of the jobs: the times at which a plan can end, and the bound by modules.
+// Sums of the minutes for which some of the jobs keep their modules, the times at which a plan can end, and the bound by modules.
 ghost use mathlib.Core.Path.{_≡_};
 ghost use mathlib.Core.Bool.{true};
 ghost use Prim.Native.Nat.{_+_, _-_, _*_, _<_, _≤_, _∣_};
 ghost use lib.Dec.{leb};
 ghost use lib.ListN.{length};
 ghost use Rattle.counting.specs.Counting.{only};
-ghost use Rattle.figures.specs.Figures.{mostJobs, mostMinutes};
-ghost use Rattle.tables.specs.Tables.{minutesAt, countOf, Fit};
+ghost use Rattle.figures.specs.Figures.{mostJobs};
+ghost use Rattle.tables.specs.Tables.{keptAt, mostKept, countOf, Fit};
 ghost use Rattle.tables.specs.Part.{partIn};
 ghost use Rattle.sums.specs.Sums.{SumsOf, Room, Doubled, longest, longestPair, Rounded, AllHere, Step, RoundedToSum};
 ghost use Rattle.sums.specs.Serving.{Running, Narrow, servedFrom, mostServed, Unserved};
@@ -15,21 +15,21 @@ use tables::Part;
 
 // ---- the sums of all choices from a set
 
-// The sums with those of one job more, which lasts so many minutes, behind them.
-fn add_job(at: &mut [u16], count: usize, minutes: u16)
-    requires { ⌜ Room (now at) count minutes ⌝ }
-    ensures { λ _. ⌜ Doubled (now (at .entry)) (now (at .exit)) count minutes ⌝ }
+// The sums with those of one job more, which keeps its modules for so long, behind them.
+fn add_job(at: &mut [u16], count: usize, kept: u16)
+    requires { ⌜ Room (now at) count kept ⌝ }
+    ensures { λ _. ⌜ Doubled (now (at .entry)) (now (at .exit)) count kept ⌝ }
 {
     let mut i: usize = 0;
     while i < count {
-        at[count + i] = at[i] + minutes;
+        at[count + i] = at[i] + kept;
         i += 1;
     }
 }
 
 // The same where job j is in the set; the number of sums after it, 0 where there is no room for them.
 fn with_job(at: &mut [u16], count: usize, jobs: &Jobs, set: u32, j: usize) -> usize
-    requires { ⌜ (SumsOf (now jobs) set j (now at) count) × ((j < mostJobs) × (minutesAt (now jobs) j ≤ mostMinutes)) ⌝ }
+    requires { ⌜ (SumsOf (now jobs) set j (now at) count) × ((j < mostJobs) × (keptAt (now jobs) j ≤ mostKept)) ⌝ }
     ensures { λ r. ⌜ SumsOf (now (jobs .entry)) set (j + 1) (now (at .exit)) r ⌝ }
 {
     if !bits::test32(set, j) {
@@ -38,7 +38,7 @@ fn with_job(at: &mut [u16], count: usize, jobs: &Jobs, set: u32, j: usize) -> us
     if 2 * count > at.len() {
         return 0;
     }
-    add_job(at, count, tables::minutes(jobs, j));
+    add_job(at, count, tables::kept(jobs, j));
     2 * count
 }
 
@@ -114,7 +114,7 @@ const HIGH_JOBS: u32 = 1047552;
 // The sums of all choices from ten jobs.
 const HALF_SUMS: usize = 1024;
 
-// The largest sum of minutes of all jobs that is not above the target, or the target where the sums have no room.
+// The largest sum of all jobs that is not above the target, or the target where the sums have no room.
 fn rounded_to_sum(jobs: &Jobs, target: u16) -> u16
     requires { ⌜ Fit (now jobs) ⌝ }
     ensures { λ r. ⌜ RoundedToSum (now (jobs .entry)) target r ⌝ }
@@ -148,13 +148,13 @@ fn divisor(a: u16, b: u16) -> u16
     x
 }
 
-// A number that divides the minutes and the arrivals of all jobs.
+// A number that divides the changeover, and the minutes and the arrivals of all jobs.
 fn step_of(jobs: &Jobs) -> u16
     requires { ⌜ countOf (now jobs) ≤ mostJobs ⌝ }
     ensures { λ r. ⌜ Step (now (jobs .entry)) (countOf (now (jobs .entry))) r ⌝ }
 {
     let count = tables::count(jobs);
-    let mut step: u16 = 0;
+    let mut step = tables::changeover(jobs);
     let mut i: usize = 0;
     while i < count {
         step = divisor(step, tables::minutes(jobs, i));
@@ -192,12 +192,15 @@ fn all_here(jobs: &Jobs) -> bool
     true
 }
 
-// The target, or an earlier minute where no order ends between the two: where all jobs are here ends are sums of minutes, and else multiples
-// of what divides all minutes and arrivals.
+// The target, or an earlier minute where no order ends between the two: where all jobs are here and modules need no rest ends are sums of
+// minutes, and else multiples of what divides the changeover, all minutes and all arrivals.
 pub fn rounded(jobs: &Jobs, target: u16) -> u16
     requires { ⌜ Fit (now jobs) ⌝ }
     ensures { λ r. ⌜ Rounded (now (jobs .entry)) target r ⌝ }
 {
+    if tables::changeover(jobs) != 0 {
+        return rounded_to_step(jobs, target);
+    }
     if all_here(jobs) {
         return rounded_to_sum(jobs, target);
     }
@@ -211,38 +214,39 @@ const SERVED_JOBS: u32 = 8;
 
 const SERVED_SUMS: usize = 256;
 
-// The largest of the sums that fits between minute t and the target.
-fn reach_from(at: &[u16], count: usize, t: u16, target: u16) -> u16
+// The largest of the sums that fits between minute t and minute `close`.
+fn reach_from(at: &[u16], count: usize, t: u16, close: u16) -> u16
     requires { ⌜ count ≤ length (now at) ⌝ }
-    ensures { λ r. ⌜ r ≡ longest (now (at .entry)) count (target - t) ⌝ }
+    ensures { λ r. ⌜ r ≡ longest (now (at .entry)) count (close - t) ⌝ }
 {
-    if target <= t {
+    if close <= t {
         return 0;
     }
-    longest_fit(at, count, target - t)
+    longest_fit(at, count, close - t)
 }
 
-// What the modules of the placed jobs but the first `gone`, sorted by their ends, serve from those ends up to the target.
-fn served_behind(at: &[u16], count: usize, part: &Part, gone: usize, target: u16) -> u32
+// What the modules of the placed jobs but the first `gone` serve, each from when it is given back, up to minute `close`.
+fn served_behind(at: &[u16], count: usize, part: &Part, gone: usize, close: u16) -> u32
     requires { ⌜ (Narrow (partIn (now part)) gone) × (count ≤ length (now at)) ⌝ }
-    ensures { λ r. ⌜ (r ≡ servedFrom (longest (now (at .entry)) count) (partIn (now (part .entry))) gone target) × (r ≤ mostServed) ⌝ }
+    ensures { λ r. ⌜ (r ≡ servedFrom (longest (now (at .entry)) count) (partIn (now (part .entry))) gone close) × (r ≤ mostServed) ⌝ }
 {
     let placed = tables::placed(part);
     let mut total: u32 = 0;
     let mut i = gone;
     while i < placed {
-        let reach = reach_from(at, count, tables::until(part, i), target);
+        let reach = reach_from(at, count, tables::until(part, i), close);
         total += counting::times(tables::held(part, i), reach);
         i += 1;
     }
     total
 }
 
-// Whether some of the module-minutes of the unplaced jobs cannot be served by the target. `gone` of the placed jobs have ended by minute
-// `least`, and `free` modules are free then. More than SERVED_JOBS unplaced jobs are not looked at.
-pub fn unserved(jobs: &Jobs, part: &Part, gone: usize, free: u16, least: u16, target: u16) -> bool
+// Whether some of the module-minutes of the unplaced jobs cannot be served by minute `close`, when all modules are given back. `gone` of the
+// placed jobs have given theirs back by minute `least`, and `free` modules are free then. More than SERVED_JOBS unplaced jobs are not looked
+// at.
+pub fn unserved(jobs: &Jobs, part: &Part, gone: usize, free: u16, least: u16, close: u16) -> bool
     requires { ⌜ (Fit (now jobs)) × (Running (now jobs) (partIn (now part)) gone free least) ⌝ }
-    ensures { λ r. ⌜ (r ≡ true → Unserved (now (jobs .entry)) (partIn (now (part .entry))) least target) ⌝ }
+    ensures { λ r. ⌜ (r ≡ true → Unserved (now (jobs .entry)) (partIn (now (part .entry))) least close) ⌝ }
 {
     let set = tables::unplaced(part);
     if bits::ones32(set) > SERVED_JOBS {
@@ -253,7 +257,7 @@ pub fn unserved(jobs: &Jobs, part: &Part, gone: usize, free: u16, least: u16, ta
     if count == 0 {
         return false;
     }
-    let behind = served_behind(&at, count, part, gone, target);
-    let at_once = counting::times(free, reach_from(&at, count, least, target));
+    let behind = served_behind(&at, count, part, gone, close);
+    let at_once = counting::times(free, reach_from(&at, count, least, close));
     behind + at_once < tables::left(part)
 }

@@ -3,14 +3,12 @@ use mathlib.Core.Path.{_≡_}
 use mathlib.Core.Bool.{true}
 use mathlib.Core.List.{List}
 use Prim.Native.Nat.{ℕ, _+_, _≤_, _<_}
-use native.Mathlib.Nat.{add-zero}
 use native.Mathlib.Omega.{arith}
-use Rattle.counting.proofs.Sums.{sum-same}
 use Rattle.figures.specs.Figures.{lastArrival, lastEnd}
 use Rattle.schedule.specs.Plan.{finish}
 use Rattle.schedule.specs.ListPlan.{noJobs, Follows, partOf}
 use Rattle.schedule.proofs.Horizon.{ends-within}
-use Rattle.tables.specs.Tables.{minutesAt, countOf, sheetOf, Fit}
+use Rattle.tables.specs.Tables.{countOf, sheetOf, Fit}
 use Rattle.tables.proofs.Laws.{all-minutes}
 
 -- no job of it ends later than `lastEnd`
@@ -18,5 +16,4 @@ pub ends-short : (t : List ℕ) → Fit t → (o : List ℕ) → Follows (sheetO
     → partOf (sheetOf t) o .placed i ≡ true → finish (sheetOf t) (partOf (sheetOf t) o .plan) i ≤ lastEnd
 ends-short t fit o f i l e =
     let h = ends-within (sheetOf t) (fit .narrow) lastArrival (fit .arrived) o f i l e in
-    let flat = sum-same (countOf t) (λ i. minutesAt t i + 0) (λ i. minutesAt t i) (λ i l. add-zero (minutesAt t i)) in
-    omega (arith, all-minutes t fit)
+    omega (arith, all-minutes t fit (omega arith))

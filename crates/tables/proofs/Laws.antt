@@ -9,7 +9,7 @@ use lib.ListN.{length, getD, take, set, replicate, length-drop}
 use lib.Seq.{getD-drop, getD-take, getD-set-same, getD-set-other, length-take-le, ext-getD}
 use Rattle.counting.specs.Counting.{sum}
 use Rattle.counting.proofs.Sums.{sum-most}
-use Rattle.tables.specs.Tables.{listFrom, needAt, minutesAt, countOf, Fit}
+use Rattle.tables.specs.Tables.{listFrom, needAt, minutesAt, keptAt, mostKept, countOf, changeoverOf, Fit}
 
 pub zeros : (n i : ℕ) → _≡_ {A = ℕ} (getD (replicate n 0) i 0) 0
 zeros zero i = refl
@@ -42,15 +42,19 @@ from-set-other k t i n v d =
     at-from k (set t (k + i) v) n ∙ getD-set-other t (k + i) (k + n) v 0 (λ e. d (omega arith)) ∙ sym (at-from k t n)
 
 module _ (t : List ℕ) (fit : Fit t) where
-  -- the module-minutes of one job
-  pub job-area : (i : ℕ) → i < countOf t → needAt t i * minutesAt t i ≤ 64 * 1440
+  -- how long one job keeps its modules from others
+  pub kept-short : (i : ℕ) → i < countOf t → keptAt t i ≤ mostKept
+  kept-short i l = omega (arith, fit .keeps i l, fit .short i l, fit .rests)
+
+  -- the module-minutes that it keeps from others
+  pub job-area : (i : ℕ) → i < countOf t → needAt t i * keptAt t i ≤ 64 * 1470
   job-area i l =
       let w : needAt t i ≤ 64 = omega (arith, fit .narrow i l, fit .most) in
-      le-trans (mul-le-mul-left (needAt t i) (fit .short i l)) (mul-le-mul-right 1440 w)
+      le-trans (mul-le-mul-left (needAt t i) (kept-short i l)) (mul-le-mul-right 1470 w)
 
-  -- the minutes of all jobs
-  pub all-minutes : sum (countOf t) (minutesAt t) ≤ 28800
-  all-minutes =
-      let h = sum-most (countOf t) (minutesAt t) 1440 (λ i l. fit .short i l) in
-      let k : countOf t * 1440 ≤ 20 * 1440 = mul-le-mul-right 1440 (fit .few) in
-      omega arith
+  -- the minutes of all jobs, each but the first with a changeover before it
+  pub all-minutes : 0 < countOf t → sum (countOf t) (λ i. minutesAt t i + changeoverOf t) ≤ 28800 + (19 * 30 + changeoverOf t)
+  all-minutes some =
+      let h = sum-most (countOf t) (λ i. minutesAt t i + changeoverOf t) (1440 + changeoverOf t) (λ i l. omega (arith, fit .short i l)) in
+      let k : countOf t * (1440 + changeoverOf t) ≤ 20 * (1440 + changeoverOf t) = mul-le-mul-right (1440 + changeoverOf t) (fit .few) in
+      omega (arith, fit .rests)

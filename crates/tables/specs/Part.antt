@@ -4,8 +4,9 @@ use mathlib.Core.List.{List}
 use lib.ListN.{getD, take}
 use Rattle.tables.specs.Tables.{listFrom, wholeAt}
 
--- A part-plan. `ends` is by job; `until` and `held` are the placed jobs sorted by their ends, of which `gone` have ended by the last start;
--- `order` has the jobs in the order in which they were placed; `left` is the module-minutes of the unplaced jobs.
+-- A part-plan. `ends` is by job; `until` and `held` are the placed jobs sorted by their ends: from when on their modules are free again, the
+-- changeover included, and how many they are; `gone` of them have given back their modules by the last start. `order` has the jobs in the
+-- order in which they were placed; `left` is the module-minutes that the unplaced jobs keep from others.
 pub record Part : Type 0 where
   pub ends : List ℕ
   pub until : List ℕ

@@ -1,8 +1,9 @@
 -- The job table: what a sheet says of its jobs, in one list of numbers. A set has one bit to a job, and takes two places, its lower half first.
+use mathlib.Core.Path.{_≡_}
 use Prim.Native.Nat.{ℕ, _+_, _*_, _≤_, _<_}
 use mathlib.Core.List.{List}
 use lib.ListN.{getD, drop}
-use Rattle.figures.specs.Figures.{mostJobs, mostModules, mostMinutes, lastArrival}
+use Rattle.figures.specs.Figures.{mostJobs, mostModules, mostMinutes, lastArrival, longestChangeover}
 use Rattle.bits.specs.Bits.{bit}
 use Rattle.schedule.specs.Plan.{Sheet}
 
@@ -37,14 +38,27 @@ arrivalAt t j = getD t (arrivalsFrom + j) 0
 unfoldable pub earlierAt : List ℕ → ℕ → ℕ
 earlierAt t j = wholeAt t (earlierFrom + 2 * j)
 
--- how many jobs there are, and how many modules
+-- how many jobs there are, how many modules, and the changeover
 abbrev pub countOf : List ℕ → ℕ
 countOf t = getD t 100 0
 
 abbrev pub modulesOf : List ℕ → ℕ
 modulesOf t = getD t 101 0
 
--- the sheet of the table; place 102 is kept for the changeover
+abbrev pub changeoverOf : List ℕ → ℕ
+changeoverOf t = getD t 102 0
+
+-- how long job j keeps its modules from others: its minutes and the changeover; and how long a job does at most
+abbrev pub keptFrom : ℕ
+keptFrom = 103
+
+abbrev pub keptAt : List ℕ → ℕ → ℕ
+keptAt t j = getD t (keptFrom + j) 0
+
+abbrev pub mostKept : ℕ
+mostKept = mostMinutes + longestChangeover
+
+-- the sheet of the table
 abbrev pub sheetOf : List ℕ → Sheet
 sheetOf t = record {
   jobs = countOf t;
@@ -53,10 +67,10 @@ sheetOf t = record {
   minutes = minutesAt t;
   before = λ i j. bit (earlierAt t j) i;
   arrival = arrivalAt t;
-  rest = 0;
+  rest = changeoverOf t;
 }
 
--- What the checks of reading and planning (2, 3, 5 and 8) say of the table.
+-- What the checks of reading and planning (2, 3, 19, 5 and 8) say of the table, and that jobs keep their modules as long as it says.
 pub record Fit (t : List ℕ) : Type 0 where
   pub few : countOf t ≤ mostJobs
   pub some : 0 < modulesOf t
@@ -65,3 +79,5 @@ pub record Fit (t : List ℕ) : Type 0 where
   pub lasting : (j : ℕ) → j < countOf t → 0 < minutesAt t j
   pub short : (j : ℕ) → j < countOf t → minutesAt t j ≤ mostMinutes
   pub arrived : (j : ℕ) → j < countOf t → arrivalAt t j ≤ lastArrival
+  pub rests : changeoverOf t ≤ longestChangeover
+  pub keeps : (j : ℕ) → j < countOf t → keptAt t j ≡ minutesAt t j + changeoverOf t

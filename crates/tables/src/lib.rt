@@ -1,12 +1,13 @@
 // The three tables that the search is lent, and what stands at their places: the job table, what a sheet says of its jobs; the part-plan;
 // and the prepared table, what is made of the jobs once. A set of jobs in a table of 16-bit numbers takes two places, its lower half first.
 ghost use mathlib.Core.Path.{_≡_};
-ghost use Prim.Native.Nat.{_+_, _*_, _<_};
+ghost use Prim.Native.Nat.{_+_, _*_, _<_, min};
 ghost use lib.ListN.{getD};
-ghost use Rattle.figures.specs.Figures.{mostJobs};
-ghost use Rattle.tables.specs.Tables.{needAt, minutesAt, arrivalAt, earlierAt, countOf, modulesOf};
+ghost use Rattle.figures.specs.Figures.{mostJobs, noMinute};
+ghost use Rattle.tables.specs.Tables.{needAt, minutesAt, arrivalAt, earlierAt, countOf, modulesOf, changeoverOf, keptAt};
 ghost use Rattle.tables.specs.Part.{partIn};
 ghost use Rattle.tables.specs.Prepared.{relatedPlaces, worthPlaces, mostPlaces, lanesPlaces, tailsIn, headsIn, relatedIn, worthIn, mostIn, lanesIn};
+use figures::NO_MINUTE;
 
 // A number as an index.
 fn wide(x: u16) -> usize
@@ -24,8 +25,9 @@ fn whole(low: u16, high: u16) -> u32
 
 // ---- the job table
 
-// Job j's modules at j, its minutes at MINUTES + j, its arrival at ARRIVALS + j, its earlier jobs at EARLIER + 2 * j.
-pub const JOB_PLACES: usize = 103;
+// Job j's modules at j, its minutes at MINUTES + j, its arrival at ARRIVALS + j, its earlier jobs at EARLIER + 2 * j, and at KEPT + j how
+// long it keeps its modules from others.
+pub const JOB_PLACES: usize = 123;
 
 pub type Jobs = [u16; JOB_PLACES];
 
@@ -41,6 +43,8 @@ pub const MODULES: usize = 101;
 
 pub const CHANGEOVER: usize = 102;
 
+pub const KEPT: usize = 103;
+
 // How many jobs there are.
 pub fn count(jobs: &Jobs) -> usize
     ensures { λ r. ⌜ r ≡ countOf (now (jobs .entry)) ⌝ }
@@ -53,6 +57,24 @@ pub fn modules(jobs: &Jobs) -> u16
     ensures { λ r. ⌜ r ≡ modulesOf (now (jobs .entry)) ⌝ }
 {
     jobs[MODULES]
+}
+
+// The minutes that a module rests between two jobs.
+pub fn changeover(jobs: &Jobs) -> u16
+    ensures { λ r. ⌜ r ≡ changeoverOf (now (jobs .entry)) ⌝ }
+{
+    jobs[CHANGEOVER]
+}
+
+// The minute by which a plan that ends by minute t has given back all modules, or NO_MINUTE where that is no minute.
+pub fn closing(jobs: &Jobs, t: u16) -> u16
+    ensures { λ r. ⌜ r ≡ min (t + changeoverOf (now (jobs .entry))) noMinute ⌝ }
+{
+    let close = (t as u32) + (changeover(jobs) as u32);
+    if close < (NO_MINUTE as u32) {
+        return close as u16;
+    }
+    NO_MINUTE
 }
 
 // The modules that job j needs.
@@ -79,6 +101,14 @@ pub fn arrival(jobs: &Jobs, j: usize) -> u16
     jobs[ARRIVALS + j]
 }
 
+// How long job j keeps its modules from others: its minutes and the changeover.
+pub fn kept(jobs: &Jobs, j: usize) -> u16
+    requires { ⌜ j < mostJobs ⌝ }
+    ensures { λ r. ⌜ r ≡ keptAt (now (jobs .entry)) j ⌝ }
+{
+    jobs[KEPT + j]
+}
+
 // The jobs that must have ended before job j starts, a set.
 pub fn earlier(jobs: &Jobs, j: usize) -> u32
     requires { ⌜ j < mostJobs ⌝ }
@@ -90,8 +120,9 @@ pub fn earlier(jobs: &Jobs, j: usize) -> u32
 // ---- the part-plan
 
 // A part-plan (P-15) has four lists of 20 numbers: the end of each placed job by its number; the placed jobs sorted by their ends, at UNTIL
-// those ends and at HELD their modules; and at ORDER the jobs as they were placed. Then single numbers: the last start, the modules that
-// are free then, how many jobs are placed, how many of those have ended by then, the set of the unplaced jobs and their module-minutes.
+// the minutes from which their modules are free again, the changeover included, and at HELD their modules; and at ORDER the jobs as they
+// were placed. Then single numbers: the last start, the modules that are free then, how many jobs are placed, how many of those have given
+// back their modules by then, the set of the unplaced jobs and the module-minutes that they keep from others.
 pub const PART_PLACES: usize = 88;
 
 pub type Part = [u16; PART_PLACES];
@@ -125,7 +156,7 @@ pub fn end(part: &Part, j: usize) -> u16
     part[j]
 }
 
-// The k-th end of the placed jobs, sorted.
+// The minute from which the modules of the k-th placed job by ends are free again.
 pub fn until(part: &Part, k: usize) -> u16
     requires { ⌜ k < mostJobs ⌝ }
     ensures { λ r. ⌜ r ≡ getD (partIn (now (part .entry)) .until) k 0 ⌝ }
@@ -133,7 +164,7 @@ pub fn until(part: &Part, k: usize) -> u16
     part[UNTIL + k]
 }
 
-// The modules that the job holds which ends there.
+// The modules of that job.
 pub fn held(part: &Part, k: usize) -> u16
     requires { ⌜ k < mostJobs ⌝ }
     ensures { λ r. ⌜ r ≡ getD (partIn (now (part .entry)) .held) k 0 ⌝ }
@@ -170,7 +201,7 @@ pub fn placed(part: &Part) -> usize
     wide(part[PLACED])
 }
 
-// How many of them have ended by the last start.
+// How many of them have given back their modules by the last start.
 pub fn gone(part: &Part) -> usize
     ensures { λ r. ⌜ r ≡ partIn (now (part .entry)) .gone ⌝ }
 {
@@ -184,7 +215,7 @@ pub fn unplaced(part: &Part) -> u32
     whole(part[UNPLACED], part[UNPLACED + 1])
 }
 
-// The module-minutes of the unplaced jobs.
+// The module-minutes that the unplaced jobs keep from others.
 pub fn left(part: &Part) -> u32
     ensures { λ r. ⌜ r ≡ partIn (now (part .entry)) .left ⌝ }
 {

@@ -49,7 +49,7 @@ fn read_records(sheet: &[u8], offset: usize, count: usize) -> Records
     }
 }
 
-// Reading: the jobs of a sheet, n and N, or the first refusal of 1 to 7.
+// Reading: the jobs of a sheet, n, N and the changeover, or the first refusal of 1 to 7 and 19.
 pub fn read(sheet: &[u8]) -> Reading
     ensures { λ r. ⌜ r ≡ reading (now (sheet .entry)) ⌝ }
 {
@@ -76,6 +76,7 @@ pub fn read(sheet: &[u8]) -> Reading
         jobs,
         count,
         modules: sheet_format::trailer::modules(sheet),
+        changeover: sheet_format::trailer::changeover(sheet),
     }
 }
 

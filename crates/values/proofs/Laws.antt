@@ -11,7 +11,7 @@ use Rattle.counting.specs.Counting.{only, sum}
 use Rattle.counting.proofs.Tests.{same-or-not, less-or-not}
 use Rattle.counting.proofs.Sums.{sum-same}
 use Rattle.figures.specs.Figures.{mostJobs, mostModules}
-use Rattle.tables.specs.Tables.{needAt, minutesAt, countOf, modulesOf, Fit}
+use Rattle.tables.specs.Tables.{needAt, keptAt, countOf, modulesOf, Fit}
 use Rattle.tables.proofs.Laws.{zeros}
 use Rattle.weights.specs.Weights.{weightings, widths, allWeight, weightIn, mostWith, Put, Weighs, MostOf}
 use Rattle.weights.proofs.Knapsack.{job-light, most-with-narrow, most-with-wide, knapsack-none, knapsack-more}
@@ -72,7 +72,7 @@ valued-none t step = record {
 
 -- one job's value set
 pub valued-more : {t : List ℕ} {step : ℕ} {value : List ℕ} → Valued t step value → (k v : ℕ) → k < length value → v ≤ mostValue
-    → (minutesAt t k < step → v ≡ 0) → Valued t step (set value k v)
+    → (keptAt t k < step → v ≡ 0) → Valued t step (set value k v)
 valued-more {t} {step} {value} h k v l low none = record {
   small = λ p. small p (same-or-not p k);
   short = λ p m. short p m (same-or-not p k);
@@ -82,7 +82,7 @@ valued-more {t} {step} {value} h k v l low none = record {
     small p (inl e) = rw e (omega (arith, getD-set-same value k v 0 l))
     small p (inr d) = omega (arith, getD-set-other value k p v 0 d, h .small p)
 
-    short : (p : ℕ) → minutesAt t p < step → (p ≡ k) ⊎ (p ≢ k) → getD (set value k v) p 0 ≡ 0
+    short : (p : ℕ) → keptAt t p < step → (p ≡ k) ⊎ (p ≢ k) → getD (set value k v) p 0 ≡ 0
     short p m (inl e) = rw e (getD-set-same value k v 0 l ∙ none (rw e at m))
     short p m (inr d) = getD-set-other value k p v 0 d ∙ h .short p m
 
@@ -106,26 +106,26 @@ put-narrow old width value = record {
 pub reached-none : (t value : List ℕ) (step : ℕ) → Reached t value 0 step (replicate steps 0)
 reached-none t value step = record {
   size = length-replicate {A = ℕ} steps 0;
-  table = knapsack-none (λ k. minutesAt t k / step) (λ k. getD value k 0) (steps - 1) mostValue steps;
+  table = knapsack-none (λ k. keptAt t k / step) (λ k. getD value k 0) (steps - 1) mostValue steps;
   none = omega (arith, zeros steps 0);
 }
 
 pub reached-more : {t value old new : List ℕ} {n step : ℕ} → 0 < step → Valued t step value → Reached t value n step old
-    → Put (λ x. x) old new steps (mostWith old (minutesAt t n / step) (getD value n 0)) → Reached t value (n + 1) step new
+    → Put (λ x. x) old new steps (mostWith old (keptAt t n / step) (getD value n 0)) → Reached t value (n + 1) step new
 reached-more {t} {value} {old} {new} {n} {step} some valued h put = record {
   size = put .size ∙ h .size;
   table = knapsack-more (h .table) (h .table .small) put (valued .small n);
-  none = put .each 0 (omega arith) ∙ none (less-or-not 0 (minutesAt t n / step));
+  none = put .each 0 (omega arith) ∙ none (less-or-not 0 (keptAt t n / step));
 }
   where
     width : ℕ
-    width = minutesAt t n / step
+    width = keptAt t n / step
 
     none : (0 < width) ⊎ (width ≤ 0) → mostWith old width (getD value n 0) 0 ≡ 0
     none (inl l) = most-with-narrow old width (getD value n 0) 0 l ∙ h .none
     none (inr l) =
         let most = mul-le-mul-right step l in
-        let short : minutesAt t n < step = omega (arith, lt-div-mul-add {a = minutesAt t n} some) in
+        let short : keptAt t n < step = omega (arith, lt-div-mul-add {a = keptAt t n} some) in
         let here : 0 - width ≡ 0 = omega arith in
         omega (
           arith,
@@ -171,7 +171,7 @@ laned {t} {weight = weight} {value = value} fit some choice valued reached joine
     arith,
     joined .reach-is x l,
     reached .table .holds X x (omega arith)
-        (subst (λ (s : ℕ). sum (countOf t) (λ k. only (X k) (minutesAt t k / s)) ≤ x) (joined .step-is) fits),
+        (subst (λ (s : ℕ). sum (countOf t) (λ k. only (X k) (keptAt t k / s)) ≤ x) (joined .step-is) fits),
   );
   reach-rises = λ a b l m. omega (
     arith,
@@ -207,7 +207,7 @@ laned-alike {t} {lanes} {lanes′} fit same h = record {
   serves = λ X x l fits. omega (
     arith,
     reach x l,
-    h .serves X x l (subst (λ (s : ℕ). sum (countOf t) (λ k. only (X k) (minutesAt t k / s)) ≤ x) step fits),
+    h .serves X x l (subst (λ (s : ℕ). sum (countOf t) (λ k. only (X k) (keptAt t k / s)) ≤ x) step fits),
   );
   reach-rises = λ a b l m. omega (arith, reach a (omega arith), reach b m, h .reach-rises a b l m);
   reach-none = reach 0 (omega arith) ∙ h .reach-none;

@@ -7,7 +7,7 @@ use Prim.Native.Nat.{ℕ, _+_, _-_, _*_, _/_, _≤_, _<_}
 use lib.ListN.{length, getD}
 use Rattle.counting.specs.Counting.{only, sum, Rises}
 use Rattle.figures.specs.Figures.{mostJobs, mostModules}
-use Rattle.tables.specs.Tables.{minutesAt, countOf, modulesOf}
+use Rattle.tables.specs.Tables.{keptAt, countOf, modulesOf}
 use Rattle.weights.specs.Weights.{widths, allWeight, Weighs, Knapsack}
 
 -- ---- figures
@@ -71,10 +71,10 @@ stepOf lanes = getD lanes stepPlace 0
 
 -- ---- what they stand for
 
--- no set of jobs that last fewer than `size` steps together, each counted in whole steps, has more value than Z of them
+-- no set of jobs that keep a module for fewer than `size` steps together, each counted in whole steps, has more value than Z of them
 abbrev pub Serves : List ℕ → ℕ → ℕ → (ℕ → ℕ) → (ℕ → ℕ) → Type 0
 Serves t step size value Z = (X : ℕ → Bool) (x : ℕ) → x < size
-    → sum (countOf t) (λ k. only (X k) (minutesAt t k / step)) ≤ x → sum (countOf t) (λ k. only (X k) (value k)) ≤ Z x
+    → sum (countOf t) (λ k. only (X k) (keptAt t k / step)) ≤ x → sum (countOf t) (λ k. only (X k) (value k)) ≤ Z x
 
 -- the table of some weights and values; what stands behind its places is not spoken of
 pub record Laned (t lanes : List ℕ) : Type 0 where
@@ -100,15 +100,15 @@ pub record Chosen (t weight most : List ℕ) : Type 0 where
   pub light : (k : ℕ) → getD weight k 0 ≤ mostModules
   pub small : (x : ℕ) → getD most x 0 ≤ allWeight
 
--- a value for each job, and none for a job that is shorter than a step
+-- a value for each job, and none for a job that keeps its modules for less than a step
 pub record Valued (t : List ℕ) (step : ℕ) (value : List ℕ) : Type 0 where
   pub small : (k : ℕ) → getD value k 0 ≤ mostValue
-  pub short : (k : ℕ) → minutesAt t k < step → getD value k 0 ≡ 0
+  pub short : (k : ℕ) → keptAt t k < step → getD value k 0 ≡ 0
 
 -- the most value of the first n jobs that a lane can serve in each number of steps
 pub record Reached (t value : List ℕ) (n step : ℕ) (reach : List ℕ) : Type 0 where
   pub size : length reach ≡ steps
-  pub table : Knapsack (λ k. minutesAt t k / step) n (steps - 1) mostValue (λ k. getD value k 0) reach
+  pub table : Knapsack (λ k. keptAt t k / step) n (steps - 1) mostValue (λ k. getD value k 0) reach
   pub none : getD reach 0 0 ≡ 0
 
 -- the parts of the table side by side

@@ -114,13 +114,14 @@ fn last_step(end: u16, step: u16) -> usize
     ((end - 1) / step) as usize
 }
 
-// The lanes of a sheet, with weights and values chosen so that few of the plans that end before `end` are left to be looked at.
-pub fn lanes_of(jobs: &Jobs, end: u16) -> Lanes
+// The lanes of a sheet, with weights and values chosen so that few of the plans that give back all modules before minute `close` are left
+// to be looked at.
+pub fn lanes_of(jobs: &Jobs, close: u16) -> Lanes
     requires { ⌜ Fit (now jobs) ⌝ }
     ensures { λ r. ⌜ Laned (now (jobs .entry)) (r .of) ⌝ }
 {
-    let step = end / (STEPS as u16) + 1;
-    let t = last_step(end, step);
+    let step = close / (STEPS as u16) + 1;
+    let t = last_step(close, step);
     let choice = weighing::chosen(jobs);
     let weight = choice.weight;
     let most = choice.most;

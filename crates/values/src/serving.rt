@@ -49,9 +49,9 @@ pub fn reach_of(jobs: &Jobs, value: &[u16; MOST_JOBS], step: u16) -> Reach
     let mut reach = Reach { at: [0u16; STEPS] };
     let mut k: usize = 0;
     while k < count {
-        let minutes = tables::minutes(jobs, k);
+        let kept = tables::kept(jobs, k);
         let gain = value[k];
-        let lasts = steps(minutes, step as u32);
+        let lasts = steps(kept, step as u32);
         reach = with_value(&reach.at, lasts, gain);
         k += 1;
     }
@@ -89,7 +89,7 @@ pub fn serve(jobs: &Jobs, value: &[u16; MOST_JOBS], step: u16, t: usize) -> Serv
     let mut sets = Sets { at: [0u32; STEPS] };
     let mut k: usize = 0;
     while k < count {
-        let width = steps(tables::minutes(jobs, k), step as u32);
+        let width = steps(tables::kept(jobs, k), step as u32);
         sets = with_set(&reach.at, &sets.at, width, value[k], 1u32 << k);
         reach = with_value(&reach.at, width, value[k]);
         k += 1;

@@ -82,7 +82,7 @@ fn scaled(shares: &[u32; MOST_JOBS]) -> Shares {
     Shares { of: next }
 }
 
-// The minutes of each job, scaled.
+// How long each job keeps its modules, scaled.
 fn first_shares(jobs: &Jobs) -> Shares
     requires { ⌜ countOf (now jobs) ≤ mostJobs ⌝ }
 {
@@ -90,17 +90,17 @@ fn first_shares(jobs: &Jobs) -> Shares
     let mut next = [0u32; MOST_JOBS];
     let mut k: usize = 0;
     while k < count {
-        next[k] = wide(tables::minutes(jobs, k));
+        next[k] = wide(tables::kept(jobs, k));
         k += 1;
     }
     scaled(&next)
 }
 
 // A job's value by its share.
-fn value_of(share: u32, minutes: u16, step: u16) -> u16
-    ensures { λ r. ⌜ (r ≤ mostValue) × (minutes < step → r ≡ 0) ⌝ }
+fn value_of(share: u32, kept: u16, step: u16) -> u16
+    ensures { λ r. ⌜ (r ≤ mostValue) × (kept < step → r ≡ 0) ⌝ }
 {
-    if minutes < step {
+    if kept < step {
         return 0;
     }
     let value = (share as u64) * MOST_VALUE / WHOLE;
@@ -119,7 +119,7 @@ fn values_of(shares: &[u32; MOST_JOBS], jobs: &Jobs, step: u16) -> Figures
     let mut next = [0u16; MOST_JOBS];
     let mut k: usize = 0;
     while k < count {
-        next[k] = value_of(shares[k], tables::minutes(jobs, k), step);
+        next[k] = value_of(shares[k], tables::kept(jobs, k), step);
         k += 1;
     }
     Figures { of: next }

@@ -105,7 +105,7 @@ pub fn multiple(x: u64, by: u16) -> u64
     x * (by as u64)
 }
 
-// The minutes of each job.
+// How long each job keeps its modules.
 fn lengths(jobs: &Jobs) -> Figures
     requires { ⌜ countOf (now jobs) ≤ mostJobs ⌝ }
 {
@@ -113,18 +113,19 @@ fn lengths(jobs: &Jobs) -> Figures
     let mut next = [0u16; MOST_JOBS];
     let mut k: usize = 0;
     while k < count {
-        next[k] = tables::minutes(jobs, k);
+        next[k] = tables::kept(jobs, k);
         k += 1;
     }
     Figures { of: next }
 }
 
-// What the jobs weigh over their minutes in one weighting, times the most that stands on the whole cabinet in the other.
+// What the jobs weigh in one weighting over the minutes for which they keep their modules, times the most that stands on the whole cabinet
+// in the other.
 fn asked(jobs: &Jobs, weight: &[u16; MOST_JOBS], most: &[u16; WIDTHS]) -> u64
     requires { ⌜ Fit (now jobs) ⌝ }
 {
-    let minutes = lengths(jobs);
-    let worth = total(weight, &minutes.of, tables::count(jobs));
+    let kept = lengths(jobs);
+    let worth = total(weight, &kept.of, tables::count(jobs));
     multiple(worth, most[tables::modules(jobs) as usize])
 }
 

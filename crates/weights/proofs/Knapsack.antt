@@ -12,8 +12,9 @@ use borrow.Author.Tests.{le-leb, lt-leb}
 use lib.ListN.{getD, replicate, length-replicate}
 use Rattle.counting.specs.Counting.{only, sum, Holds}
 use Rattle.counting.proofs.Tests.{true-or-false, less-or-not, last-or-below}
-use Rattle.figures.specs.Figures.{mostModules, mostMinutes}
-use Rattle.tables.specs.Tables.{needAt, minutesAt, countOf, modulesOf, Fit}
+use Rattle.figures.specs.Figures.{mostModules}
+use Rattle.tables.specs.Tables.{needAt, keptAt, mostKept, countOf, modulesOf, Fit}
+use Rattle.tables.proofs.Laws.{kept-short}
 use Rattle.tables.proofs.Laws.{zeros}
 use Rattle.weights.specs.Weights.{weightings, widths, worthSize, mostSize, heaviest, allWeight, mostWorth, weightIn, mostWith, Put, Knapsack}
 use Rattle.weights.specs.Weights.{MostOf, Weighting, WeightedTo, Weighted}
@@ -44,7 +45,7 @@ weight-light modules q width m w l = go (true-or-false (eqb ((q + 2) * width % m
     go (inl e) = rw e (le-trans (figures modules q width m w l .less) (omega arith))
     go (inr e) = rw e (figures modules q width m w l .more)
 
--- the weight of one of the sheet's jobs: its products, alone, and times its minutes
+-- the weight of one of the sheet's jobs: its products, alone, and times the minutes for which it keeps its modules
 module _ {t : List ℕ} (fit : Fit t) (q : ℕ) (low : q < weightings) (k : ℕ) (l : k < countOf t) where
   pub job-figures : {modules width : ℕ} → modules ≡ modulesOf t → width ≡ needAt t k → Figures modules q width
   job-figures e f = figures _ q _ (omega (arith, fit .most)) (omega (arith, fit .narrow k l)) low
@@ -52,8 +53,8 @@ module _ {t : List ℕ} (fit : Fit t) (q : ℕ) (low : q < weightings) (k : ℕ)
   pub job-light : weightIn (modulesOf t) q (needAt t k) ≤ heaviest
   job-light = weight-light (modulesOf t) q (needAt t k) (fit .most) (fit .narrow k l) low
 
-  pub worth-small : minutesAt t k * weightIn (modulesOf t) q (needAt t k) ≤ mostWorth
-  worth-small = mul-le-mul {n₂ = mostMinutes} {m₂ = heaviest} (fit .short k l) job-light
+  pub worth-small : keptAt t k * weightIn (modulesOf t) q (needAt t k) ≤ mostWorth
+  worth-small = mul-le-mul {n₂ = mostKept} {m₂ = heaviest} (kept-short t fit k l) job-light
 
 -- ---- a table with one job more
 
@@ -165,7 +166,7 @@ weighted-none t = record {
 
 pub weighted-more : {t : List ℕ} {q : ℕ} {worth worth′ most most′ table : List ℕ} → Fit t → q < weightings → WeightedTo t worth most q
     → MostOf t (countOf t) q table
-    → Put (λ k. k * weightings + q) worth worth′ (countOf t) (λ k. minutesAt t k * weightIn (modulesOf t) q (needAt t k))
+    → Put (λ k. k * weightings + q) worth worth′ (countOf t) (λ k. keptAt t k * weightIn (modulesOf t) q (needAt t k))
     → Put (λ x. x * weightings + q) most most′ widths (λ x. getD table x 0) → WeightedTo t worth′ most′ (q + 1)
 weighted-more {t} {q} {worth} {worth′} {most} {most′} {table} fit low h table-is put put′ = record {
   worth-length = put .size ∙ h .worth-length;

@@ -12,7 +12,7 @@ use Rattle.counting.proofs.Sums.{sum-same}
 use Rattle.counting.proofs.Intervals.{sum-from, sum-past}
 use Rattle.figures.specs.Figures.{mostJobs, mostModules}
 use Rattle.bits.specs.Bits.{bit}
-use Rattle.tables.specs.Tables.{minutesAt, countOf, modulesOf}
+use Rattle.tables.specs.Tables.{keptAt, countOf, modulesOf}
 use Rattle.tables.specs.Part.{Part}
 use Rattle.placement.specs.Profile.{heldOf, heldFrom, Sorted, ProfileOf}
 use Rattle.placement.proofs.Profiles.{held-from-step, held-at-le, held-from-le}
@@ -122,6 +122,6 @@ outweighs {t} {p} {worth} {most} {q} w over = record {
     arith,
     over,
     sum-same (countOf t) (λ k. only (bit (p .unplaced) k) (getD worth (k * weightings + q) 0))
-        (λ k. only (bit (p .unplaced) k) (minutesAt t k * w .weight k)) (λ k m. ap (λ (x : ℕ). only (bit (p .unplaced) k) x) (w .worth-is k m)),
+        (λ k. only (bit (p .unplaced) k) (keptAt t k * w .weight k)) (λ k m. ap (λ (x : ℕ). only (bit (p .unplaced) k) x) (w .worth-is k m)),
   );
 }

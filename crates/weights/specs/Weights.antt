@@ -7,9 +7,9 @@ use Prim.Native.Nat.{ℕ, _+_, _-_, _*_, _/_, _%_, _≤_, _<_, max}
 use lib.Dec.{leb, eqb}
 use lib.ListN.{length, getD}
 use Rattle.counting.specs.Counting.{only, sum, Rises, Holds}
-use Rattle.figures.specs.Figures.{mostJobs, mostModules, mostMinutes, noMinute}
+use Rattle.figures.specs.Figures.{mostJobs, mostModules, noMinute}
 use Rattle.bits.specs.Bits.{bit}
-use Rattle.tables.specs.Tables.{needAt, minutesAt, countOf, modulesOf}
+use Rattle.tables.specs.Tables.{needAt, keptAt, mostKept, countOf, modulesOf}
 use Rattle.tables.specs.Part.{Part}
 use Rattle.placement.specs.Profile.{heldOf}
 
@@ -40,9 +40,9 @@ allWeight = heaviest * mostJobs
 abbrev pub fewWeight : ℕ
 fewWeight = heaviest * (mostJobs - 1)
 
--- what a job's minutes times its weight are at most, and those of all jobs
+-- what a job's weight times the minutes for which it keeps its modules is at most, and that of all jobs
 abbrev pub mostWorth : ℕ
-mostWorth = mostMinutes * heaviest
+mostWorth = mostKept * heaviest
 
 abbrev pub allWorth : ℕ
 allWorth = mostJobs * mostWorth
@@ -83,10 +83,11 @@ pub record Knapsack (width : ℕ → ℕ) (n top each : ℕ) (y : ℕ → ℕ) (
 abbrev pub MostOf : List ℕ → ℕ → ℕ → List ℕ → Type 0
 MostOf t n q table = Knapsack (needAt t) n (modulesOf t) heaviest (λ k. weightIn (modulesOf t) q (needAt t k)) table
 
--- weighting q: in `worth` each job's minutes times its weight, in `most` the most that can stand on each number of modules
+-- weighting q: in `worth` each job's weight times the minutes for which it keeps its modules, in `most` the most that can stand on each
+-- number of modules
 pub record Weighting (t worth most : List ℕ) (q : ℕ) : Type 0 where
   pub weight : ℕ → ℕ
-  pub worth-is : (k : ℕ) → k < countOf t → getD worth (k * weightings + q) 0 ≡ minutesAt t k * weight k
+  pub worth-is : (k : ℕ) → k < countOf t → getD worth (k * weightings + q) 0 ≡ keptAt t k * weight k
   pub weighs : Weighs t weight (λ x. getD most (x * weightings + q) 0)
 
 -- so many weightings put in side by side
@@ -112,14 +113,14 @@ pub record Weighted (t worth most : List ℕ) : Type 0 where
 
 -- ---- the test by weights
 
--- what can stand, from minute l up to minute T, on the modules that are free
+-- what can stand, from minute l up to minute C, on the modules that are free
 unfoldable pub roomFor : (ℕ → ℕ) → ℕ → Part → ℕ → ℕ → ℕ
-roomFor most modules p l T = sum T (λ m. only (leb l m) (most (modules - heldOf p m)))
+roomFor most modules p l C = sum C (λ m. only (leb l m) (most (modules - heldOf p m)))
 
--- the unplaced jobs outweigh what can stand on the modules that are free from minute l up to minute T
-pub record Outweighed (t : List ℕ) (p : Part) (l T : ℕ) : Type 0 where
+-- the unplaced jobs outweigh what can stand on the modules that are free from minute l up to minute C, by which all are given back
+pub record Outweighed (t : List ℕ) (p : Part) (l C : ℕ) : Type 0 where
   pub weight : ℕ → ℕ
   pub most : ℕ → ℕ
   pub weighs : Weighs t weight most
-  pub over : sum T (λ m. only (leb l m) (most (modulesOf t - heldOf p m)))
-      < sum (countOf t) (λ k. only (bit (p .unplaced) k) (minutesAt t k * weight k))
+  pub over : sum C (λ m. only (leb l m) (most (modulesOf t - heldOf p m)))
+      < sum (countOf t) (λ k. only (bit (p .unplaced) k) (keptAt t k * weight k))

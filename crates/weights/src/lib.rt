@@ -24,8 +24,8 @@ pub const WEIGHTINGS: usize = 5;
 // Numbers of modules, from 0 to the most that a cabinet has.
 pub const WIDTHS: usize = MOST_MODULES + 1;
 
-// The weightings side by side: place k * WEIGHTINGS + q of `worth` is job k's minutes times its weight, place x * WEIGHTINGS + q of `most`
-// the most that can stand on x modules.
+// The weightings side by side: place k * WEIGHTINGS + q of `worth` is job k's weight times the minutes for which it
+// keeps its modules, place x * WEIGHTINGS + q of `most` the most that can stand on x modules.
 pub struct Weights {
     pub worth: [u32; MOST_JOBS * WEIGHTINGS],
     pub most: [u16; WIDTHS * WEIGHTINGS],
@@ -128,7 +128,7 @@ fn with_weighting(all: Weights, jobs: &Jobs, q: usize) -> Weights
     let mut k: usize = 0;
     while k < count {
         let weight = weight_of(jobs, k, q);
-        next.worth[k * WEIGHTINGS + q] = counting::times(tables::minutes(jobs, k), weight);
+        next.worth[k * WEIGHTINGS + q] = counting::times(tables::kept(jobs, k), weight);
         k += 1;
     }
     let table = most_of(jobs, q);
@@ -188,11 +188,11 @@ fn set_worth(jobs: &Jobs, prepared: &Prepared, part: &Part) -> Totals
     weight
 }
 
-// The next minute from `at` on at which a job has ended or the target is reached.
-pub fn next_end(at: u16, until: u16, target: u16) -> u16
-    ensures { λ r. ⌜ r ≡ max at (min until target) ⌝ }
+// The next minute from `at` on at which a job gives back its modules or minute `close` is reached.
+pub fn next_end(at: u16, until: u16, close: u16) -> u16
+    ensures { λ r. ⌜ r ≡ max at (min until close) ⌝ }
 {
-    counting::larger(at, counting::smaller(until, target))
+    counting::larger(at, counting::smaller(until, close))
 }
 
 // The room in each weighting, with what can stand on x modules for so many minutes more.
@@ -213,7 +213,7 @@ fn with_room(room: Totals, prepared: &Prepared, x: u16, minutes: u16) -> Totals
     Totals { of: next }
 }
 
-// What can stand, in each weighting, on the modules that are free from minute `least` up to the target.
+// What can stand, in each weighting, on the modules that are free from minute `least` up to minute `close`.
 fn room_for(
     jobs: &Jobs,
     prepared: &Prepared,
@@ -221,13 +221,13 @@ fn room_for(
     gone: usize,
     free: u16,
     least: u16,
-    target: u16,
+    close: u16,
 ) -> Totals
     requires { ⌜ ((MostSmall (mostIn (now prepared))) × (ProfileOf (partIn (now part)) gone free (modulesOf (now jobs)) least))
-        × ((modulesOf (now jobs) ≤ mostModules) × (least ≤ target)) ⌝ }
+        × ((modulesOf (now jobs) ≤ mostModules) × (least ≤ close)) ⌝ }
     ensures { λ r. ⌜ ((q : ℕ) → q < weightings → getD (r .of) q 0 ≡ roomFor
         (λ x. getD (mostIn (now (prepared .entry))) (x * weightings + q) 0) (modulesOf (now (jobs .entry))) (partIn (now (part .entry)))
-        least target) ⌝ }
+        least close) ⌝ }
 {
     let placed = tables::placed(part);
     let mut room = Totals {
@@ -237,17 +237,17 @@ fn room_for(
     let mut f = free;
     let mut i = gone;
     while i < placed {
-        let to = next_end(at, tables::until(part, i), target);
+        let to = next_end(at, tables::until(part, i), close);
         room = with_room(room, prepared, f, to - at);
         at = to;
         f += tables::held(part, i);
         i += 1;
     }
-    with_room(room, prepared, f, target - at)
+    with_room(room, prepared, f, close - at)
 }
 
-// Whether the unplaced jobs outweigh, in one of the weightings, what the free modules can hold between minute `least` and the target.
-// `gone` of the placed jobs are known to have ended by then, and the others leave `free` modules.
+// Whether the unplaced jobs outweigh, in one of the weightings, what the free modules can hold between minute `least` and minute `close`,
+// by which all are given back. `gone` of the placed jobs are known to have given theirs back by then, and the others leave `free` modules.
 pub fn outweighed(
     jobs: &Jobs,
     prepared: &Prepared,
@@ -255,16 +255,16 @@ pub fn outweighed(
     gone: usize,
     free: u16,
     least: u16,
-    target: u16,
+    close: u16,
 ) -> bool
     requires { ⌜ ((Fit (now jobs)) × (Weighted (now jobs) (worthIn (now prepared)) (mostIn (now prepared))))
         × (ProfileOf (partIn (now part)) gone free (modulesOf (now jobs)) least) ⌝ }
-    ensures { λ r. ⌜ (r ≡ true → Outweighed (now (jobs .entry)) (partIn (now (part .entry))) least target) ⌝ }
+    ensures { λ r. ⌜ (r ≡ true → Outweighed (now (jobs .entry)) (partIn (now (part .entry))) least close) ⌝ }
 {
-    if target < least {
+    if close < least {
         return false;
     }
-    let room = room_for(jobs, prepared, part, gone, free, least, target);
+    let room = room_for(jobs, prepared, part, gone, free, least, close);
     let weight = set_worth(jobs, prepared, part);
     let mut q: usize = 0;
     while q < WEIGHTINGS {

@@ -1,27 +1,30 @@
-//! Sheets of the layout before records had an arrival, put into today's with arrivals 0: planning against a reading of their own layout.
+//! Sheets of the layouts before records had an arrival and before trailers had a changeover, put into today's with 0 for what they lack:
+//! planning against a reading of their own layout.
 use super::sheets;
 use crate::plain_search::GROUP;
 use crate::random::Random;
+use crate::raw_sheet::Layout;
 use crate::reference::{older, reading};
 use crate::{card_length, plan, Refusal, MOST_JOBS};
 
-/// Noise, and how often each number was answered.
+/// Their layout, noise, and how often each number was answered.
 pub struct Older {
+    layout: Layout,
     random: Random,
     pub answers: [usize; 11],
 }
 
 impl Older {
-    pub fn new(seed: u64) -> Older {
-        Older { random: Random::new(seed), answers: [0; 11] }
+    pub fn new(layout: Layout, seed: u64) -> Older {
+        Older { layout, random: Random::new(seed), answers: [0; 11] }
     }
 
     /// Plans the older sheet in today's layout: the answer and every byte of the card are what its own layout gives, and so is the
     /// reading. A sheet of which 1 to 4 fail has no parts to be put anywhere.
     fn compare(&mut self, sheet: &[u8], room: usize) {
-        let Some(today) = older::relaid(sheet) else { return };
-        assert_eq!(reading::read(&today), older::read(sheet), "sheet {sheet:02x?}");
-        let expected = older::plan(sheet, room);
+        let Some(today) = older::relaid(sheet, self.layout) else { return };
+        assert_eq!(reading::read(&today), older::read(sheet, self.layout), "sheet {sheet:02x?}");
+        let expected = older::plan(sheet, self.layout, room);
         let mut before = vec![0; room];
         self.random.fill(&mut before);
         let mut card = before.clone();
@@ -40,7 +43,7 @@ impl Older {
         for _ in 0..times {
             let sheet = sheets::good(&mut self.random);
             let room = card_length(sheet.jobs.len()) + self.random.pick(&[0, 0, 1, 30]);
-            self.compare(&sheet.older_bytes(), room);
+            self.compare(&sheet.bytes_in(self.layout), room);
         }
     }
 
@@ -54,7 +57,7 @@ impl Older {
                 sheets::put_fault(&mut self.random, &mut sheet, other);
             }
             let room = if self.random.percent(90) { card_length(MOST_JOBS) } else { self.random.place(100) };
-            self.compare(&sheet.older_bytes(), room);
+            self.compare(&sheet.bytes_in(self.layout), room);
         }
     }
 
@@ -63,7 +66,7 @@ impl Older {
         for _ in 0..times {
             let sheet = sheets::good(&mut self.random);
             let room = self.random.place(card_length(sheet.jobs.len()));
-            self.compare(&sheet.older_bytes(), room);
+            self.compare(&sheet.bytes_in(self.layout), room);
         }
     }
 
@@ -71,7 +74,7 @@ impl Older {
     pub fn scrambled(&mut self, times: usize) {
         for _ in 0..times {
             let sheet = sheets::good(&mut self.random);
-            let bytes = sheets::scrambled(&mut self.random, sheet.older_bytes());
+            let bytes = sheets::scrambled(&mut self.random, sheet.bytes_in(self.layout));
             self.compare(&bytes, card_length(MOST_JOBS));
         }
     }

@@ -24,7 +24,7 @@ pub struct Planning {
     work: Vec<Guarded>,
     pub compared: usize,
     /// How often each number was answered.
-    pub answers: [usize; 11],
+    pub answers: [usize; 20],
 }
 
 impl Planning {
@@ -46,7 +46,7 @@ impl Planning {
             card: Guarded::new(1024),
             work: WORK_LENGTHS.map(Guarded::new).into(),
             compared: 0,
-            answers: [0; 11],
+            answers: [0; 20],
         }
     }
 
@@ -121,14 +121,14 @@ impl Planning {
         }
     }
 
-    /// Sheets with a fault for a check of 1 to 9, some with another one.
+    /// Sheets with a fault for one of the checks of reading, 8 or 9, some with another one.
     pub fn damaged(&mut self, check: u32, times: usize) {
         for _ in 0..times {
             let sheet = sheets::good(&mut self.random);
             let room = if self.random.percent(90) { self.enough(MOST_JOBS) } else { self.random.place(100) };
             let mut checks = vec![check];
             if self.random.percent(40) {
-                checks.push(self.random.between(1, 9));
+                checks.push(self.random.pick(&sheets::CHECKS));
             }
             let bytes = sheets::damaged(&mut self.random, sheet, &checks);
             self.compare(&bytes, room);

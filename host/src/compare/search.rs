@@ -4,6 +4,7 @@ use crate::families::{Arrivals, Family};
 use crate::lists::List;
 use crate::plain_search::{run_with, Found, Outcome, Rules, Tables};
 use crate::random::Random;
+use crate::raw_sheet::Sheet;
 use crate::reference::{planning, reading};
 use crate::{card_length, plan};
 
@@ -26,6 +27,15 @@ pub fn compare_arriving(family: &Family, seed: u64) {
     let n = (seed % 8) as usize + 2;
     for arrivals in Arrivals::ALL {
         compare_lists(&family.arriving(seed, n, arrivals), seed, &[("no rule", Rules::default())]);
+    }
+}
+
+/// Plans a list of the family with a changeover, of 2 to 9 jobs, with arrivals and without, both ways.
+pub fn compare_resting(family: &Family, seed: u64) {
+    let n = (seed % 8) as usize + 2;
+    let arriving = Arrivals::ALL.map(|arrivals| family.arriving(seed, n, arrivals));
+    for list in arriving.into_iter().chain([family.list(seed, n)]) {
+        compare_lists(&list.resting(5 + 5 * (seed % 2) as u16), seed, &[("no rule", Rules::default())]);
     }
 }
 
@@ -57,11 +67,22 @@ fn found(outcome: Outcome) -> Found {
     }
 }
 
-/// A sheet of which some jobs arrive after minute 0, against every order: the card that planning leaves, byte for byte, and the search in
-/// plain Rust, with all rules or with one left out. Tells whether the arrivals bite, which is to say that without them there is another
-/// plan.
+/// A sheet of which some jobs arrive after minute 0, against every order. Tells whether the arrivals bite, which is to say that without
+/// them there is another plan.
 pub fn compare_arrivals(random: &mut Random, all: &[(&str, Rules)]) -> bool {
     let sheet = sheets::arriving(random);
+    compare_every_order(random, sheet, all, |read| read.jobs.iter_mut().for_each(|job| job.arrival = 0))
+}
+
+/// The same of a sheet with a changeover, with arrivals or without: whether the changeover bites.
+pub fn compare_changeovers(random: &mut Random, all: &[(&str, Rules)]) -> bool {
+    let sheet = sheets::resting(random);
+    compare_every_order(random, sheet, all, |read| read.changeover = 0)
+}
+
+/// A sheet against every order: the card that planning leaves, byte for byte, and the search in plain Rust, with all rules or with one left
+/// out. Tells whether there is another plan without what is taken away.
+fn compare_every_order(random: &mut Random, sheet: Sheet, all: &[(&str, Rules)], take_away: fn(&mut reading::Sheet)) -> bool {
     let bytes = sheet.bytes();
     let mut read = reading::read(&bytes).expect("a good sheet");
     let best = planning::best(&read);
@@ -70,14 +91,15 @@ pub fn compare_arrivals(random: &mut Random, all: &[(&str, Rules)]) -> bool {
     let mut card = vec![0; card_length(sheet.jobs.len())];
     plan(&bytes, &mut card, &mut work).unwrap_or_else(|refusal| panic!("{}: {refusal}", about()));
     assert_eq!(card, best.card(), "{}, memory {}", about(), work.len());
-    let tables = Tables::of(&List { name: String::new(), modules: sheet.modules, jobs: sheet.jobs });
+    let tables =
+        Tables::of(&List { name: String::new(), modules: sheet.modules, changeover: sheet.changeover, jobs: sheet.jobs });
     for (left_out, rules) in all {
         let found = found(run_with(&tables, &mut work, rules));
         let order: Vec<usize> = found.order.iter().map(|job| usize::from(*job)).collect();
         let (end, memory) = (u32::from(found.end), work.len());
         assert_eq!((end, &order), (best.end, &best.order), "{}, {left_out} left out, memory {memory}", about());
     }
-    read.jobs.iter_mut().for_each(|job| job.arrival = 0);
+    take_away(&mut read);
     let without = planning::best(&read);
     (best.end, &best.order) != (without.end, &without.order)
 }

@@ -2,11 +2,15 @@
 use super::sheets;
 use crate::guarded::{Against, Guarded};
 use crate::random::Random;
+use crate::raw_sheet::Sheet;
 use crate::reference::{reading, writing};
 use crate::{ffi, label, label_of, read, Job, Reading, LONGEST_SHEET, MOST_JOBS};
 
 /// The checks that writing makes.
-pub const WRITING: [u32; 6] = [2, 3, 5, 6, 7, 10];
+pub const WRITING: [u32; 7] = [2, 3, 19, 5, 6, 7, 10];
+
+/// The checks that reading makes.
+pub const READING: [u32; 8] = [1, 2, 3, 19, 4, 5, 6, 7];
 
 /// Lent memory between guard pages, and how often each number was answered.
 pub struct Sheets {
@@ -14,7 +18,7 @@ pub struct Sheets {
     sheet: Guarded,
     jobs: Guarded,
     labels: Guarded,
-    answers: [usize; 15],
+    answers: [usize; 20],
 }
 
 /// What the reference says of a job's record.
@@ -36,7 +40,7 @@ impl Sheets {
             sheet: Guarded::new(2048),
             jobs: Guarded::new(1024),
             labels: Guarded::new(1024),
-            answers: [0; 15],
+            answers: [0; 20],
         }
     }
 
@@ -58,6 +62,7 @@ impl Sheets {
             assert_eq!(answer.refusal, expected.as_ref().err().copied().unwrap_or(0), "sheet {sheet:02x?}");
             assert_eq!(answer.count, n, "sheet {sheet:02x?}");
             assert_eq!(usize::from(answer.modules), expected.as_ref().map_or(0, |sheet| sheet.modules), "sheet {sheet:02x?}");
+            assert_eq!(u32::from(answer.changeover), expected.as_ref().map_or(0, |sheet| sheet.changeover), "sheet {sheet:02x?}");
             let jobs: Vec<reading::Job> = answer.jobs[..n].iter().map(in_reference).collect();
             assert_eq!(jobs, expected.as_ref().map_or(&[][..], |sheet| &sheet.jobs), "sheet {sheet:02x?}");
             assert!(answer.jobs[n..].iter().all(|job| *job == Job::default()), "sheet {sheet:02x?}");
@@ -91,9 +96,11 @@ impl Sheets {
         }
     }
 
-    /// Writes the sheet of these jobs into `room` bytes.
-    fn compare_writing(&mut self, jobs: &[Job], labels: &[u8], modules: u16, room: usize) {
-        let expected = writing::write(jobs, labels, modules, room);
+    /// Writes the sheet of these parts into `room` bytes.
+    fn compare_writing(&mut self, sheet: &Sheet, room: usize) {
+        let Sheet { jobs, labels, modules, changeover, .. } = sheet;
+        let (modules, changeover) = (*modules, *changeover);
+        let expected = writing::write(jobs, labels, modules, changeover, room);
         let number = *expected.as_ref().err().unwrap_or(&0);
         self.answers[number as usize] += 1;
         for against in [Against::End, Against::Front] {
@@ -105,24 +112,24 @@ impl Sheets {
             // SAFETY: live memory of as many records and bytes, of which none overlaps another.
             let answer = unsafe {
                 let (labels, out) = (lent_labels.as_ptr(), out.as_mut_ptr());
-                ffi::depot_write(lent_jobs.cast(), jobs.len(), labels, lent_labels.len(), modules, out, room)
+                ffi::depot_write(lent_jobs.cast(), jobs.len(), labels, lent_labels.len(), modules, changeover, out, room)
             };
-            let about = || format!("{jobs:?}, labels {labels:02x?}, modules {modules}, room {room}, {against:?}");
+            let about = || format!("{sheet:02x?}, room {room}, {against:?}");
             let written = expected.as_deref().unwrap_or(&[]);
             assert_eq!(answer, ffi::Written { refusal: number, length: written.len() }, "{}", about());
             let left = self.sheet.left();
             assert_eq!(left[..written.len()], *written, "{}", about());
             assert_eq!(left[written.len()..], before[written.len()..], "{}", about());
-            assert_eq!((self.jobs.left(), self.labels.left()), (&records[..], labels), "{}", about());
+            assert_eq!((self.jobs.left(), self.labels.left()), (&records[..], &labels[..]), "{}", about());
             for lent in [&self.sheet, &self.jobs, &self.labels] {
                 assert!(lent.rest_untouched(), "{}", about());
             }
         }
         if let Ok(sheet) = expected {
             let reading = read(&sheet).expect("what was written reads");
-            assert_eq!(reading, Reading { jobs: jobs.to_vec(), modules });
+            assert_eq!(reading, Reading { jobs: jobs.to_vec(), modules, changeover });
             let shown: Vec<u8> = (0..jobs.len()).flat_map(|job| label_of(&sheet, &reading, job).unwrap()).copied().collect();
-            assert_eq!(shown, labels);
+            assert_eq!(shown, *labels);
         }
     }
 
@@ -134,12 +141,12 @@ impl Sheets {
         }
     }
 
-    /// Sheets with a fault for a check of 1 to 7, some with another one.
+    /// Sheets with a fault for one of the checks of reading, some with another one.
     pub fn damaged_reading(&mut self, check: u32, times: usize) {
         for _ in 0..times {
             let n = 1 + self.random.place(MOST_JOBS);
             let sheet = sheets::of_size(&mut self.random, n);
-            let other = if self.random.percent(40) { self.random.between(1, 7) } else { check };
+            let other = if self.random.percent(40) { self.random.pick(&READING) } else { check };
             let bytes = sheets::damaged(&mut self.random, sheet, &[check, other]);
             self.compare_reading(&bytes);
         }
@@ -165,7 +172,7 @@ impl Sheets {
         for i in 0..times {
             let sheet = sheets::of_size(&mut self.random, i % (MOST_JOBS + 1));
             let room = sheet.bytes().len() + self.random.pick(&[0, 0, 1, 100, LONGEST_SHEET]);
-            self.compare_writing(&sheet.jobs, &sheet.labels, sheet.modules, room);
+            self.compare_writing(&sheet, room);
         }
     }
 
@@ -189,7 +196,7 @@ impl Sheets {
                     _ => sheets::put_fault(&mut self.random, &mut sheet, check),
                 }
             }
-            self.compare_writing(&sheet.jobs, &sheet.labels, sheet.modules, room);
+            self.compare_writing(&sheet, room);
         }
     }
 

@@ -3,6 +3,9 @@ use crate::random::Random;
 use crate::raw_sheet::{mark_earlier, Sheet};
 use crate::Job;
 
+/// The checks for which a sheet can have a fault: those of reading, and 8 and 9.
+pub const CHECKS: [u32; 10] = [1, 2, 3, 19, 4, 5, 6, 7, 8, 9];
+
 /// A sheet that reads, of up to 7 jobs: no job is too wide and none waits for itself.
 pub fn good(random: &mut Random) -> Sheet {
     let n = random.place(8);
@@ -15,6 +18,14 @@ pub fn arriving(random: &mut Random) -> Sheet {
     let (steps, step) = random.pick(&[(1, 1), (3, 1), (10, 1), (40, 1), (8, 5)]);
     let arrivals = Arrivals { percent: 75, steps, step };
     sheet.jobs.iter_mut().for_each(|job| job.arrival = arrivals.draw(random));
+    sheet.changeover = 0;
+    sheet
+}
+
+/// Such a sheet whose modules rest between two jobs, with arrivals or without.
+pub fn resting(random: &mut Random) -> Sheet {
+    let mut sheet = if random.percent(50) { arriving(random) } else { good(random) };
+    sheet.changeover = random.pick(&[1, 1, 2, 3, 5, 10, 30]);
     sheet
 }
 
@@ -38,7 +49,8 @@ pub fn of_size(random: &mut Random, n: usize) -> Sheet {
     let percent = random.pick(&[0, 0, 10, 30, 60, 100]);
     mark_earlier(random, &mut jobs, percent);
     let labels: Vec<u8> = jobs.iter().flat_map(|job| label(random, job.label_len.into())).collect();
-    Sheet { offset: labels.len() as u32, count: n as u16, modules: modules as u16, labels, jobs }
+    let changeover = random.pick(&[0, 0, 0, 1, 2, 5, 30]);
+    Sheet { offset: labels.len() as u32, count: n as u16, modules: modules as u16, changeover, labels, jobs }
 }
 
 /// How the jobs of a sheet arrive: so many of a hundred after minute 0, in steps, up to a last one.
@@ -74,27 +86,28 @@ fn label(random: &mut Random, length: usize) -> Vec<u8> {
     (0..length).map(&mut byte).collect()
 }
 
-/// The sheet's bytes with a fault for each of the checks, 1 to 9; a sheet without jobs cannot have all of them.
+/// The sheet's bytes with a fault for each of the checks; a sheet without jobs cannot have all of them.
 pub fn damaged(random: &mut Random, mut sheet: Sheet, checks: &[u32]) -> Vec<u8> {
     checks.iter().for_each(|check| put_fault(random, &mut sheet, *check));
     let mut bytes = sheet.bytes();
     if checks.contains(&1) {
         if random.percent(50) {
-            bytes.truncate(random.place(8));
+            bytes.truncate(random.place(10));
         } else {
-            let longer = random.pick(&[569, 570, 700]) - bytes.len();
+            let longer = random.pick(&[571, 572, 700]) - bytes.len();
             bytes.splice(0..0, vec![b'z'; longer]);
         }
     }
     bytes
 }
 
-/// Puts a fault for a check of 2 to 9 into the sheet's parts.
+/// Puts a fault for a check other than 1 into the sheet's parts.
 pub fn put_fault(random: &mut Random, sheet: &mut Sheet, check: u32) {
     let job = random.place(sheet.jobs.len().max(1));
     match check {
         2 => sheet.count = outside(random, 21),
         3 => sheet.modules = if random.percent(30) { 0 } else { outside(random, 65) },
+        19 => sheet.changeover = outside(random, 31),
         4 => misplace(random, sheet),
         5 if !sheet.jobs.is_empty() => wrong_field(random, &mut sheet.jobs[job], sheet.count),
         6 => wrong_lengths(random, sheet, job),

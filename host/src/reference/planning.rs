@@ -1,4 +1,4 @@
-//! Planning: checks 1 to 10, then every order of the jobs, each placed minute by minute on numbered modules.
+//! Planning: checks 1 to 10 and 19, then every order of the jobs, each placed minute by minute on numbered modules.
 use super::reading::{read, Sheet};
 
 /// A job's place in a plan.
@@ -29,7 +29,7 @@ pub fn plan_read(sheet: &Sheet, room: usize) -> Result<Vec<u8>, u32> {
     Ok(best(sheet).card())
 }
 
-/// The plan of a sheet of which 1 to 9 do not fail.
+/// The plan of a sheet of which 1 to 9 and 19 do not fail.
 pub fn best(sheet: &Sheet) -> Finished {
     let mut best = None;
     try_every_order(sheet, &mut Vec::new(), &mut best);
@@ -90,7 +90,8 @@ fn try_every_order(sheet: &Sheet, placed: &mut Vec<Slot>, best: &mut Option<Fini
     }
 }
 
-/// Where a list plan places its next job: minute by minute from the previous start on, on the lowest free modules.
+/// Where a list plan places its next job: minute by minute from the previous start on, on the lowest free modules. A module is not free
+/// before it has rested.
 fn next_slot(sheet: &Sheet, placed: &[Slot], job: usize) -> Slot {
     let wanted = &sheet.jobs[job];
     let waits = |slot: &&Slot| wanted.earlier.contains(&slot.job);
@@ -98,7 +99,7 @@ fn next_slot(sheet: &Sheet, placed: &[Slot], job: usize) -> Slot {
     start = start.max(placed.iter().filter(waits).map(|slot| slot.end).max().unwrap_or(0));
     loop {
         let mut free = [true; 64];
-        for slot in placed.iter().filter(|slot| slot.start <= start && start < slot.end) {
+        for slot in placed.iter().filter(|slot| slot.start <= start && start < slot.end + sheet.changeover) {
             slot.modules.iter().for_each(|m| free[*m] = false);
         }
         let modules: Vec<usize> = (0..sheet.modules).filter(|m| free[*m]).take(wanted.modules).collect();

@@ -1,4 +1,4 @@
-//! Reading a job sheet: checks 1 to 7, one after another; and the label of a job, with check 14 behind them.
+//! Reading a job sheet: checks 1 to 7, with 19 behind 3, one after another; and the label of a job, with check 14 behind them.
 use std::ops::Range;
 
 /// A job of a sheet.
@@ -20,6 +20,8 @@ pub struct Sheet {
     pub jobs: Vec<Job>,
     /// N, the modules in the cabinet.
     pub modules: usize,
+    /// The minutes that a module rests between two jobs.
+    pub changeover: u32,
 }
 
 /// A number of up to eight bytes, little-endian.
@@ -27,23 +29,27 @@ pub(super) fn number(bytes: &[u8]) -> u64 {
     bytes.iter().rev().fold(0, |value, byte| value * 256 + u64::from(*byte))
 }
 
-/// The sheet's jobs and N, or the number of the first check that fails.
+/// The sheet's jobs, N and the changeover, or the number of the first check that fails.
 pub fn read(bytes: &[u8]) -> Result<Sheet, u32> {
     let length = bytes.len() as u64;
-    if !(8..=568).contains(&length) {
+    if !(10..=570).contains(&length) {
         return Err(1);
     }
-    let (front, trailer) = bytes.split_at(bytes.len() - 8);
+    let (front, trailer) = bytes.split_at(bytes.len() - 10);
     let offset = number(&trailer[0..4]);
     let n = number(&trailer[4..6]);
     let modules = number(&trailer[6..8]);
+    let changeover = number(&trailer[8..10]);
     if n > 20 {
         return Err(2);
     }
     if modules == 0 || modules > 64 {
         return Err(3);
     }
-    if offset + 12 * n + 8 != length {
+    if changeover > 30 {
+        return Err(19);
+    }
+    if offset + 12 * n + 10 != length {
         return Err(4);
     }
     let (labels, records) = front.split_at(offset as usize);
@@ -59,7 +65,7 @@ pub fn read(bytes: &[u8]) -> Result<Sheet, u32> {
         return Err(7);
     }
     let jobs = records.iter().map(|record| job(record)).collect();
-    Ok(Sheet { jobs, modules: modules as usize })
+    Ok(Sheet { jobs, modules: modules as usize, changeover: changeover as u32 })
 }
 
 /// Whether one of the labels, of these lengths one behind another, has a byte outside 32 to 126 or a space at an edge.

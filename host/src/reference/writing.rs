@@ -1,14 +1,17 @@
-//! Writing a job sheet: checks 2, 3, 5, 6, 7 and 10, one after another.
+//! Writing a job sheet: checks 2, 3, 19, 5, 6, 7 and 10, one after another.
 use super::reading::{outside, some_label_wrong};
 use crate::Job;
 
 /// The bytes of the sheet, or the number of the first check that fails; `room` is the lent buffer's length.
-pub fn write(jobs: &[Job], labels: &[u8], modules: u16, room: usize) -> Result<Vec<u8>, u32> {
+pub fn write(jobs: &[Job], labels: &[u8], modules: u16, changeover: u16, room: usize) -> Result<Vec<u8>, u32> {
     if jobs.len() > 20 {
         return Err(2);
     }
     if modules == 0 || modules > 64 {
         return Err(3);
+    }
+    if changeover > 30 {
+        return Err(19);
     }
     let records: Vec<Vec<u8>> = jobs.iter().map(record).collect();
     if records.iter().any(|record| outside(record, jobs.len() as u64)) {
@@ -20,7 +23,8 @@ pub fn write(jobs: &[Job], labels: &[u8], modules: u16, room: usize) -> Result<V
     if some_label_wrong(labels, jobs.iter().map(|job| usize::from(job.label_len))) {
         return Err(7);
     }
-    let trailer = [little_endian(labels.len() as u32, 4), little_endian(jobs.len() as u32, 2), little_endian(modules.into(), 2)];
+    let cabinet = [little_endian(modules.into(), 2), little_endian(changeover.into(), 2)];
+    let trailer = [little_endian(labels.len() as u32, 4), little_endian(jobs.len() as u32, 2), cabinet.concat()];
     let sheet = [labels.to_vec(), records.concat(), trailer.concat()].concat();
     if room < sheet.len() {
         return Err(10);

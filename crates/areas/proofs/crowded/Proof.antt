@@ -9,8 +9,8 @@ use Rattle.areas.proofs.crowded.Tie as tie
 
 mul-result : tie.Need-mul-result
 mul-result c =
-    let f = mul-le-mul-right (c .args .target) (c .pre .1 .1) in
-    record { fits = omega (arith, c .fits .target .fits) }
+    let f = mul-le-mul-right (c .args .close) (c .pre .1 .1) in
+    record { fits = omega (arith, c .fits .close .fits) }
 
 mul-result-2 : tie.Need-mul-result-2
 mul-result-2 c =
@@ -40,7 +40,7 @@ returns c =
     let held = c .before .held-after in
     let left = c .left in
     λ e.
-    let f : a .modules * a .target < a .modules * a .l + (held .result + left .result) = ltb-true _ _ e in
+    let f : a .modules * a .close < a .modules * a .l + (held .result + left .result) = ltb-true _ _ e in
     omega (arith, held .ensures, left .ensures)
 
 pub crowded-spec : {M : Type 1} → statement M

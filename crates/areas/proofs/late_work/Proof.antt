@@ -4,10 +4,10 @@ use native.Mathlib.Omega.{arith}
 use Prim.Native.Nat.{_*_}
 use native.Mathlib.Nat.{pos-of-ne-zero}
 use lib.Count.{ones}
-use Rattle.figures.specs.Figures.{mostModules, mostMinutes}
+use Rattle.figures.specs.Figures.{mostModules}
 use Rattle.bits.proofs.Walks.{Walk, walk-first, walk-next, walk-less}
 use Rattle.bits.proofs.Weighing.{Weighed, weighed-none, weighed-more, weighed-small, weighed-all}
-use Rattle.tables.specs.Tables.{countOf}
+use Rattle.tables.specs.Tables.{mostKept, countOf}
 use Rattle.areas.specs.Areas.{lateWork}
 use Rattle.areas.proofs.Late.{late-small}
 use borrow.Author.Needs.{needs}
@@ -39,8 +39,8 @@ lowest32-requires c κs = pos-of-ne-zero (c .loop-test .taken)
 first-start-requires : tie.Need-first-start-requires Inv-loop μ-loop
 first-start-requires c κs = omega (arith, c .before .before .before .before .before .pre .few, c .before .before .loop .inv .0 .below (c .lowest32 .result) (c .lowest32 .ensures .1))
 
-minutes-requires : tie.Need-minutes-requires Inv-loop μ-loop
-minutes-requires c κs =
+kept-requires : tie.Need-kept-requires Inv-loop μ-loop
+kept-requires c κs =
     let low = c .before .lowest32 in
     omega (arith, c .before .before .before .before .before .before .pre .few, c .before .before .before .loop .inv .0 .below (low .result) (low .ensures .1))
 
@@ -62,9 +62,9 @@ add-total c =
     let start = (c .before .before .before .before .before .before .before .before) .before .before in
     let a = start .args in
     let inside = loop .inv .0 .below (low .result) (low .ensures .1) in
-    let small = weighed-small (loop .inv .1) (low .result) inside (low .ensures .1) (mostModules * mostMinutes)
+    let small = weighed-small (loop .inv .1) (low .result) inside (low .ensures .1) (mostModules * mostKept)
     (late-small (start .pre) (a .prepared .now) (a .l) (a .a)) in
-    let work = rw (c .before .need .ensures, c .before .before .late-minutes .ensures, c .before .before .before .minutes .ensures, c .before .before .before .before .first-start .ensures) at (c .times .ensures) in
+    let work = rw (c .before .need .ensures, c .before .before .late-minutes .ensures, c .before .before .before .kept .ensures, c .before .before .before .before .first-start .ensures) at (c .times .ensures) in
     record { fits = omega (arith, work, start .pre .few, small) }
 
 without-lowest32-requires : tie.Need-without-lowest32-requires Inv-loop μ-loop
@@ -81,7 +81,7 @@ loop-again c =
     let loop = c .before .before .before .before .before .before .before .before .loop in
     let member = low .ensures .1 in
     let inside = loop .inv .0 .below (low .result) member in
-    rw (c .without-lowest32 .ensures _ member (low .ensures .2), c .before .times .ensures, c .before .before .need .ensures, c .before .before .before .late-minutes .ensures, c .before .before .before .before .minutes .ensures, c .before .before .before .before .before .first-start .ensures)
+    rw (c .without-lowest32 .ensures _ member (low .ensures .2), c .before .times .ensures, c .before .before .need .ensures, c .before .before .before .late-minutes .ensures, c .before .before .before .before .kept .ensures, c .before .before .before .before .before .first-start .ensures)
     (walk-next (low .result) (loop .inv .0), weighed-more (loop .inv .1) (low .result) inside member)
 
 returns : tie.Need-returns Inv-loop μ-loop
@@ -98,7 +98,7 @@ late-work-spec =
     loop-holds
     lowest32-requires
     first-start-requires
-    minutes-requires
+    kept-requires
     late-minutes-requires
     need-requires
     times-requires

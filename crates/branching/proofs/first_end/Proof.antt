@@ -38,30 +38,27 @@ element-copy-out-or-ends c =
     let head = c .before .before in
     omega (arith, head .loop .inv .0 .below _ (c .lowest32 .ensures .1), head .before .before .before .pre)
 
-minutes-requires : tie.Need-minutes-requires Inv-loop μ-loop
-minutes-requires c κs =
+or-ends-requires : tie.Need-or-ends-requires Inv-loop μ-loop
+or-ends-requires c κs =
     let head = c .before .before .before in
     omega (arith, head .loop .inv .0 .below _ (c .before .lowest32 .ensures .1), head .before .before .before .pre)
 
-or-ends-requires : tie.Need-or-ends-requires Inv-loop μ-loop
-or-ends-requires c κs = search needs
-
 without-lowest32-requires : tie.Need-without-lowest32-requires Inv-loop μ-loop
-without-lowest32-requires c κs = pos-of-ne-zero (c .before .before .before .before .loop-test .taken)
+without-lowest32-requires c κs = pos-of-ne-zero (c .before .before .before .loop-test .taken)
 
 loop-less : tie.Need-loop-less Inv-loop μ-loop
 loop-less c =
-    let low = c .before .before .before .before .lowest32 .ensures in
+    let low = c .before .before .before .lowest32 .ensures in
     rw (c .without-lowest32 .ensures _ (low .1) (low .2)) (walk-less _ _ (low .1))
 
 loop-again : tie.Need-loop-again Inv-loop μ-loop
 loop-again c =
-    let j = c .before .before .before .before .lowest32 in
-    let head = c .before .before .before .before .before .before in
+    let j = c .before .before .before .lowest32 in
+    let head = c .before .before .before .before .before in
     let a = head .before .before .before .args in
     let loop = head .loop in (
       rw (c .without-lowest32 .ensures _ (j .ensures .1) (j .ensures .2)) (walk-next _ (loop .inv .0)),
-      rw (c .before .or-ends .ensures, c .before .before .minutes .ensures)
+      rw (c .before .or-ends .ensures)
           (or-ends (a .jobs .now) (a .at .now) (j .result) (loop .r) (loop .inv .0 .below _ (j .ensures .1)) (loop .inv .1)),
     )
 
@@ -80,7 +77,6 @@ first-end-spec =
     lowest32-requires
     mul-or-ends
     element-copy-out-or-ends
-    minutes-requires
     or-ends-requires
     without-lowest32-requires
     loop-less

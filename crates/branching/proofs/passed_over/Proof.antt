@@ -23,18 +23,14 @@ returns-2 c = λ e.
     let start = c .before .before .if2 .taken ∙ c .before .before .before .last .ensures in
     inr (inl (start, sym (c .before .test32 .ensures) ∙ c .if3 .taken))
 
-count-requires : tie.Need-count-requires
-count-requires c κs = search needs
-
 swapped-requires : tie.Need-swapped-requires
 swapped-requires c κs =
-    let pre = c .before .before .before .before .before .pre in
-    (omega (arith, c .count .ensures, pre .few), pre .job)
+    let pre = c .before .before .before .before .pre in
+    (pre .few, pre .job)
 
 returns-3 : tie.Need-returns-3
 returns-3 c = λ e.
-    let behind = c .before .swapped .ensures (c .if4 .taken) in
-    inr (inr (inl (rw (c .before .before .count .ensures) at behind)))
+    inr (inr (inl (c .before .swapped .ensures (c .if4 .taken))))
 
 blocked-requires : tie.Need-blocked-requires
 blocked-requires c κs = search needs
@@ -51,7 +47,6 @@ passed-over-spec =
     last-requires
     test32-requires
     returns-2
-    count-requires
     swapped-requires
     returns-3
     blocked-requires

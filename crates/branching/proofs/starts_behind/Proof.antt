@@ -6,6 +6,9 @@ use borrow.Author.Needs.{needs}
 use Rattle.branching.proofs.starts_behind.Statement.{statement}
 use Rattle.branching.proofs.starts_behind.Tie as tie
 
+add-if1 : tie.Need-add-if1
+add-if1 c = search needs
+
 returns : tie.Need-returns
 returns c = λ e. clash false e refl
 
@@ -25,4 +28,4 @@ returns-3 c = λ e.
 
 pub starts-behind-spec : {M : Type 1} → statement M
 starts-behind-spec =
-    tie.close (tie.spec returns test32-requires returns-2 test32-requires-2 returns-3)
+    tie.close (tie.spec add-if1 returns test32-requires returns-2 test32-requires-2 returns-3)

@@ -13,11 +13,11 @@ use Rattle.entries.proofs.entry_ahead.Tie as tie
 
 -- where none is late so far, the last start is not, nor is any end so far
 abbrev Inv-loop : tie.InvT-loop
-Inv-loop group way part jobs unplaced l at late₀ i₀ late i = (i ≤ jobs) × (late ≤ i + 1)
-    × (late ≡ 0 → (u16At group at ≤ l) × ((k : ℕ) → k < i → u16At group (at + 2 + 2 * k) ≤ max (getD part k 0) l))
+Inv-loop group way part jobs unplaced l rested at late₀ i₀ late i = (i ≤ jobs) × (late ≤ i + 1)
+    × (late ≡ 0 → (u16At group at ≤ l) × ((k : ℕ) → k < i → u16At group (at + 2 + 2 * k) ≤ max (getD part k 0) rested))
 
 abbrev μ-loop : tie.MeasureT-loop
-μ-loop group way part jobs unplaced l at late₀ i₀ late i = jobs - i
+μ-loop group way part jobs unplaced l rested at late₀ i₀ late i = jobs - i
 
 mul-read32 : tie.Need-mul-read32 Inv-loop μ-loop
 mul-read32 c = search needs
@@ -84,7 +84,7 @@ loop-again c =
       λ e.
           let so = loop .inv .2 (omega arith) in
           let zero : c .after-both2 .result ≡ 0 = omega arith in
-          let here : u16At (a .group .now) (at + 2 + 2 * loop .i) ≤ max (getD (a .part .now) (loop .i) 0) (a .l) =
+          let here : u16At (a .group .now) (at + 2 + 2 * loop .i) ≤ max (getD (a .part .now) (loop .i) 0) (a .rested) =
           rw (read .read162 .ensures, c .before .end .ensures) at (one .1 zero) in
           (so .0, below-more _ _ (so .1) here),
     )
@@ -98,7 +98,7 @@ returns-2 c =
     let a = start .args in
     λ e.
     let so = loop .inv .2 (eqb-true _ _ e) in
-    ahead-in (a .group .now) (a .way) (a .jobs) (a .part .now) (a .unplaced) (a .l) (start .pre .2)
+    ahead-in (a .group .now) (a .way) (a .jobs) (a .part .now) (a .unplaced) (a .l) (a .rested) (start .pre .2)
     (sym (read32 .ensures) ∙ else1 .if1 .left) (so .0) (λ i h. so .1 i (omega arith))
 
 pub entry-ahead-spec : {M : Type 1} → statement M

@@ -10,13 +10,13 @@ use Rattle.free_modules.proofs.with_busy.Tie as tie
 returns : tie.Need-returns
 returns c =
     let a = c .before .args in
-    let e : ltb (a .t) (a .end) ≡ true = lt-ltb (a .t) (a .end) (c .if1 .taken) in
+    let e : ltb (a .t) (a .until) ≡ true = lt-ltb (a .t) (a .until) (c .if1 .taken) in
     rw e
 
 returns-2 : tie.Need-returns-2
 returns-2 c =
     let a = c .before .args in
-    let e : ltb (a .t) (a .end) ≡ false = le-ltb (a .t) (a .end) (c .if1 .left) in
+    let e : ltb (a .t) (a .until) ≡ false = le-ltb (a .t) (a .until) (c .if1 .left) in
     rw e (sym (or-zero-r (a .set)))
 
 pub with-busy-spec : {M : Type 1} → statement M

@@ -1,7 +1,7 @@
 -- `job_table::put_job` meets its contract.
 use mathlib.Core.Path.{refl}
-use borrow.Author.Needs.{needs}
 use Rattle.job_table.specs.Table.{withJob}
+use borrow.Author.Needs.{needs}
 use Rattle.job_table.proofs.put_job.Statement.{statement}
 use Rattle.job_table.proofs.put_job.Tie as tie
 
@@ -62,6 +62,15 @@ mul-table-7 c = search needs
 element-write-table-5 : tie.Need-element-write-table-5
 element-write-table-5 c = search needs
 
+add-table-6 : tie.Need-add-table-6
+add-table-6 c = search needs
+
+mul-table-8 : tie.Need-mul-table-8
+mul-table-8 c = search needs
+
+element-write-table-6 : tie.Need-element-write-table-6
+element-write-table-6 c = search needs
+
 returns : tie.Need-returns
 unfolding withJob
 returns c = refl
@@ -89,4 +98,7 @@ put-job-spec =
     add-table-5
     mul-table-7
     element-write-table-5
+    add-table-6
+    mul-table-8
+    element-write-table-6
     returns)

@@ -29,7 +29,7 @@ served-on-requires c κs =
     let if1 = c .before .before .before .if1 in
     let args = c .before .before .before .before .args in
     let pre = c .before .before .before .before .pre in
-    let place = steps .ensures ∙ ap (λ (s : ℕ). args .target / s) (step-of .ensures) in
+    let place = steps .ensures ∙ ap (λ (s : ℕ). args .close / s) (step-of .ensures) in
     serving _ (pre .0 .1) (pre .1) (pre .0 .0 .most) (if1 .left) (omega (arith, place, c .if2 .left))
 
 set-worth-requires : tie.Need-set-worth-requires
@@ -45,7 +45,7 @@ returns-3 c =
     let if1 = c .before .before .before .before .before .if1 in
     let args = c .before .before .before .before .before .before .args in
     let pre = c .before .before .before .before .before .before .pre in
-    let place = steps .ensures ∙ ap (λ (s : ℕ). args .target / s) (step-of .ensures) in
+    let place = steps .ensures ∙ ap (λ (s : ℕ). args .close / s) (step-of .ensures) in
     let s = serving _ (pre .0 .1) (pre .1) (pre .0 .0 .most) (if1 .left) (omega (arith, place, if2 .left)) in
     let served-on = c .before .served-on in
     let set-worth = c .set-worth in

@@ -23,14 +23,14 @@ lanes-requires c κs =
     let step-of = c .before .step-of in
     let pre = c .before .before .pre in
     let args = c .before .before .args in
-    let place = c .steps .ensures ∙ ap (λ (s : ℕ). (args .target - args .t) / s) (step-of .ensures) in
-    let inside = place-inside (args .target) (args .t) (stepOf (lanesIn (args .prepared .now))) (pre .0) (pre .1 .0) in
+    let place = c .steps .ensures ∙ ap (λ (s : ℕ). (args .close - args .t) / s) (step-of .ensures) in
+    let inside = place-inside (args .close) (args .t) (stepOf (lanesIn (args .prepared .now))) (pre .0) (pre .1 .0) in
     omega (arith, place, inside)
 
 returns : tie.Need-returns
 returns c =
     let args = c .before .before .before .args in
-    let place = c .before .steps .ensures ∙ ap (λ (s : ℕ). (args .target - args .t) / s) (c .before .before .step-of .ensures) in
+    let place = c .before .steps .ensures ∙ ap (λ (s : ℕ). (args .close - args .t) / s) (c .before .before .step-of .ensures) in
     c .lanes .ensures ∙ ap (reachAt (lanesIn (args .prepared .now))) place
 
 pub reach-from-spec : {M : Type 1} → statement M

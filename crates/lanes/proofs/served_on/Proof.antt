@@ -13,13 +13,13 @@ use Rattle.lanes.proofs.served_on.Statement.{statement}
 use Rattle.lanes.proofs.served_on.Tie as tie
 
 abbrev Inv-loop : tie.InvT-loop
-Inv-loop jobs prepared part gone free least target placed total₀ at₀ reach₀ f₀ i₀ total at reach f i =
+Inv-loop jobs prepared part gone free least close placed total₀ at₀ reach₀ f₀ i₀ total at reach f i =
     (placed ≡ partIn part .placed)
-    × ((s : Serving (lanesIn prepared) (partIn part) gone free (modulesOf jobs) least target)
-    × (Walk (partIn part) (modulesOf jobs) target at f i × Served s total at reach))
+    × ((s : Serving (lanesIn prepared) (partIn part) gone free (modulesOf jobs) least close)
+    × (Walk (partIn part) (modulesOf jobs) close at f i × Served s total at reach))
 
 abbrev μ-loop : tie.MeasureT-loop
-μ-loop jobs prepared part gone free least target placed total₀ at₀ reach₀ f₀ i₀ total at reach f i = placed - i
+μ-loop jobs prepared part gone free least close placed total₀ at₀ reach₀ f₀ i₀ total at reach f i = placed - i
 
 placed-requires : tie.Need-placed-requires Inv-loop μ-loop
 placed-requires c κs = search needs
@@ -106,7 +106,7 @@ loop-again c =
     let s = inv .1 .0 in
     let walk = inv .1 .1 .0 in
     let next = c .before .before .reach-from2 in
-    let to = next-end .ensures ∙ ap (λ (x : ℕ). max (loop .at) (min x (past .before .args .target))) (until .ensures) in
+    let to = next-end .ensures ∙ ap (λ (x : ℕ). max (loop .at) (min x (past .before .args .close))) (until .ensures) in
     let step = serve-step s walk (inv .1 .1 .1) (next-end .result) (next .result) to (next .ensures) in
     let on = walk-step walk (omega (arith, inv .0, loop-test .taken)) in
     (inv .0, (s, (rw (to, c .held .ensures) on, rw (lanes-on .ensures) step)))

@@ -13,10 +13,10 @@ use Rattle.memory.proofs.recall.Statement.{statement}
 use Rattle.memory.proofs.recall.Tie as tie
 
 abbrev Inv-loop : tie.InvT-loop
-Inv-loop memory part jobs l len unplaced from to ways₀ ways = ways < 65536
+Inv-loop memory part jobs l rest len unplaced from to rested ways₀ ways = ways < 65536
 
 abbrev μ-loop : tie.MeasureT-loop
-μ-loop memory part jobs l len unplaced from to ways₀ ways = ways
+μ-loop memory part jobs l rest len unplaced from to rested ways₀ ways = ways
 
 returns : tie.Need-returns Inv-loop μ-loop
 returns c = no
@@ -29,6 +29,9 @@ group-at-requires c κs = search needs
 
 add-to : tie.Need-add-to Inv-loop μ-loop
 add-to c = search needs
+
+rested-by-requires : tie.Need-rested-by-requires Inv-loop μ-loop
+rested-by-requires c κs = search needs
 
 sub-ways-with : tie.Need-sub-ways-with Inv-loop μ-loop
 sub-ways-with c = search needs
@@ -68,14 +71,15 @@ returns-2 c =
     let tested = c .before .before .before in
     let loop = tested .before .loop in
     let in-group = lowest-inside (loop .ways) (tested .loop-test .taken) (loop .inv) in
-    let group = tested .before .before .before .before in
+    let rested = tested .before .before .before .before in
+    let group = rested .before in
     let group-at = group .group-at in
     let unplaced = group .before .unplaced in
     let a = group .before .before .before .before .args in
     let m = a .memory .now in
-    λ e. subst (λ (u : ℕ). Hit m (a .jobs) (a .part .now) u (a .l)) (unplaced .ensures)
-    (hit-at m (a .jobs) (a .part .now) (unplaced .result) (a .l) (group-at .result) (groupOf (length m) (unplaced .result))
-    (trailingZeros 32 (loop .ways)) (group-at .ensures .0) (group-at .ensures .1) in-group (entry-ahead .ensures (c .if2 .taken)))
+    λ e. subst (λ (u : ℕ). Hit m (a .jobs) (a .part .now) u (a .l) (a .rest)) (unplaced .ensures)
+    (hit-at m (a .jobs) (a .part .now) (unplaced .result) (a .l) (a .rest) (group-at .result) (groupOf (length m) (unplaced .result))
+    (trailingZeros 32 (loop .ways)) (group-at .ensures .0) (group-at .ensures .1) in-group (rw (rested .rested-by .ensures) at (entry-ahead .ensures (c .if2 .taken))))
 
 sub-ways : tie.Need-sub-ways Inv-loop μ-loop
 sub-ways c = search needs
@@ -103,6 +107,7 @@ recall-spec =
     unplaced-requires
     group-at-requires
     add-to
+    rested-by-requires
     sub-ways-with
     part-ways-with-start
     part-ways-with-end

@@ -38,8 +38,8 @@ lowest32-requires c κs = pos-of-ne-zero (c .loop-test .taken)
 need-requires : tie.Need-need-requires Inv-loop μ-loop
 need-requires c κs = omega (arith, c .before .before .before .before .before .pre .few, c .before .before .loop .inv .0 .below (c .lowest32 .result) (c .lowest32 .ensures .1))
 
-minutes-requires : tie.Need-minutes-requires Inv-loop μ-loop
-minutes-requires c κs =
+kept-requires : tie.Need-kept-requires Inv-loop μ-loop
+kept-requires c κs =
     let low = c .before .lowest32 in
     omega (arith, c .before .before .before .before .before .before .pre .few, c .before .before .before .loop .inv .0 .below (low .result) (low .ensures .1))
 
@@ -65,7 +65,7 @@ add-total c =
     let inside = loop .inv .0 .below (low .result) (low .ensures .1) in
     let small = weighed-small (loop .inv .1) (low .result) inside (low .ensures .1) mostModules
     (hold-small (start .pre) (a .prepared .now) (a .l) (a .target) (a .m)) in
-    let held = rw (c .before .before .before .before .need .ensures, c .before .before .before .minutes .ensures, c .before .before .first-start .ensures, c .before .tail .ensures) at (c .must-hold .ensures) in
+    let held = rw (c .before .before .before .before .need .ensures, c .before .before .before .kept .ensures, c .before .before .first-start .ensures, c .before .tail .ensures) at (c .must-hold .ensures) in
     record { fits = omega (arith, held, start .pre .few, small) }
 
 without-lowest32-requires : tie.Need-without-lowest32-requires Inv-loop μ-loop
@@ -82,7 +82,7 @@ loop-again c =
     let loop = c .before .before .before .before .before .before .before .before .loop in
     let member = low .ensures .1 in
     let inside = loop .inv .0 .below (low .result) member in
-    rw (c .without-lowest32 .ensures _ member (low .ensures .2), c .before .must-hold .ensures, c .before .before .before .before .before .need .ensures, c .before .before .before .before .minutes .ensures, c .before .before .before .first-start .ensures, c .before .before .tail .ensures)
+    rw (c .without-lowest32 .ensures _ member (low .ensures .2), c .before .must-hold .ensures, c .before .before .before .before .before .need .ensures, c .before .before .before .before .kept .ensures, c .before .before .before .first-start .ensures, c .before .before .tail .ensures)
     (walk-next (low .result) (loop .inv .0), weighed-more (loop .inv .1) (low .result) inside member)
 
 returns : tie.Need-returns Inv-loop μ-loop
@@ -99,7 +99,7 @@ all-hold-spec =
     loop-holds
     lowest32-requires
     need-requires
-    minutes-requires
+    kept-requires
     first-start-requires
     tail-requires
     must-hold-requires

@@ -17,12 +17,12 @@ add-if2 c = search needs
 returns : tie.Need-returns
 returns c =
     let a = c .before .before .args in
-    rw (le-leb (a .target) (a .m + a .tail) (c .before .if1 .taken), lt-ltb (a .m) (a .first + a .minutes) (c .if2 .taken)) refl
+    rw (le-leb (a .target) (a .m + a .tail) (c .before .if1 .taken), lt-ltb (a .m) (a .first + a .kept) (c .if2 .taken)) refl
 
 returns-2 : tie.Need-returns-2
 returns-2 c =
     let a = c .before .before .args in
-    rw (le-ltb (a .m) (a .first + a .minutes) (c .if2 .left), and-false (leb (a .target) (a .m + a .tail))) refl
+    rw (le-ltb (a .m) (a .first + a .kept) (c .if2 .left), and-false (leb (a .target) (a .m + a .tail))) refl
 
 returns-3 : tie.Need-returns-3
 returns-3 c =

@@ -28,8 +28,8 @@ first-start-requires c κs = search needs
 cast-if3 : tie.Need-cast-if3
 cast-if3 c = search needs
 
-minutes-requires : tie.Need-minutes-requires
-minutes-requires c κs = search needs
+kept-requires : tie.Need-kept-requires
+kept-requires c κs = search needs
 
 cast-if3-2 : tie.Need-cast-if3-2
 cast-if3-2 c = search needs
@@ -60,7 +60,7 @@ no-room-for-spec =
     returns-2
     first-start-requires
     cast-if3
-    minutes-requires
+    kept-requires
     cast-if3-2
     add-if3
     cast-if3-3

@@ -1,6 +1,6 @@
 -- `planable::front` meets its contract.
 use borrow.Author.Needs.{needs}
-use Rattle.planable.proofs.Tables.{places-read, few-read}
+use Rattle.planable.proofs.Tables.{places-read, few-read, sums-read}
 use Rattle.planable.proofs.Planable.{turned-away, reads-well, few-table, checked}
 use Rattle.planable.proofs.front.Statement.{statement}
 use Rattle.planable.proofs.front.Tie as tie
@@ -18,7 +18,7 @@ table-of-requires c κs =
     let s = c .before .before .before .args .sheet .now in
     let read = c .before .read in
     let well = reads-well s (rw (read .ensures) at (c .if1 .left)) in
-    rw (read .ensures) (places-read s well, few-read s well)
+    rw (read .ensures) (places-read s well, (few-read s well, sums-read s well))
 
 order-refusal-requires : tie.Need-order-refusal-requires
 order-refusal-requires c κs =

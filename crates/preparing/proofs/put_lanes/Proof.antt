@@ -14,19 +14,25 @@ use borrow.Author.Needs.{needs}
 use Rattle.preparing.proofs.put_lanes.Statement.{statement}
 use Rattle.preparing.proofs.put_lanes.Tie as tie
 
+closing-requires : tie.Need-closing-requires
+closing-requires c κs = search needs
+
 lanes-of-requires : tie.Need-lanes-of-requires
 lanes-of-requires c κs = search needs
 
 put-requires : tie.Need-put-requires
-put-requires c κs = (c .before .before .before .before .before .pre .0 .size, search needs)
+put-requires c κs =
+    let start = c .before .before .before .before .before .before in
+    (start .pre .0 .size, search needs)
 
 returns : tie.Need-returns
 returns c =
-    let pre = c .before .before .before .before .before .before .pre in
-    let lanes-of = c .before .before .before .before .before .lanes-of in
-    let a = c .before .before .before .before .before .before .args in
-    let begun = pre .0 in
-    let fit = pre .1 in
+    let past = c .before .before .before .before .before in
+    let start = past .before .before in
+    let lanes-of = past .lanes-of in
+    let a = start .args in
+    let begun = start .pre .0 in
+    let fit = start .pre .1 in
     let n : length (lanes-of .result .of) ≡ 1110 = search needs in
     let put = rw n at (c .put .ensures) in
     let new = c .put .last .0 in
@@ -39,4 +45,4 @@ returns c =
     }
 
 pub put-lanes-spec : {M : Type 1} → statement M
-put-lanes-spec = tie.close (tie.spec lanes-of-requires put-requires returns)
+put-lanes-spec = tie.close (tie.spec closing-requires lanes-of-requires put-requires returns)

@@ -1,6 +1,6 @@
 -- `replay::busy_at` meets its contract.
 use mathlib.Core.Path.{_≡_, refl, ap, _∙_}
-use Prim.Native.Nat.{ℕ, _≤_, _-_}
+use Prim.Native.Nat.{ℕ, _+_, _≤_, _-_}
 use native.Mathlib.Omega.{arith}
 use lib.Dec.{ltb}
 use lib.Bits.{bitOr}
@@ -13,10 +13,10 @@ use Rattle.replay.proofs.busy_at.Statement.{statement}
 use Rattle.replay.proofs.busy_at.Tie as tie
 
 abbrev Inv-loop : tie.InvT-loop
-Inv-loop count t slots set₀ i₀ set i = (i ≤ count) × (set ≡ busyAt slots i t)
+Inv-loop count rest t slots set₀ i₀ set i = (i ≤ count) × (set ≡ busyAt slots i rest t)
 
 abbrev μ-loop : tie.MeasureT-loop
-μ-loop count t slots set₀ i₀ set i = count - i
+μ-loop count rest t slots set₀ i₀ set i = count - i
 
 loop-holds : tie.Need-loop-holds Inv-loop μ-loop
 unfolding union
@@ -34,6 +34,11 @@ mul-with-busy-2 c = search needs
 element-copy-out-with-busy-2 : tie.Need-element-copy-out-with-busy-2 Inv-loop μ-loop
 element-copy-out-with-busy-2 c = search needs
 
+add-with-busy : tie.Need-add-with-busy Inv-loop μ-loop
+add-with-busy c =
+    let loop = c .before .before .before .loop in
+    omega (arith, c .before .before .before .before .pre .1 (loop .i) (c .before .before .loop-test .taken))
+
 with-busy-requires : tie.Need-with-busy-requires Inv-loop μ-loop
 with-busy-requires c κs = search needs
 
@@ -48,7 +53,7 @@ loop-again c =
     let loop = c .before .before .before .before .loop in
     let a = c .before .before .before .before .before .args in
     let i = loop .i in
-    let f : ℕ → ℕ = λ i. only (ltb (a .t) (getD (a .t1 .end) i 0)) (getD (a .t1 .modules) i 0) in
+    let f : ℕ → ℕ = λ i. only (ltb (a .t) (getD (a .t1 .end) i 0 + a .rest)) (getD (a .t1 .modules) i 0) in
     (search needs, c .with-busy .ensures ∙ ap (λ (x : ℕ). bitOr x (f i)) (loop .inv .1) ∙ union-more i f)
 
 returns : tie.Need-returns Inv-loop μ-loop
@@ -69,6 +74,7 @@ busy-at-spec =
     element-copy-out-with-busy
     mul-with-busy-2
     element-copy-out-with-busy-2
+    add-with-busy
     with-busy-requires
     add-i
     loop-less

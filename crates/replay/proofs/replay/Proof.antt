@@ -9,7 +9,7 @@ use Rattle.tables.specs.Part.{partIn}
 use Rattle.placement.specs.Part.{IsPart}
 use Rattle.placement.proofs.Parts.{first-is}
 use Rattle.replay.proofs.PlacedSlots.{noSlots, SlotsOf, no-slots}
-use Rattle.replay.proofs.Replays.{Turn, next-job, next-low, next-short, next-placeable, next-part, next-slots}
+use Rattle.replay.proofs.Replays.{Turn, next-job, next-low, next-short, next-placeable, next-part, next-slots, ends-fit}
 use Rattle.replay.proofs.Replays.{all-replayed}
 use borrow.Author.Needs.{needs}
 use Rattle.replay.proofs.replay.Statement.{statement}
@@ -65,7 +65,8 @@ with-job-requires c κs =
     let inv = c .before .before .before .before .before .loop .inv in
     let now = turn (c .before .before) in
     let short = next-short now (inv .2) (c .start-of .ensures) in
-    (c .before .before .before .before .before .before .before .before .pre .0, (next-low now, omega arith))
+    let fit = c .before .before .before .before .before .before .before .before .pre .0 in
+    ((fit, ends-fit _ fit (inv .2 .follows) (inv .3)), (next-low now, omega arith))
 
 place-requires : tie.Need-place-requires Inv-loop μ-loop
 place-requires c κs =

@@ -7,6 +7,7 @@ use lib.ListN.{length}
 use Rattle.tables.specs.Tables.{sheetOf, countOf}
 use Rattle.tables.specs.Part.{partIn, wordOf}
 use Rattle.tables.specs.Prepared.{relatedIn}
+use Rattle.placement.proofs.Parts.{ends-fit}
 use Rattle.candidates.proofs.Children.{word-within}
 use Rattle.search.specs.Search.{SettledSo, Remembered}
 use Rattle.search.proofs.Turns.{visit-leaf, visit-all, visit-remember}
@@ -125,11 +126,13 @@ try-children-passed-over-requires t c κs =
     let p = c .before .before .pre .1 in
     let known = p .0 .going .known in
     let few = known .fit .few in
+    let part = partIn (c .before .before .args .part .now) in
     record {
       few = few;
       placed = known .is .figures .profile .few;
       job = omega (arith, p .1 .inside);
       jobs = λ k l. omega (arith, word-within known k l);
+      short = λ k l. omega (arith, ends-fit _ (known .fit) part (wordOf part) (known .is) _ (word-within known k l));
     }
 
 try-children-none-found-requires : (t : ℕ) → try-children-lts.Need-none-found-requires (try-children-claims t) (try-children-at t) try-children.Post

@@ -12,7 +12,7 @@ use Rattle.search.proofs.cut_off.Tie as tie
 hopeless-requires : tie.Need-hopeless-requires
 hopeless-requires c κs =
     let g = c .before .pre .0 in
-    ((g .known .fit, (g .tabled .weighted, g .tabled .laned)), bounding (g .known) (c .before .pre .1 .0) (g .low))
+    ((g .known .fit, (g .tabled .weighted, g .tabled .laned)), bounding (g .known) (c .before .pre .1 .0))
 
 returns : tie.Need-returns
 returns c =
@@ -26,18 +26,22 @@ returns c =
 count-requires : tie.Need-count-requires
 count-requires c κs = search needs
 
+changeover-requires : tie.Need-changeover-requires
+changeover-requires c κs = search needs
+
 recall-requires : tie.Need-recall-requires
-recall-requires c κs = omega (arith, c .count .ensures, c .before .before .before .before .pre .0 .known .fit .few)
+recall-requires c κs = omega (arith, c .before .count .ensures, c .before .before .before .before .before .pre .0 .known .fit .few)
 
 returns-2 : tie.Need-returns-2
 returns-2 c =
-    let pre = c .before .before .before .before .before .pre in
-    let a = c .before .before .before .before .before .args in
+    let asked = c .before .before in
+    let pre = asked .before .before .before .before .pre in
+    let a = asked .before .before .before .before .args in
     let g = pre .0 in
     let left : 0 < ones (partIn (a .part .now) .unplaced) = omega (arith, g .known .is .figures .sizes, pre .1 .1) in
-    let hit = rw (c .before .count .ensures) at (c .recall .ensures) in
+    let hit = rw (asked .count .ensures, c .before .changeover .ensures) at (c .recall .ensures) in
     λ e. recall-cut (g .known) (pre .1 .0) (suc (a .target)) left (g .remembered) (hit e)
 
 pub cut-off-spec : {M : Type 1} → statement M
 cut-off-spec =
-    tie.close (tie.spec hopeless-requires returns count-requires recall-requires returns-2)
+    tie.close (tie.spec hopeless-requires returns count-requires changeover-requires recall-requires returns-2)

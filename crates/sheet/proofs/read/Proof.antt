@@ -38,6 +38,12 @@ modules-requires c κs =
     let early = passed .before in
     trailer (early .before .before .args .sheet .now) (early .refusal .result) (early .refusal .ensures) (passed .if1 .left) .long
 
+changeover-requires : tie.Need-changeover-requires
+changeover-requires c κs =
+    let passed = c .before .before .before in
+    let early = passed .before in
+    trailer (early .before .before .args .sheet .now) (early .refusal .result) (early .refusal .ensures) (passed .if1 .left) .long
+
 read-records-requires : tie.Need-read-records-requires
 read-records-requires c κs = search needs
 
@@ -56,5 +62,6 @@ read-spec =
     count-requires
     cast-count
     modules-requires
+    changeover-requires
     read-records-requires
     returns-2)

@@ -6,7 +6,7 @@ use native.Mathlib.Omega.{arith}
 use lib.ListN.{take, set}
 use borrow.Author.Needs.{needs}
 use Rattle.checking.specs.Checking.{firstFailing}
-use Rattle.sheet_format.specs.Format.{jobFrom, offsetOf, countOf, modulesOf}
+use Rattle.sheet_format.specs.Format.{jobFrom, offsetOf, countOf, modulesOf, changeoverOf}
 use Rattle.sheet_format.specs.Checks.{trailerChecks, contentChecks}
 use Rattle.sheet.specs.declared.Reading.{Reading}
 use Rattle.sheet.specs.Read.{refused, reading}
@@ -16,19 +16,19 @@ use Rattle.sheet.proofs.read_records.Statement.{statement}
 use Rattle.sheet.proofs.read_records.Tie as tie
 
 -- the answer behind the trailer's checks, where one of 5 to 7 fails
-refused-behind : (s : List ℕ) (offset n : ℕ) {N : ℕ}
-    → (firstFailing (trailerChecks s) ≡ 0) × (offset ≡ offsetOf s) × (n ≡ countOf s) × (N ≡ modulesOf s) → (k : ℕ)
+refused-behind : (s : List ℕ) (offset n : ℕ) {N r : ℕ}
+    → (firstFailing (trailerChecks s) ≡ 0) × (offset ≡ offsetOf s) × (n ≡ countOf s) × (N ≡ modulesOf s) × (r ≡ changeoverOf s) → (k : ℕ)
     → k ≡ firstFailing (contentChecks n (jobFrom s offset) (take offset s)) → (k ≡ 0 → ⊥) → refused k ≡ reading s
 refused-behind s offset n pre k e h =
     refused-late s (firstFailing (trailerChecks s)) refl (pre .0) k (content-is s n offset k (pre .2) (pre .1) e) h
 
 abbrev Inv-loop : tie.InvT-loop
-Inv-loop sheet offset count modules answer₀ total₀ wrong₀ i₀ answer total wrong i =
+Inv-loop sheet offset count modules changeover answer₀ total₀ wrong₀ i₀ answer total wrong i =
     After sheet offset count i (answer .jobs) total wrong
-    × (answer ≡ record { refusal = 0; jobs = answer .jobs; count = count; modules = modules })
+    × (answer ≡ record { refusal = 0; jobs = answer .jobs; count = count; modules = modules; changeover = changeover })
 
 abbrev μ-loop : tie.MeasureT-loop
-μ-loop sheet offset count modules answer₀ total₀ wrong₀ i₀ answer total wrong i = count - i
+μ-loop sheet offset count modules changeover answer₀ total₀ wrong₀ i₀ answer total wrong i = count - i
 
 no-jobs-requires : tie.Need-no-jobs-requires Inv-loop μ-loop
 no-jobs-requires c κs = search needs
@@ -115,8 +115,13 @@ loop-again c =
           (one .read-one .result) (long .label-length .result) (between .wrong-between .result) (c .either .result)
           (test .loop-test .taken) (one .read-one .ensures) (sym (past .before .faulty .ensures) ∙ past .if1 .left) (long .label-length .ensures)
           (between .wrong-between .ensures) (c .either .ensures),
-      ap (λ (r : Reading). record { refusal = r .refusal; jobs = set (v .answer .jobs) (v .i) (one .read-one .result); count = r .count; modules = r .modules })
-          (v .inv .1),
+      ap (λ (r : Reading). record {
+        refusal = r .refusal;
+        jobs = set (v .answer .jobs) (v .i) (one .read-one .result);
+        count = r .count;
+        modules = r .modules;
+        changeover = r .changeover;
+      }) (v .inv .1),
     )
 
 refused-requires-2 : tie.Need-refused-requires-2 Inv-loop μ-loop
@@ -159,7 +164,8 @@ returns-4 c =
     let e : v .i ≡ a .count = omega (arith, v .inv .0 .at) in
     let k = finds-none s (a .offset) (a .count) (v .i) (v .answer .jobs) (v .total) (v .wrong) (v .inv .0) e (even .if2 .left) (c .if3 .left) in
     v .inv .1
-    ∙ answer-is s (a .count) (a .offset) (a .modules) (v .answer .jobs) (start .pre .2) (start .pre .1) (start .pre .3) (jobs-all s (a .offset) (a .count) (v .i) (v .answer .jobs) (v .total) (v .wrong) (v .inv .0) e)
+    ∙ answer-is s (a .count) (a .offset) (a .modules) (a .changeover) (v .answer .jobs) (start .pre .2) (start .pre .1) (start .pre .3)
+    (start .pre .4) (jobs-all s (a .offset) (a .count) (v .i) (v .answer .jobs) (v .total) (v .wrong) (v .inv .0) e)
     ∙ read-whole s (firstFailing (trailerChecks s)) refl (start .pre .0) 0
     (content-is s (a .count) (a .offset) 0 (start .pre .2) (start .pre .1) k) refl
 

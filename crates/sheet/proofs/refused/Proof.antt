@@ -11,7 +11,8 @@ no-jobs-requires c κs = search needs
 
 returns : tie.Need-returns
 returns c =
-    ap (λ (js : List Job). record { refusal = c .before .args .refusal; jobs = js; count = 0; modules = 0 }) (c .no-jobs .ensures)
+    let k = c .before .args .refusal in
+    ap (λ (js : List Job). record { refusal = k; jobs = js; count = 0; modules = 0; changeover = 0 }) (c .no-jobs .ensures)
 
 pub refused-spec : {M : Type 1} → statement M
 refused-spec = tie.close (tie.spec no-jobs-requires returns)

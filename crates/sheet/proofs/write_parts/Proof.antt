@@ -4,7 +4,7 @@ use native.Mathlib.Omega.{arith}
 use lib.ListN.{length}
 use lib.Seq.{length-take-le}
 use borrow.Author.Needs.{needs}
-use Rattle.sheet_format.specs.Format.{jobsIn}
+use Rattle.sheet_format.specs.Format.{jobsIn, cabinet}
 use Rattle.sheet.proofs.Writes.{parts-are}
 use Rattle.sheet.proofs.write_parts.Statement.{statement}
 use Rattle.sheet.proofs.write_parts.Tie as tie
@@ -71,7 +71,7 @@ returns c =
     let r = c .before .before .before .before .before .before .write-all in
     let t = c .before .before .write in (
       refl,
-      parts-are (jobsIn (a .jobs)) (a .count) (a .labels .now) (a .modules) (a .out .now) (l .last .0) (r .last .0) (t .last .0)
+      parts-are (jobsIn (a .jobs)) (a .count) (a .labels .now) (cabinet (a .modules) (a .changeover)) (a .out .now) (l .last .0) (r .last .0) (t .last .0)
           (l .ensures) (r .ensures) (t .ensures),
     )
 

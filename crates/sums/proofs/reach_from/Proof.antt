@@ -9,7 +9,7 @@ use Rattle.sums.proofs.reach_from.Tie as tie
 returns : tie.Need-returns
 returns c =
     let a = c .before .before .args in
-    omega (arith, longest-le (a .at .now) (a .count) (a .target - a .t), c .if1 .taken)
+    omega (arith, longest-le (a .at .now) (a .count) (a .close - a .t), c .if1 .taken)
 
 sub-longest-fit : tie.Need-sub-longest-fit
 sub-longest-fit c = search needs

@@ -9,17 +9,17 @@ use Rattle.sums.proofs.served_behind.Statement.{statement}
 use Rattle.sums.proofs.served_behind.Tie as tie
 
 abbrev Inv-loop : tie.InvT-loop
-Inv-loop at count part gone target placed total₀ i₀ total i =
-    (placed ≡ partIn part .placed) × Serving at count (partIn part) gone target total i
+Inv-loop at count part gone close placed total₀ i₀ total i =
+    (placed ≡ partIn part .placed) × Serving at count (partIn part) gone close total i
 
 abbrev μ-loop : tie.MeasureT-loop
-μ-loop at count part gone target placed total₀ i₀ total i = placed - i
+μ-loop at count part gone close placed total₀ i₀ total i = placed - i
 
 placed-requires : tie.Need-placed-requires Inv-loop μ-loop
 placed-requires c κs = search needs
 
 loop-holds : tie.Need-loop-holds Inv-loop μ-loop
-loop-holds c = (c .placed .ensures, serving-start (c .before .before .pre .0) (omega (arith, c .before .before .fits .target .fits)))
+loop-holds c = (c .placed .ensures, serving-start (c .before .before .pre .0) (omega (arith, c .before .before .fits .close .fits)))
 
 until-requires : tie.Need-until-requires Inv-loop μ-loop
 until-requires c κs =

@@ -2,6 +2,7 @@
 use mathlib.Core.Path.{_≡_}
 use Prim.Native.Nat.{_-_, _≤_}
 use native.Mathlib.Omega.{arith}
+use native.Mathlib.Nat.{dvd-refl}
 use Rattle.tables.specs.Tables.{countOf}
 use Rattle.sums.specs.Sums.{Step}
 use Rattle.sums.proofs.Rounding.{step-more}
@@ -19,16 +20,29 @@ count-requires : tie.Need-count-requires Inv-loop μ-loop
 count-requires c κs = search needs
 
 loop-holds : tie.Need-loop-holds Inv-loop μ-loop
-loop-holds c = (c .count .ensures, (omega arith, λ j l. absurd (omega arith)))
+loop-holds c = (
+  c .before .count .ensures,
+  (
+    omega arith,
+    record {
+      rests = rw (c .changeover .ensures) (dvd-refl _);
+      minutes = λ j l. absurd (omega arith);
+      arrivals = λ j l. absurd (omega arith);
+    },
+  ),
+)
+
+changeover-requires : tie.Need-changeover-requires Inv-loop μ-loop
+changeover-requires c κs = search needs
 
 minutes-requires : tie.Need-minutes-requires Inv-loop μ-loop
-minutes-requires c κs = omega (arith, c .before .loop .inv .0, c .loop-test .taken, c .before .before .before .pre)
+minutes-requires c κs = omega (arith, c .before .loop .inv .0, c .loop-test .taken, c .before .before .before .before .pre)
 
 divisor-requires : tie.Need-divisor-requires Inv-loop μ-loop
 divisor-requires c κs = search needs
 
 arrival-requires : tie.Need-arrival-requires Inv-loop μ-loop
-arrival-requires c κs = omega (arith, c .before .before .before .loop .inv .0, c .before .before .loop-test .taken, c .before .before .before .before .before .pre)
+arrival-requires c κs = omega (arith, c .before .before .before .loop .inv .0, c .before .before .loop-test .taken, c .before .before .before .before .before .before .pre)
 
 divisor-requires-2 : tie.Need-divisor-requires-2 Inv-loop μ-loop
 divisor-requires-2 c κs = search needs
@@ -47,13 +61,20 @@ loop-again c =
       loop .inv .0,
       (
         omega (arith, c .before .before .before .before .loop-test .taken),
-        step-more (c .before .before .before .before .before .before .before .args .jobs .now) (loop .i) (loop .step) (c .before .before .divisor .result) (c .divisor2 .result) (loop .inv .1 .1)
+        step-more (c .before .before .before .before .before .before .before .before .args .jobs .now) (loop .i) (loop .step) (c .before .before .divisor .result) (c .divisor2 .result) (loop .inv .1 .1)
             (first .0) (rw (c .before .before .before .minutes .ensures) at (first .1)) (second .0) (rw (c .before .arrival .ensures) at (second .1)),
       ),
     )
 
 returns : tie.Need-returns Inv-loop μ-loop
-returns c = λ j l. c .before .loop .inv .1 .1 j (omega (arith, c .before .loop .inv .0, c .loop-test .left))
+returns c =
+    let inv = c .before .loop .inv in
+    let all : countOf (c .before .before .before .before .args .jobs .now) ≤ c .before .loop .i = omega (arith, inv .0, c .loop-test .left) in
+    record {
+      rests = inv .1 .1 .rests;
+      minutes = λ j l. inv .1 .1 .minutes j (omega arith);
+      arrivals = λ j l. inv .1 .1 .arrivals j (omega arith);
+    }
 
 pub step-of-spec : {M : Type 1} → statement M
 step-of-spec =
@@ -62,6 +83,7 @@ step-of-spec =
     Inv-loop
     μ-loop
     count-requires
+    changeover-requires
     loop-holds
     minutes-requires
     divisor-requires

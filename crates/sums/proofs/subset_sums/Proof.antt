@@ -6,6 +6,7 @@ use lib.Count.{ones}
 use lib.ListN.{length, length-set}
 use Rattle.bits.proofs.Walks.{walk-less}
 use Rattle.tables.specs.Tables.{countOf}
+use Rattle.tables.proofs.Laws.{kept-short}
 use Rattle.sums.proofs.Choices.{Summing, summing-none, summing-to, summing-step, summing-all}
 use borrow.Author.Needs.{needs}
 use Rattle.sums.proofs.subset_sums.Statement.{statement}
@@ -44,7 +45,7 @@ with-job-requires c κs =
     let j = c .before .lowest32 in
     let inside = summing .walk .below (j .result) (j .ensures .1) in (
       summing-to t (a .set) (countOf t) summing (j .result) (j .ensures .1) (j .ensures .2),
-      (omega (arith, inside, fit .few), fit .short (j .result) inside),
+      (omega (arith, inside, fit .few), kept-short t fit (j .result) inside),
     )
 
 without-lowest32-requires : tie.Need-without-lowest32-requires Inv-loop μ-loop

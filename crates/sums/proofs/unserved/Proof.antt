@@ -72,7 +72,7 @@ returns-3 c =
     let of-set = rw (unplaced .ensures) at (sums .ensures) in
     λ e.
     let short = ltb-true (behind .result + times .result) (c .left .result) e in
-    too-little (pre .0) (pre .1) (a .target) of-set (omega (arith, if2 .left))
+    too-little (pre .0) (pre .1) (a .close) of-set (omega (arith, if2 .left))
     (rw (behind .ensures .0, times .ensures, reach .ensures, c .left .ensures) at short)
 
 pub unserved-spec : {M : Type 1} → statement M

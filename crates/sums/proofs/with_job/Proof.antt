@@ -25,13 +25,13 @@ mul-if2 c = record { fits = omega (arith, c .before .before .before .pre .0 .few
 returns-2 : tie.Need-returns-2
 returns-2 c = sums-none (c .before .before .before .before .pre .0)
 
-minutes-requires : tie.Need-minutes-requires
-minutes-requires c κs = search needs
+kept-requires : tie.Need-kept-requires
+kept-requires c κs = search needs
 
 add-job-requires : tie.Need-add-job-requires
 add-job-requires c κs =
     let pre = c .before .before .before .before .before .before .pre in
-    rw (c .minutes .ensures) (sums-room (pre .0) (pre .1 .0) (pre .1 .1) (c .before .before .if2 .left))
+    rw (c .kept .ensures) (sums-room (pre .0) (pre .1 .0) (pre .1 .1) (c .before .before .if2 .left))
 
 mul-result : tie.Need-mul-result
 mul-result c = search needs
@@ -44,7 +44,7 @@ returns-3 c =
     let past = c .before .before .before .before .before .before .before .before in
     let pre = past .before .pre in
     let add-job = c .before .before .add-job in
-    let doubled = rw (c .before .before .before .minutes .ensures) at (add-job .ensures) in
+    let doubled = rw (c .before .before .before .kept .ensures) at (add-job .ensures) in
     sums-more (pre .0) (pre .1 .1) (omega (arith, c .before .before .before .before .before .if2 .left, add-job .kept .0)) doubled
 
 pub with-job-spec : {M : Type 1} → statement M
@@ -55,7 +55,7 @@ with-job-spec =
     returns
     mul-if2
     returns-2
-    minutes-requires
+    kept-requires
     add-job-requires
     mul-result
     same-length

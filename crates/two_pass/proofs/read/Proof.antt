@@ -95,9 +95,18 @@ modules-requires c κs =
     let s = early .before .before .args .sheet .now in
     trailer s (early .refusal .result) (early .refusal .ensures) (passed .if1 .left) .long
 
+changeover-requires : tie.Need-changeover-requires
+changeover-requires c κs =
+    let late = c .before .before in
+    let all = late .before .before .before in
+    let passed = all .before .before .before in
+    let early = passed .before in
+    let s = early .before .before .args .sheet .now in
+    trailer s (early .refusal .result) (early .refusal .ensures) (passed .if1 .left) .long
+
 returns-3 : tie.Need-returns-3
 returns-3 c =
-    let late = c .before .before in
+    let late = c .before .before .before in
     let all = late .before .before .before in
     let count = all .before in
     let offset = count .before in
@@ -106,9 +115,11 @@ returns-3 c =
     let s = early .before .before .args .sheet .now in
     let k = content-found s (count .count .result) (offset .offset .result) (all .read-records .result .jobs) (all .read-records .ensures .0)
     (late .content-refusal .result) (count .count .ensures) (offset .offset .ensures) (late .content-refusal .ensures) in
-    answer-is s (count .count .result) (offset .offset .result) (c .modules .result) (all .read-records .result .jobs)
-    (count .count .ensures) (offset .offset .ensures) (c .modules .ensures) (all .read-records .ensures .0)
-    ∙ read-whole s (early .refusal .result) (early .refusal .ensures) (passed .if1 .left) (late .content-refusal .result) k (c .before .if2 .left)
+    answer-is s (count .count .result) (offset .offset .result) (c .before .modules .result) (c .changeover .result)
+    (all .read-records .result .jobs) (count .count .ensures) (offset .offset .ensures) (c .before .modules .ensures) (c .changeover .ensures)
+    (all .read-records .ensures .0)
+    ∙ read-whole s (early .refusal .result) (early .refusal .ensures) (passed .if1 .left) (late .content-refusal .result) k
+    (c .before .before .if2 .left)
 
 pub read-spec : {M : Type 1} → statement M
 read-spec =
@@ -127,4 +138,5 @@ read-spec =
     refused-requires-2
     returns-2
     modules-requires
+    changeover-requires
     returns-3)

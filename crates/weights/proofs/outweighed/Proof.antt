@@ -11,10 +11,10 @@ use Rattle.weights.proofs.outweighed.Statement.{statement}
 use Rattle.weights.proofs.outweighed.Tie as tie
 
 abbrev Inv-loop : tie.InvT-loop
-Inv-loop jobs prepared part gone free least target room weight q₀ q = q ≤ weightings
+Inv-loop jobs prepared part gone free least close room weight q₀ q = q ≤ weightings
 
 abbrev μ-loop : tie.MeasureT-loop
-μ-loop jobs prepared part gone free least target room weight q₀ q = weightings - q
+μ-loop jobs prepared part gone free least close room weight q₀ q = weightings - q
 
 returns : tie.Need-returns Inv-loop μ-loop
 returns c = λ e. clash false e refl

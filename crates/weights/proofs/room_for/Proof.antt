@@ -14,13 +14,13 @@ use Rattle.weights.proofs.room_for.Statement.{statement}
 use Rattle.weights.proofs.room_for.Tie as tie
 
 abbrev Inv-loop : tie.InvT-loop
-Inv-loop jobs prepared part gone free least target placed room₀ at₀ f₀ i₀ room at f i =
-    ((placed ≡ partIn part .placed) × Walk (partIn part) (modulesOf jobs) target at f i)
+Inv-loop jobs prepared part gone free least close placed room₀ at₀ f₀ i₀ room at f i =
+    ((placed ≡ partIn part .placed) × Walk (partIn part) (modulesOf jobs) close at f i)
     × ((q : ℕ) → q < weightings
-    → Room (λ x. getD (mostIn prepared) (x * weightings + q) 0) (partIn part) (modulesOf jobs) least target (getD (room .of) q 0) at)
+    → Room (λ x. getD (mostIn prepared) (x * weightings + q) 0) (partIn part) (modulesOf jobs) least close (getD (room .of) q 0) at)
 
 abbrev μ-loop : tie.MeasureT-loop
-μ-loop jobs prepared part gone free least target placed room₀ at₀ f₀ i₀ room at f i = placed - i
+μ-loop jobs prepared part gone free least close placed room₀ at₀ f₀ i₀ room at f i = placed - i
 
 placed-requires : tie.Need-placed-requires Inv-loop μ-loop
 placed-requires c κs = search needs
@@ -49,7 +49,7 @@ with-room-requires c κs =
     let walk = loop .inv .0 .1 in
     let to = c .next-end .result in
     let on : loop .at ≤ to = omega (arith, c .next-end .ensures) in
-    let low : to ≤ 65535 = omega (arith, c .next-end .ensures, walk .before, fits .target .fits) in (
+    let low : to ≤ 65535 = omega (arith, c .next-end .ensures, walk .before, fits .close .fits) in (
       (omega (arith, walk .balance, walk .narrow), pre .0 .0),
       λ q l. omega (arith, room-low walk (loop .inv .1 q l) to on),
     )
@@ -82,7 +82,7 @@ loop-again c =
     let args = c .before .before .before .before .before .before .before .args in
     let loop = c .before .before .before .before .before .loop in
     let walk = loop .inv .0 .1 in
-    let to = next-end .ensures ∙ ap (λ (x : ℕ). max (loop .at) (min x (args .target))) (until .ensures) in
+    let to = next-end .ensures ∙ ap (λ (x : ℕ). max (loop .at) (min x (args .close))) (until .ensures) in
     rw (to, c .held .ensures) (
       (loop .inv .0 .0, walk-step walk (omega (arith, loop .inv .0 .0, loop-test .taken))),
       λ q l. rw (with-room .ensures q l, to) (room-step walk (loop .inv .1 q l)),
@@ -99,7 +99,7 @@ with-room-requires-2 c κs =
     let pre = c .before .before .before .pre in
     let walk = loop .inv .0 .1 in (
       (omega (arith, walk .balance, walk .narrow), pre .0 .0),
-      λ q l. omega (arith, room-low walk (loop .inv .1 q l) (args .target) (walk .before), fits .target .fits),
+      λ q l. omega (arith, room-low walk (loop .inv .1 q l) (args .close) (walk .before), fits .close .fits),
     )
 
 returns : tie.Need-returns Inv-loop μ-loop

@@ -2,7 +2,7 @@
 use native.Mathlib.Omega.{arith}
 use mathlib.Core.Path.{_≡_, refl}
 use Prim.Native.Nat.{_+_, _-_, _*_, _≤_, _<_}
-use Rattle.tables.specs.Tables.{needAt, minutesAt, countOf, modulesOf}
+use Rattle.tables.specs.Tables.{needAt, keptAt, countOf, modulesOf}
 use Rattle.weights.specs.Weights.{weightings, worthSize, weightIn, Put}
 use Rattle.weights.proofs.Puts.{put-none, put-more}
 use Rattle.weights.proofs.Knapsack.{weighted-more}
@@ -13,7 +13,7 @@ use Rattle.weights.proofs.with_weighting.Tie as tie
 abbrev Inv-loop : tie.InvT-loop
 Inv-loop jobs q count next₀ k₀ next k =
     ((count ≡ countOf jobs) × (k ≤ count))
-    × (Put (λ i. i * weightings + q) (next₀ .worth) (next .worth) k (λ i. minutesAt jobs i * weightIn (modulesOf jobs) q (needAt jobs i))
+    × (Put (λ i. i * weightings + q) (next₀ .worth) (next .worth) k (λ i. keptAt jobs i * weightIn (modulesOf jobs) q (needAt jobs i))
     × (next .most ≡ next₀ .most))
 
 abbrev μ-loop : tie.MeasureT-loop
@@ -31,8 +31,8 @@ weight-of-requires c κs =
     let pre = c .before .before .before .pre in
     (pre .0, (omega (arith, loop .inv .0 .0, c .loop-test .taken), pre .1 .0))
 
-minutes-requires : tie.Need-minutes-requires Inv-loop μ-loop
-minutes-requires c κs =
+kept-requires : tie.Need-kept-requires Inv-loop μ-loop
+kept-requires c κs =
     let loop-test = c .before .loop-test in
     let loop = c .before .before .loop in
     let pre = c .before .before .before .before .pre in
@@ -69,14 +69,14 @@ loop-less c = search needs
 
 loop-again : tie.Need-loop-again Inv-loop μ-loop
 loop-again c =
-    let minutes = c .before .minutes in
+    let kept = c .before .kept in
     let weight-of = c .before .before .weight-of in
     let loop-test = c .before .before .before .loop-test in
     let loop = c .before .before .before .before .loop in
     let args = c .before .before .before .before .before .before .args in
     let pre = c .before .before .before .before .before .before .pre in
     let inv = loop .inv in
-    let worth = rw (minutes .ensures, weight-of .ensures) at (c .times .ensures) in
+    let worth = rw (kept .ensures, weight-of .ensures) at (c .times .ensures) in
     let low : loop .k * weightings + args .q < worthSize = omega (arith, pre .1 .0, pre .0 .few, inv .0 .0, loop-test .taken) in (
       (inv .0 .0, search needs),
       (put-more (inv .1 .0) _ (λ i m e. omega arith) (omega (arith, pre .1 .1 .worth-length)) worth, inv .1 .1),
@@ -112,7 +112,7 @@ with-weighting-spec =
     count-requires
     loop-holds
     weight-of-requires
-    minutes-requires
+    kept-requires
     times-requires
     mul-next
     add-next

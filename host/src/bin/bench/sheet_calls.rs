@@ -10,10 +10,10 @@ pub fn measure() {
     let jobs = [Job { label_len: LONGEST_LABEL as u8, modules: 1, minutes: 1, ..Job::default() }; MOST_JOBS];
     let labels = [b'~'; LONGEST_LABEL * MOST_JOBS];
     let mut sheet = [0; LONGEST_SHEET];
-    assert_eq!(write(&jobs, &labels, 64, &mut sheet), Ok(LONGEST_SHEET));
+    assert_eq!(write(&jobs, &labels, 64, 30, &mut sheet), Ok(LONGEST_SHEET));
     assert!(read(&sheet).is_ok(), "the longest sheet reads");
     println!("sheet of {LONGEST_SHEET} bytes, nanoseconds a call, the least of {ROUNDS} rounds");
-    say("writing", least(|_| write(&jobs, &labels, 64, &mut sheet).is_ok()));
+    say("writing", least(|_| write(&jobs, &labels, 64, 30, &mut sheet).is_ok()));
     say("reading, the wrapper's", least(|_| read(&sheet).is_ok()));
     say("label", least(|i| label(&sheet, i as usize % MOST_JOBS).is_ok()));
     // SAFETY: live bytes, and a call that is lent nothing.

@@ -1,12 +1,8 @@
 -- `sheet_format::trailer::refusal` meets its contract: each number stands behind the tests that passed.
 use mathlib.Core.Path.{sym, _∙_}
-use Prim.Native.Nat.{_+_, _*_}
-use lib.ListN.{length}
-use borrow.Author.Tests.{lt-ltb, le-ltb, eq-eqb, ne-eqb}
 use borrow.Author.Needs.{needs}
 use Rattle.checking.specs.Checking.{firstFailing}
-use Rattle.sheet_format.specs.Figures.{mostJobs, longestSheet, recordSize, trailerSize}
-use Rattle.sheet_format.proofs.Bounds.{inside}
+use Rattle.sheet_format.proofs.Trailers.{long-enough, figures-are, refused-figures, refused-offset, not-refused}
 use Rattle.sheet_format.proofs.trailer.refusal.Statement.{statement}
 use Rattle.sheet_format.proofs.trailer.refusal.Tie as tie
 
@@ -18,103 +14,72 @@ unfolding firstFailing
 returns c = rw (sym (c .before .outside .ensures) ∙ c .if1 .taken)
 
 count-requires : tie.Need-count-requires
-count-requires c κs =
-    inside trailerSize longestSheet (length (c .before .before .before .args .sheet .now)) (sym (c .before .outside .ensures) ∙
-    c .if1 .left) .0
+count-requires c κs = long-enough (c .before .before .before .args .sheet .now) (sym (c .before .outside .ensures) ∙ c .if1 .left)
 
 cast-n : tie.Need-cast-n
 cast-n c = search needs
 
-returns-2 : tie.Need-returns-2
-unfolding firstFailing
-returns-2 c =
-    rw (
-      sym (c .before .before .before .outside .ensures) ∙ c .before .before .if1 .left,
-      ← c .before .count .ensures,
-      lt-ltb
-          mostJobs (c .before .count .result) (c .if2 .taken),
-    )
-
 modules-requires : tie.Need-modules-requires
 modules-requires c κs =
-    inside trailerSize longestSheet (length (c .before .before .before .before .before .args .sheet .now)) (sym
-    (c .before .before .before .outside .ensures) ∙ c .before .before .if1 .left) .0
+    let e = c .before in
+    long-enough (e .before .before .before .args .sheet .now) (sym (e .before .outside .ensures) ∙ e .if1 .left)
 
-cast-outside : tie.Need-cast-outside
-cast-outside c = search needs
+changeover-requires : tie.Need-changeover-requires
+changeover-requires c κs =
+    let e = c .before .before in
+    long-enough (e .before .before .before .args .sheet .now) (sym (e .before .outside .ensures) ∙ e .if1 .left)
 
-outside-requires-2 : tie.Need-outside-requires-2
-outside-requires-2 c κs = search needs
+figures-refusal-requires : tie.Need-figures-refusal-requires
+figures-refusal-requires c κs = search needs
 
-returns-3 : tie.Need-returns-3
-unfolding firstFailing
-returns-3 c =
-    rw (
-      sym (c .before .before .before .before .before .before .outside .ensures) ∙ c .before .before .before .before .before .if1 .left,
-      ← c .before .before .before .before .count .ensures,
-      le-ltb mostJobs (c .before .before .before .before .count .result)
-          (c .before .before .before .if2 .left),
-      ← c .before .before .modules .ensures,
-      sym (c .before .outside2 .ensures) ∙ c .if3 .taken,
-    )
+returns-2 : tie.Need-returns-2
+returns-2 c =
+    let f = c .before in
+    let n = f .before .before .before in
+    let e = n .before in
+    let s = e .before .before .before .args .sheet .now in
+    let is = figures-are s (f .figures-refusal .result) (n .count .result) (f .before .before .modules .result) (f .before .changeover .result)
+    (n .count .ensures) (f .before .before .modules .ensures) (f .before .changeover .ensures) (f .figures-refusal .ensures) in
+    refused-figures s (sym (e .before .outside .ensures) ∙ e .if1 .left) (f .figures-refusal .result) is (c .if2 .taken)
 
 offset-requires : tie.Need-offset-requires
 offset-requires c κs =
-    inside trailerSize longestSheet (length (c .before .before .before .before .before .before .before .before .args .sheet .now))
-    (sym (c .before .before .before .before .before .before .outside .ensures) ∙
-    c .before .before .before .before .before .if1 .left) .0
+    let e = c .before .before .before .before .before in
+    long-enough (e .before .before .before .args .sheet .now) (sym (e .before .outside .ensures) ∙ e .if1 .left)
 
-cast-if4 : tie.Need-cast-if4
-cast-if4 c = search needs
+cast-if3 : tie.Need-cast-if3
+cast-if3 c = search needs
 
-mul-if4 : tie.Need-mul-if4
-mul-if4 c = search needs
+mul-if3 : tie.Need-mul-if3
+mul-if3 c = search needs
 
-add-if4 : tie.Need-add-if4
-add-if4 c = search needs
+add-if3 : tie.Need-add-if3
+add-if3 c = search needs
 
-add-if4-2 : tie.Need-add-if4-2
-add-if4-2 c = search needs
+add-if3-2 : tie.Need-add-if3-2
+add-if3-2 c = search needs
+
+returns-3 : tie.Need-returns-3
+returns-3 c =
+    let f = c .before .before .before in
+    let n = f .before .before .before in
+    let e = n .before in
+    let s = e .before .before .before .args .sheet .now in
+    let is = figures-are s (f .figures-refusal .result) (n .count .result) (f .before .before .modules .result) (f .before .changeover .result)
+    (n .count .ensures) (f .before .before .modules .ensures) (f .before .changeover .ensures) (f .figures-refusal .ensures) in
+    refused-offset s (sym (e .before .outside .ensures) ∙ e .if1 .left) (f .figures-refusal .result) is (c .before .before .if2 .left)
+    (c .before .offset .result) (n .count .result) (c .before .offset .ensures) (n .count .ensures) (c .if3 .taken)
 
 returns-4 : tie.Need-returns-4
-unfolding firstFailing
 returns-4 c =
-    let past = c .before .before .before .before .before .before .before .before in
-    rw (
-      sym (c .before .before .before .before .before .before .before .before .outside .ensures) ∙
-          c .before .before .before .before .before .before .before .if1 .left,
-      ←
-          c .before .before .before .before .before .before .count .ensures,
-      le-ltb mostJobs
-          (c .before .before .before .before .before .before .count .result) (c .before .before .before .before .before .if2 .left),
-      ←
-          c .before .before .before .before .modules .ensures,
-      sym (c .before .before .before .outside2 .ensures) ∙ c .before .before .if3 .left,
-      ← c .before .offset .ensures,
-      ne-eqb (c .before .offset .result + recordSize * c .before .before .before .before .before .before .count .result +
-          trailerSize) (length (past .before .before .args .sheet .now))
-          (c .if4 .taken),
-    )
-
-returns-5 : tie.Need-returns-5
-unfolding firstFailing
-returns-5 c =
-    let past = c .before .before .before .before .before .before .before .before in
-    rw (
-      sym (c .before .before .before .before .before .before .before .before .outside .ensures) ∙
-          c .before .before .before .before .before .before .before .if1 .left,
-      ←
-          c .before .before .before .before .before .before .count .ensures,
-      le-ltb mostJobs
-          (c .before .before .before .before .before .before .count .result) (c .before .before .before .before .before .if2 .left),
-      ←
-          c .before .before .before .before .modules .ensures,
-      sym (c .before .before .before .outside2 .ensures) ∙ c .before .before .if3 .left,
-      ← c .before .offset .ensures,
-      eq-eqb (c .before .offset .result + recordSize * c .before .before .before .before .before .before .count .result +
-          trailerSize) (length (past .before .before .args .sheet .now))
-          (c .if4 .left),
-    )
+    let f = c .before .before .before in
+    let n = f .before .before .before in
+    let e = n .before in
+    let s = e .before .before .before .args .sheet .now in
+    let is = figures-are s (f .figures-refusal .result) (n .count .result) (f .before .before .modules .result) (f .before .changeover .result)
+    (n .count .ensures) (f .before .before .modules .ensures) (f .before .changeover .ensures) (f .figures-refusal .ensures) in
+    not-refused s (sym (e .before .outside .ensures) ∙ e .if1 .left) (f .figures-refusal .result) is (c .before .before .if2 .left)
+    (c .before .offset .result) (n .count .result) (c .before .offset .ensures) (n .count .ensures) (c .if3 .left)
 
 pub refusal-spec : {M : Type 1} → statement M
 refusal-spec =
@@ -124,15 +89,14 @@ refusal-spec =
     returns
     count-requires
     cast-n
-    returns-2
     modules-requires
-    cast-outside
-    outside-requires-2
-    returns-3
+    changeover-requires
+    figures-refusal-requires
+    returns-2
     offset-requires
-    cast-if4
-    mul-if4
-    add-if4
-    add-if4-2
-    returns-4
-    returns-5)
+    cast-if3
+    mul-if3
+    add-if3
+    add-if3-2
+    returns-3
+    returns-4)

@@ -21,8 +21,8 @@ count-requires c κs = search needs
 loop-holds : tie.Need-loop-holds Inv-loop μ-loop
 loop-holds c = (c .count .ensures, (search needs, reached-none _ _ _))
 
-minutes-requires : tie.Need-minutes-requires Inv-loop μ-loop
-minutes-requires c κs = omega (arith, c .before .before .before .pre .0 .0 .few, c .before .loop .inv .0, c .loop-test .taken)
+kept-requires : tie.Need-kept-requires Inv-loop μ-loop
+kept-requires c κs = omega (arith, c .before .before .before .pre .0 .0 .few, c .before .loop .inv .0, c .loop-test .taken)
 
 mul-gain : tie.Need-mul-gain Inv-loop μ-loop
 mul-gain c = search needs
@@ -55,11 +55,11 @@ loop-less c = search needs
 loop-again : tie.Need-loop-again Inv-loop μ-loop
 loop-again c =
     let steps = c .before .before .before .steps in
-    let minutes = c .before .before .before .before .before .minutes in
+    let kept = c .before .before .before .before .before .kept in
     let loop = c .before .before .before .before .before .before .before .loop in
     let past = c .before .before .before .before .before .before .before .before in
     let inv = loop .inv in
-    let lasts = steps .ensures ∙ ap (λ (m : ℕ). m / past .before .args .step) (minutes .ensures) in (
+    let lasts = steps .ensures ∙ ap (λ (m : ℕ). m / past .before .args .step) (kept .ensures) in (
       inv .0,
       (
         search needs,
@@ -83,7 +83,7 @@ reach-of-spec =
     μ-loop
     count-requires
     loop-holds
-    minutes-requires
+    kept-requires
     mul-gain
     element-copy-out-gain
     steps-requires

@@ -21,8 +21,8 @@ count-requires c κs = search needs
 loop-holds : tie.Need-loop-holds Inv-loop μ-loop
 loop-holds c = (c .count .ensures, (search needs, reached-none _ _ _))
 
-minutes-requires : tie.Need-minutes-requires Inv-loop μ-loop
-minutes-requires c κs = omega (arith, c .before .before .before .pre .0 .0 .few, c .before .loop .inv .0, c .loop-test .taken)
+kept-requires : tie.Need-kept-requires Inv-loop μ-loop
+kept-requires c κs = omega (arith, c .before .before .before .pre .0 .0 .few, c .before .loop .inv .0, c .loop-test .taken)
 
 steps-requires : tie.Need-steps-requires Inv-loop μ-loop
 steps-requires c κs = c .before .before .before .before .pre .0 .1
@@ -99,7 +99,7 @@ loop-again : tie.Need-loop-again Inv-loop μ-loop
 loop-again c =
     let past = c .before .before .before .before .before .before .before .before in
     let inv = past .before .before .before .before .before .loop .inv in
-    let put = rw (past .before .before .steps .ensures, past .before .before .before .minutes .ensures) at (c .with-value .ensures) in (
+    let put = rw (past .before .before .steps .ensures, past .before .before .before .kept .ensures) at (c .with-value .ensures) in (
       inv .0,
       (
         search needs,
@@ -131,7 +131,7 @@ serve-spec =
     μ-loop
     count-requires
     loop-holds
-    minutes-requires
+    kept-requires
     steps-requires
     mul-with-set
     element-copy-out-with-set

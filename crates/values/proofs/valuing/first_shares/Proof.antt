@@ -19,8 +19,8 @@ count-requires c κs = search needs
 loop-holds : tie.Need-loop-holds Inv-loop μ-loop
 loop-holds c = (c .count .ensures, search needs)
 
-minutes-requires : tie.Need-minutes-requires Inv-loop μ-loop
-minutes-requires c κs = omega (arith, c .before .before .before .pre, c .before .loop .inv .0, c .loop-test .taken)
+kept-requires : tie.Need-kept-requires Inv-loop μ-loop
+kept-requires c κs = omega (arith, c .before .before .before .pre, c .before .loop .inv .0, c .loop-test .taken)
 
 wide-requires : tie.Need-wide-requires Inv-loop μ-loop
 wide-requires c κs = search needs
@@ -58,7 +58,7 @@ first-shares-spec =
     μ-loop
     count-requires
     loop-holds
-    minutes-requires
+    kept-requires
     wide-requires
     mul-next
     array-write-next

@@ -29,8 +29,8 @@ mul-value-of c = search needs
 element-copy-out-value-of : tie.Need-element-copy-out-value-of Inv-loop μ-loop
 element-copy-out-value-of c = omega (arith, c .before .before .before .pre, c .before .loop .inv .0, c .loop-test .taken)
 
-minutes-requires : tie.Need-minutes-requires Inv-loop μ-loop
-minutes-requires c κs = omega (arith, c .before .before .before .before .pre, c .before .before .loop .inv .0, c .before .loop-test .taken)
+kept-requires : tie.Need-kept-requires Inv-loop μ-loop
+kept-requires c κs = omega (arith, c .before .before .before .before .pre, c .before .before .loop .inv .0, c .before .loop-test .taken)
 
 value-of-requires : tie.Need-value-of-requires Inv-loop μ-loop
 value-of-requires c κs = search needs
@@ -53,13 +53,13 @@ loop-less c = search needs
 
 loop-again : tie.Need-loop-again Inv-loop μ-loop
 loop-again c =
-    let minutes = c .before .minutes in
+    let kept = c .before .kept in
     let loop-test = c .before .before .before .loop-test in
     let pre = c .before .before .before .before .before .before .pre in
     let loop = c .before .before .before .before .loop in
     let inv = loop .inv in
     let low : loop .k < length (loop .next) = omega (arith, inv .1 .0, inv .0, loop-test .taken, pre) in
-    let short = rw (minutes .ensures) at (c .value-of .ensures .1) in
+    let short = rw (kept .ensures) at (c .value-of .ensures .1) in
     ((inv .0 .0, search needs), (search needs, valued-more (inv .1 .1) (loop .k) _ low (c .value-of .ensures .0) short))
 
 returns : tie.Need-returns Inv-loop μ-loop
@@ -75,7 +75,7 @@ values-of-spec =
     loop-holds
     mul-value-of
     element-copy-out-value-of
-    minutes-requires
+    kept-requires
     value-of-requires
     mul-next
     array-write-next

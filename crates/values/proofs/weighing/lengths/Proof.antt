@@ -19,8 +19,8 @@ count-requires c κs = search needs
 loop-holds : tie.Need-loop-holds Inv-loop μ-loop
 loop-holds c = (c .count .ensures, search needs)
 
-minutes-requires : tie.Need-minutes-requires Inv-loop μ-loop
-minutes-requires c κs = omega (arith, c .before .before .before .pre, c .before .loop .inv .0, c .loop-test .taken)
+kept-requires : tie.Need-kept-requires Inv-loop μ-loop
+kept-requires c κs = omega (arith, c .before .before .before .pre, c .before .loop .inv .0, c .loop-test .taken)
 
 mul-next : tie.Need-mul-next Inv-loop μ-loop
 mul-next c = search needs
@@ -48,7 +48,7 @@ lengths-spec =
     μ-loop
     count-requires
     loop-holds
-    minutes-requires
+    kept-requires
     mul-next
     array-write-next
     add-k
