@@ -21,7 +21,7 @@ use Rattle.desk.specs.Checks.{wrongLengths, wrongFigures, sharesExceed, deskOk,
 use Rattle.desk.specs.Reachable.{Reachable, opening}
 use Rattle.desk.specs.Calls.{Call, claim, handBack, look, change, refusalOf, deskAfter}
 use Rattle.desk.specs.Calls.{claimRefusal, claimed, handBackRefusal, handedBack, lookRefusal, looked, changeRefusal, changed}
-use Rattle.assurance.specs.Following.{Event, begin, end, InOrder, FollowsPlan, FollowsSoFar, AllGranted, GrantedWhile, KeepsShare}
+use Rattle.assurance.specs.Following.{Event, begin, end, minute, InOrder, FollowsPlan, FollowsSoFar, AllGranted, GrantedWhile, KeepsShare}
 use Rattle.assurance.proofs.Once.{eachOnce, once-says}
 use Rattle.assurance.proofs.Assured.{plan-granted, so-far-granted}
 
@@ -163,3 +163,57 @@ pub cut-numbers : numbers yardDesk cutCalls ≡ 0 ∷ 0 ∷ 0 ∷ 0 ∷ 0 ∷ 0 
 unfolding sum every any firstFailing wrongLengths wrongFigures sharesExceed deskOk notOfDesk wrongCount someHoldsMore raisedExceed
     claimRefusal claimed handBackRefusal handedBack lookRefusal looked changeRefusal changed
 cut-numbers = refl
+
+-- ---- the same with a changeover of 5 (F-4.5): B from 15 to 35, A and C are handed back at 15 and B at 40
+
+abbrev restingSheet : Sheet
+restingSheet = record {
+  jobs = 3;
+  modules = 2;
+  need = yardSheet .need;
+  minutes = yardSheet .minutes;
+  before = yardSheet .before;
+  arrival = yardSheet .arrival;
+  rest = 5;
+}
+
+restingPlan : Plan
+restingPlan = listPlan restingSheet (0 ∷ 2 ∷ 1 ∷ [])
+
+resting-order : Order restingSheet (0 ∷ 2 ∷ 1 ∷ [])
+unfolding ready every
+resting-order = record { all = refl; follows = (refl, (refl, (refl, tt))) }
+
+resting-valid : Valid restingSheet restingPlan
+unfolding restingPlan
+resting-valid = list-plan-valid restingSheet yard-narrow (0 ∷ 2 ∷ 1 ∷ []) resting-order
+
+resting-minutes : (minute restingSheet restingPlan (end 0) ≡ 15) × (minute restingSheet restingPlan (begin 1) ≡ 15)
+    × (minute restingSheet restingPlan (end 1) ≡ 40)
+unfolding restingPlan sum largest every any firstMinute startOf placeAll
+resting-minutes = (refl, refl, refl)
+
+resting-in-order : InOrder restingSheet restingPlan yardEvents
+unfolding restingPlan sum largest every any firstMinute startOf placeAll
+resting-in-order = (
+  record { rising = omega arith; handBacksFirst = λ q z. clash false z refl },
+  (
+    record { rising = omega arith; handBacksFirst = λ q z. absurd (omega arith) },
+    (
+      record { rising = omega arith; handBacksFirst = λ q z. refl },
+      (
+        record { rising = omega arith; handBacksFirst = λ q z. clash false z refl },
+        (record { rising = omega arith; handBacksFirst = λ q z. absurd (omega arith) }, tt),
+      ),
+    ),
+  ),
+)
+
+resting-follows : FollowsPlan restingSheet restingPlan 300 1 yardCalls
+unfolding eachOnce every
+resting-follows = record { events = yardEvents; once = once-says 3 yardEvents refl; order = resting-in-order; own = refl }
+
+pub resting-granted : AllGranted 1 yardDesk yardCalls
+resting-granted =
+    plan-granted restingSheet restingPlan resting-valid yard-lasting yard-needing 300 (omega arith) yardDesk yard-opened 1 refl
+    (omega arith) yardCalls yard-keeps resting-follows

@@ -1,4 +1,5 @@
 //! Reading in one pass against the reader of before, which passes twice: the whole answer, and no other byte looked at.
+use super::sheet_calls::READING;
 use super::sheets;
 use crate::ffi::{self, Reading};
 use crate::guarded::{Against, Guarded};
@@ -10,12 +11,12 @@ pub struct TwoPasses {
     random: Random,
     sheet: Guarded,
     before: fn(&[u8]) -> Reading,
-    answers: [usize; 8],
+    answers: [usize; 20],
 }
 
 impl TwoPasses {
     pub fn new(seed: u64, before: fn(&[u8]) -> Reading) -> TwoPasses {
-        TwoPasses { random: Random::new(seed), sheet: Guarded::new(2048), before, answers: [0; 8] }
+        TwoPasses { random: Random::new(seed), sheet: Guarded::new(2048), before, answers: [0; 20] }
     }
 
     /// Reads the sheet both ways, and gives the number.
@@ -67,8 +68,8 @@ impl TwoPasses {
         }
     }
 
-    /// How often each number was answered, 0 first.
-    pub fn answers(&self) -> [usize; 8] {
-        self.answers
+    /// How often each number was answered, 0 first, and then in the order of the checks.
+    pub fn answers(&self) -> Vec<usize> {
+        [0].iter().chain(&READING).map(|number| self.answers[*number as usize]).collect()
     }
 }
