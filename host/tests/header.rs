@@ -87,6 +87,7 @@ fn in_c(name: &str) -> String {
         "Job" => "struct depot_job",
         "Reading" => "struct depot_reading",
         "LabelPlace" => "struct depot_label_place",
+        "Earliest" => "struct depot_earliest",
         "Written" => "struct depot_written",
         "Desk" => "struct depot_desk",
         "Looked" => "struct depot_looked",
