@@ -37,10 +37,20 @@ pub struct Looked {
     pub power: u32,
 }
 
+/// What the call for the end alone answers: refusal 0 with the minute, or the number of the refusal with 0.
+#[repr(C)]
+#[derive(Clone, Copy, Debug, PartialEq, Eq)]
+pub struct Earliest {
+    pub refusal: u32,
+    pub end: u16,
+}
+
 extern "C" {
     pub fn depot_version() -> u32;
 
     pub fn depot_plan(sheet: *const u8, sheet_len: usize, card: *mut u8, card_len: usize, work: *mut u8, work_len: usize) -> u32;
+
+    pub fn depot_end(sheet: *const u8, sheet_len: usize, work: *mut u8, work_len: usize) -> Earliest;
 
     pub fn depot_read(sheet: *const u8, sheet_len: usize) -> Reading;
 

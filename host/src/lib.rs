@@ -1,6 +1,6 @@
 //! The depot's planner and share desk for Rust programs: a safe wrapper of the proved static library.
 //!
-//! [`version`], [`plan`], [`Card`], [`read`], [`label`], [`label_of`], [`write()`], [`Desk`] and [`Refusal`] are the product. The other modules test it and
+//! [`version`], [`plan`], [`Card`], [`earliest_end`], [`read`], [`label`], [`label_of`], [`write()`], [`Desk`] and [`Refusal`] are the product. The other modules test it and
 //! measure it.
 
 mod card;
@@ -57,4 +57,13 @@ pub fn plan(sheet: &[u8], card: &mut [u8], work: &mut [u8]) -> Result<(), Refusa
     let answer =
         unsafe { ffi::depot_plan(sheet.as_ptr(), sheet.len(), card.as_mut_ptr(), card.len(), work.as_mut_ptr(), work.len()) };
     Refusal::or_done(answer)
+}
+
+/// The end of the plan that [`plan`] gives, without a card: no valid plan of the sheet ends earlier.
+///
+/// `work` is working memory as for [`plan`]. A refused call writes no byte.
+pub fn earliest_end(sheet: &[u8], work: &mut [u8]) -> Result<u16, Refusal> {
+    // SAFETY: two live slices that do not overlap; the library keeps no pointer.
+    let answer = unsafe { ffi::depot_end(sheet.as_ptr(), sheet.len(), work.as_mut_ptr(), work.len()) };
+    Refusal::or_done(answer.refusal).map(|()| answer.end)
 }

@@ -2,8 +2,8 @@
 use crate::guarded::{Against, Guarded};
 use crate::raw_sheet::Sheet;
 use crate::{
-    card_length, label, label_of, plan, read, version, write, Desk, Job, Refusal, LONGEST_LABEL, LONGEST_SHEET, MOST_JOBS,
-    MOST_POWER,
+    card_length, earliest_end, label, label_of, plan, read, version, write, Desk, Job, Refusal, LONGEST_LABEL, LONGEST_SHEET,
+    MOST_JOBS, MOST_POWER,
 };
 use std::ffi::{c_int, c_void};
 use std::ptr;
@@ -73,10 +73,9 @@ pub fn of_every_call() -> Vec<(&'static str, usize)> {
     let lists: [Vec<Job>; 2] = [(0..MOST_JOBS).map(ends_earlier).collect(), (0..MOST_JOBS).map(longer_and_longer).collect()];
     let mut work = vec![0; 1 << 20];
     let mut card = [0; card_length(MOST_JOBS)];
-    let planning = lists.map(|jobs| {
-        let sheet = Sheet::of(2, jobs).bytes();
-        done(|| plan(&sheet, &mut card, &mut work))
-    });
+    let sheets = lists.map(|jobs| Sheet::of(2, jobs).bytes());
+    let planning = sheets.each_ref().map(|sheet| done(|| plan(sheet, &mut card, &mut work)));
+    let ends = sheets.each_ref().map(|sheet| done(|| earliest_end(sheet, &mut work)));
     let long = Job { label_len: LONGEST_LABEL as u8, modules: 64, minutes: 1440, ..Job::default() };
     let labels = [b'~'; LONGEST_LABEL * MOST_JOBS];
     let mut sheet = [0; LONGEST_SHEET];
@@ -87,6 +86,7 @@ pub fn of_every_call() -> Vec<(&'static str, usize)> {
     vec![
         ("depot_version", done(|| Ok(version()))),
         ("depot_plan", planning[0].max(planning[1])),
+        ("depot_end", ends[0].max(ends[1])),
         ("depot_read", done(|| read(&sheet))),
         ("depot_label", done(|| label(&sheet, MOST_JOBS - 1))),
         (

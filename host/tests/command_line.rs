@@ -33,9 +33,22 @@ fn golden(name: &str, words: &[&str], status: i32) {
 }
 
 #[test]
+fn end() {
+    for name in ["small-depot", "mixed-night", "on-the-road", "contactors"] {
+        let list = format!("examples/{name}.csv");
+        golden(&format!("end-{name}.txt"), &["end", &list], 0);
+        let raw = depot(&["end", &list, "--raw"], b"").text();
+        let planned = depot(&["plan", &list, "--raw"], b"").text();
+        assert_eq!(Some(raw.trim()), planned.split(' ').nth(1), "the end on the first line of the plan");
+    }
+    golden("end-mixed-night.json", &["end", "examples/mixed-night.csv", "--json"], 0);
+    assert_eq!(depot(&["end", "examples/mixed-night.csv", "--raw", "--json"], b"").status, 2);
+}
+
+#[test]
 fn help() {
     golden("help.txt", &["--help"], 0);
-    for verb in ["plan", "sheet", "list", "desk", "explain"] {
+    for verb in ["plan", "end", "sheet", "list", "desk", "explain"] {
         let name = format!("help-{verb}.txt");
         golden(&name, &[verb, "--help"], 0);
         golden(&name, &["help", verb], 0);

@@ -169,6 +169,22 @@ fn planning() {
 }
 
 #[test]
+fn ends() {
+    for sheet in edge_sheets() {
+        let expected = reference::planning::end(&sheet);
+        for work_length in [0, 1, 64] {
+            let (lent, work) = (Lent::of(&sheet), Lent::painted(work_length));
+            // SAFETY: two live buffers of these lengths.
+            let answer = unsafe { ffi::depot_end(lent.at(), lent.len(), work.at(), work_length) };
+            let figures = ffi::Earliest { refusal: refusal(&expected), end: expected.unwrap_or(0) as u16 };
+            assert_eq!(answer, figures, "sheet {sheet:02x?}");
+            let cleared = if answer.refusal == 0 { vec![0; work_length] } else { Vec::new() };
+            assert!(work.has(&cleared) && lent.has(&sheet), "sheet {sheet:02x?}");
+        }
+    }
+}
+
+#[test]
 fn reading() {
     for sheet in edge_sheets() {
         let lent = Lent::of(&sheet);
@@ -400,6 +416,7 @@ fn empty_buffers_may_have_any_pointer() {
     // SAFETY: buffers of no elements, beside a live desk and a live sheet.
     unsafe {
         assert_eq!(ffi::depot_plan(null_mut(), 0, null_mut(), 0, null_mut(), 0), 1);
+        assert_eq!(ffi::depot_end(null_mut(), 0, null_mut(), 0).refusal, 1);
         assert_eq!(ffi::depot_read(null_mut(), 0).refusal, 1);
         assert_eq!(ffi::depot_label(null_mut(), 0, 0).refusal, 1);
         assert_eq!(ffi::depot_write(null_mut(), 0, null_mut(), 0, 1, 7, null_mut(), 0).refusal, 10);

@@ -9,6 +9,7 @@ use Rattle.sheet.proofs.Refusals.{write-refused, write-answered, write-refused-
 use Rattle.sheet.proofs.WrittenReads.{written-reads, written-label}
 use Rattle.sheet.proofs.ReadIsWritten.{read-is-written, read-is-written-bytes}
 use Rattle.sheet.specs.Label.{labelPlace}
+use Rattle.planable.specs.Planable.{workAfter}
 use Rattle.planner.specs.Planning.{planChecks, planRefusal, cardAfter, memoryAfter}
 use Rattle.planner.proofs.Planning.{plan-refused, plan-answered, no-plan-exactly}
 use Rattle.planner.proofs.Granted.{card-granted, card-all-granted}
@@ -31,7 +32,7 @@ call-refusal d (change l a t) = (change-refused d l a t, change-answered d l a t
 
 -- R-1: every call answers, and a refused one changes nothing.
 pub every-call-answers : EveryCallAnswers
-unfolding labelPlace planRefusal cardAfter memoryAfter openedOver
+unfolding labelPlace planRefusal cardAfter workAfter openedOver
 every-call-answers = record {
   reads = λ s. (read-refused s, read-answered s);
   labels = λ s job. (label-refused s job, label-answered s job);

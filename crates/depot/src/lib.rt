@@ -1,6 +1,7 @@
 // What firmware links: the version, planning, job sheets, and the desk where firmware keeps it. Each is a call of a proved function; include/depot.h
 // declares them for C. The desk's calls copy the lent desk, make the call by value, and put the desk that it hands back in its place.
 use desk::Desk;
+use earliest::Earliest;
 use lent::Looked;
 use sheet::LabelPlace;
 use sheet::Reading;
@@ -9,6 +10,8 @@ use sheet_format::Job;
 ghost use mathlib.Core.Path.{_≡_};
 ghost use lib.ListN.{length};
 ghost use Rattle.planner.specs.Planning.{planRefusal, cardAfter, memoryAfter};
+ghost use Rattle.planable.specs.Planable.{planableRefusal, workAfter};
+ghost use Rattle.earliest.specs.Earliest.{endAnswer};
 ghost use Rattle.sheet_format.specs.Format.{jobsIn, cabinet};
 ghost use Rattle.sheet.specs.Read.{reading};
 ghost use Rattle.sheet.specs.Label.{labelPlace, placeIn};
@@ -19,8 +22,8 @@ ghost use Rattle.depot.specs.Version.{version};
 
 // ---- the version
 
-// 0.7.0
-const VERSION: u32 = 7000;
+// 0.8.0
+const VERSION: u32 = 8000;
 
 // The number of this library's version; the header has the same.
 #[no_mangle]
@@ -41,6 +44,16 @@ pub extern "C" fn depot_plan(sheet: &[u8], card: &mut [u8], work: &mut [u8]) -> 
     ensures work { λ _. ⌜ now (work .exit) ≡ memoryAfter (now (sheet .entry)) (length (now (card .entry))) (now (work .entry)) ⌝ }
 {
     planner::plan(sheet, card, work)
+}
+
+// The end alone: that of the plan that planning gives, or the first refusal of 1 to 9 and 19. Answered, the working memory is all zero;
+// refused, it is as before.
+#[no_mangle]
+pub extern "C" fn depot_end(sheet: &[u8], work: &mut [u8]) -> Earliest
+    ensures answer { λ r. ⌜ r ≡ endAnswer (now (sheet .entry)) ⌝ }
+    ensures work { λ _. ⌜ now (work .exit) ≡ workAfter (planableRefusal (now (sheet .entry))) (now (work .entry)) ⌝ }
+{
+    earliest::earliest_end(sheet, work)
 }
 
 // ---- job sheets

@@ -5,7 +5,7 @@ use mathlib.Core.List.{List, [], _∷_, _++_}
 use Prim.Native.Nat.{ℕ, _+_, _*_, _≤_, _<_}
 use native.Mathlib.Omega.{arith}
 use lib.Dec.{eqb}
-use lib.ListN.{length, replicate}
+use lib.ListN.{length}
 use borrow.Author.Tests.{eq-eqb}
 use Rattle.checking.specs.Checking.{Check, firstFailing}
 use Rattle.checking.proofs.Order.{Passed, all-passed, both-passed, together-passed, none-failing, first-behind}
@@ -21,7 +21,7 @@ use Rattle.sheet_format.proofs.Cuts.{content-same}
 use Rattle.sheet.specs.declared.Reading.{Reading}
 use Rattle.sheet.specs.Read.{readChecks, readRefusal, answered, refused, reading}
 use Rattle.sheet.specs.Write.{over}
-use Rattle.planable.specs.Planable.{sheetOn, sheetIn, orderChecks}
+use Rattle.planable.specs.Planable.{sheetOn, sheetIn, orderChecks, workAfter}
 use Rattle.planner.specs.Planning.{roomChecks, bestCard, planRefusal, cardAfter, memoryAfter}
 use Rattle.older_sheets.specs.Older as older
 use Rattle.older_sheets.specs.Older.{Layout, beforeArrivals}
@@ -99,11 +99,11 @@ module _ (L : Layout) (s : List ℕ) (e : LaidOut L s) where
   pub relaid-plans : (card memory : List ℕ) → (planRefusal r (length card) ≡ older.planRefusal L s (length card))
       × (cardAfter r card ≡ older.cardAfter L s card)
       × (memoryAfter r (length card) memory ≡ older.memoryAfter L s (length card) memory)
-  unfolding cardAfter memoryAfter older.cardAfter older.memoryAfter
+  unfolding cardAfter older.cardAfter
   relaid-plans card memory = (
     refusal-same (length card),
     ap₂ (λ (k : ℕ) (S : Sheet). cond (eqb k 0) (over (bestCard S) card) card) (refusal-same (length card)) same-sheet,
-    ap (λ (k : ℕ). cond (eqb k 0) (replicate (length memory) 0) memory) (refusal-same (length card)),
+    ap (λ (k : ℕ). workAfter k memory) (refusal-same (length card)),
   )
 
 -- Sheets that read until now are laid out.

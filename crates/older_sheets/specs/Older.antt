@@ -4,7 +4,7 @@ use mathlib.Core.Bool.{Bool, not, cond}
 use mathlib.Core.List.{List, [], _∷_, _++_}
 use Prim.Native.Nat.{ℕ, _+_, _-_, _*_}
 use lib.Dec.{eqb}
-use lib.ListN.{length, take, replicate}
+use lib.ListN.{length, take}
 use Rattle.words.specs.Words.{byteAt, u16At, u32At}
 use Rattle.checking.specs.Checking.{Check, firstFailing}
 use Rattle.schedule.specs.Plan.{Sheet}
@@ -14,7 +14,7 @@ use Rattle.sheet_format.specs.Checks.{outside, tooManyJobs, wrongModules, conte
 use Rattle.sheet.specs.declared.Reading.{Reading}
 use Rattle.sheet.specs.Read.{answered, refused}
 use Rattle.sheet.specs.Write.{over}
-use Rattle.planable.specs.Planable.{sheetOn, orderChecks}
+use Rattle.planable.specs.Planable.{sheetOn, orderChecks, workAfter}
 use Rattle.planner.specs.Planning.{roomChecks, bestCard}
 
 -- the layouts of before: without arrivals and changeovers, and without changeovers
@@ -116,5 +116,5 @@ planRefusal L s room = firstFailing (readChecks L s ++ (orderChecks (sheetIn L s
 unfoldable pub cardAfter : Layout → List ℕ → List ℕ → List ℕ
 cardAfter L s card = cond (eqb (planRefusal L s (length card)) 0) (over (bestCard (sheetIn L s)) card) card
 
-unfoldable pub memoryAfter : Layout → List ℕ → ℕ → List ℕ → List ℕ
-memoryAfter L s room memory = cond (eqb (planRefusal L s room) 0) (replicate (length memory) 0) memory
+abbrev pub memoryAfter : Layout → List ℕ → ℕ → List ℕ → List ℕ
+memoryAfter L s room memory = workAfter (planRefusal L s room) memory

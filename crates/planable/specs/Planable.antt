@@ -1,8 +1,10 @@
 -- The checks that the planning calls share: C-1 to C-9 and C-19.
-use mathlib.Core.Bool.{Bool, true, false}
+use mathlib.Core.Bool.{Bool, true, false, cond}
 use mathlib.Core.List.{List, [], _∷_, _++_}
 use mathlib.Core.Option.{none, some}
 use Prim.Native.Nat.{ℕ}
+use lib.Dec.{eqb}
+use lib.ListN.{length, replicate}
 use Rattle.bits.specs.Bits.{bit}
 use Rattle.schedule.specs.Plan.{Sheet, overWide}
 use Rattle.schedule.specs.TieRule.{bestOrder}
@@ -44,3 +46,7 @@ planableChecks s = readChecks s ++ orderChecks (sheetIn s)
 
 unfoldable pub planableRefusal : List ℕ → ℕ
 planableRefusal s = firstFailing (planableChecks s)
+
+-- Working memory behind a call with this refusal. "An answered call leaves that memory all zero"; refused: as before.
+unfoldable pub workAfter : ℕ → List ℕ → List ℕ
+workAfter refusal work = cond (eqb refusal 0) (replicate (length work) 0) work

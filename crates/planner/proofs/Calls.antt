@@ -14,7 +14,7 @@ use Rattle.card.specs.Card.{cardSize}
 use Rattle.checking.specs.Checking.{firstFailing}
 use Rattle.checking.proofs.Order.{all-passed, first-in-front, first-behind}
 use Rattle.planable.specs.declared.Checked.{Checked}
-use Rattle.planable.specs.Planable.{sheetIn, planableChecks, planableRefusal}
+use Rattle.planable.specs.Planable.{sheetIn, planableChecks, planableRefusal, workAfter}
 use Rattle.planable.specs.Results.{CheckedOf}
 use Rattle.planable.proofs.Planable.{Ready, ready-table}
 use Rattle.planner.specs.Planning.{roomChecks, planRefusal, bestCard, cardAfter, memoryAfter}
@@ -29,7 +29,7 @@ Given s card work k card′ work′ =
 module _ (s card work : List ℕ) where
   -- refused: the number decides
   refused-leaves : (k : ℕ) → k ≡ planRefusal s (length card) → (k ≡ 0 → ⊥) → Given s card work k card work
-  unfolding cardAfter memoryAfter
+  unfolding cardAfter workAfter
   refused-leaves k e h =
       let n = ne-eqb (planRefusal s (length card)) 0 (λ z. h (e ∙ z)) in
       (e, (rw n refl, rw n refl))
@@ -74,7 +74,7 @@ module _ (s card work : List ℕ) where
 
         pub answered : (card′ work′ : List ℕ) → card′ ≡ bestCard (sheetOf (r .jobs)) ++ drop (cardSize (countOf (r .jobs))) card
             → work′ ≡ replicate (length work) 0 → Given s card work 0 card′ work′
-        unfolding memoryAfter
+        unfolding workAfter
         answered card′ work′ written cleared = (
           sym none,
           (

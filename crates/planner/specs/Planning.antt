@@ -5,13 +5,13 @@ use mathlib.Core.List.{List, [], _∷_, _++_}
 use mathlib.Core.Option.{none, some}
 use Prim.Native.Nat.{ℕ}
 use lib.Dec.{eqb, ltb}
-use lib.ListN.{length, replicate}
+use lib.ListN.{length}
 use Rattle.schedule.specs.Plan.{Sheet}
 use Rattle.schedule.specs.TieRule.{bestOrder}
 use Rattle.card.specs.Card.{cardSize, cardOf}
 use Rattle.checking.specs.Checking.{Check, firstFailing}
 use Rattle.sheet.specs.Write.{over}
-use Rattle.planable.specs.Planable.{sheetIn, planableChecks}
+use Rattle.planable.specs.Planable.{sheetIn, planableChecks, workAfter}
 
 -- 10, against the room in the lent card
 abbrev pub roomChecks : Sheet → ℕ → List Check
@@ -32,6 +32,6 @@ bestCard S = elim (bestOrder S) [ none ↦ [] | some o ↦ cardOf S o ]
 unfoldable pub cardAfter : List ℕ → List ℕ → List ℕ
 cardAfter s card = cond (eqb (planRefusal s (length card)) 0) (over (bestCard (sheetIn s)) card) card
 
--- "An answered call leaves that memory all zero"; refused: as before
-unfoldable pub memoryAfter : List ℕ → ℕ → List ℕ → List ℕ
-memoryAfter s room memory = cond (eqb (planRefusal s room) 0) (replicate (length memory) 0) memory
+-- the lent working memory afterwards
+abbrev pub memoryAfter : List ℕ → ℕ → List ℕ → List ℕ
+memoryAfter s room memory = workAfter (planRefusal s room) memory

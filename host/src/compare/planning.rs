@@ -3,7 +3,7 @@ use super::sheets;
 use crate::guarded::{Against, Guarded};
 use crate::plain_search::{mislead, GROUP};
 use crate::random::Random;
-use crate::{card_length, plan, reference, Refusal, MOST_JOBS};
+use crate::{card_length, earliest_end, plan, reference, Refusal, MOST_JOBS};
 
 /// Every so many sheets are planned with the largest working memory too.
 const LARGEST_EVERY: usize = 2;
@@ -66,7 +66,32 @@ impl Planning {
         }
         let work = self.random.place(works);
         self.call(sheet, room, work, Against::Front, &expected);
+        let end = reference::planning::end(sheet);
+        for against in [Against::End, Against::Front] {
+            let work = self.random.place(works);
+            self.call_for_the_end(sheet, work, against, &end);
+        }
         self.compared += 1;
+    }
+
+    /// The call for the end alone: the end on the reference's card, whatever the working memory, and its refusals but 10.
+    fn call_for_the_end(&mut self, sheet: &[u8], work: usize, against: Against, expected: &Result<u32, u32>) {
+        let work_before = self.noise(WORK_LENGTHS[work]);
+        let lent_sheet = self.sheet.lend(against, sheet);
+        let lent_work = self.work[work].lend(against, &work_before);
+        let answer = earliest_end(lent_sheet, lent_work);
+
+        let about = || format!("end of sheet {sheet:02x?}, work {}, {against:?}", WORK_LENGTHS[work]);
+        assert_eq!(answer.map(u32::from).map_err(Refusal::number), *expected, "{}", about());
+        let work_left = self.work[work].left();
+        match expected {
+            Ok(_) => assert!(work_left.iter().all(|byte| *byte == 0), "{}", about()),
+            Err(_) => assert!(work_left == work_before, "{}", about()),
+        }
+        assert_eq!(self.sheet.left(), sheet);
+        for lent in [&self.sheet, &self.work[work]] {
+            assert!(lent.rest_untouched(), "{}", about());
+        }
     }
 
     fn call(&mut self, sheet: &[u8], room: usize, work: usize, against: Against, expected: &Result<Vec<u8>, u32>) {

@@ -6,7 +6,7 @@ use crate::plain_search::{run_with, Found, Outcome, Rules, Tables};
 use crate::random::Random;
 use crate::raw_sheet::Sheet;
 use crate::reference::{planning, reading};
-use crate::{card_length, plan};
+use crate::{card_length, earliest_end, plan};
 
 const MEMORY: [usize; 4] = [0, 735, 4096, 1 << 16];
 
@@ -50,6 +50,8 @@ fn compare_lists(list: &List, seed: u64, all: &[(&str, Rules)]) {
     let mut work = vec![0x5A; length];
     let about = || format!("{}, sheet {:02x?}, memory {length}", list.name, list.sheet());
     plan(&list.sheet(), &mut card, &mut work).unwrap_or_else(|refusal| panic!("{}: {refusal}", about()));
+    let end = earliest_end(&list.sheet(), &mut work).map(u16::to_le_bytes);
+    assert_eq!(end.as_ref().map(|bytes| &bytes[..]), Ok(&card[13 * n + 4..13 * n + 6]), "{}", about());
     for (left_out, rules) in all {
         work.fill(0xA5);
         let found = found(run_with(&Tables::of(list), &mut work, rules));

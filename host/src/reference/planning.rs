@@ -15,18 +15,31 @@ pub fn plan(bytes: &[u8], room: usize) -> Result<Vec<u8>, u32> {
     plan_read(&read(bytes)?, room)
 }
 
-/// The same of a sheet that reads: checks 8 to 10.
+/// The end of the sheet's plan, or the number of the first check that fails; there is no card, so 10 is not checked.
+pub fn end(bytes: &[u8]) -> Result<u32, u32> {
+    let sheet = read(bytes)?;
+    can_be_planned(&sheet)?;
+    Ok(best(&sheet).end)
+}
+
+/// The card of a sheet that reads: checks 8 to 10.
 pub fn plan_read(sheet: &Sheet, room: usize) -> Result<Vec<u8>, u32> {
+    can_be_planned(sheet)?;
+    if room < 13 * sheet.jobs.len() + 8 {
+        return Err(10);
+    }
+    Ok(best(sheet).card())
+}
+
+/// Checks 8 and 9.
+fn can_be_planned(sheet: &Sheet) -> Result<(), u32> {
     if sheet.jobs.iter().any(|job| job.modules > sheet.modules) {
         return Err(8);
     }
     if some_job_precedes_itself(sheet) {
         return Err(9);
     }
-    if room < 13 * sheet.jobs.len() + 8 {
-        return Err(10);
-    }
-    Ok(best(sheet).card())
+    Ok(())
 }
 
 /// The plan of a sheet of which 1 to 9 and 19 do not fail.

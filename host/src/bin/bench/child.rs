@@ -2,7 +2,7 @@
 use crate::{clock, process};
 use depot_host::lists::{self, List};
 use depot_host::plain_search::{run_with, Outcome, Rules, Tables};
-use depot_host::{card_length, plan, Card};
+use depot_host::{card_length, earliest_end, plan, Card};
 use std::process::Command;
 use std::time::Duration;
 use std::{env, hint, io};
@@ -19,6 +19,8 @@ const AGAIN: Duration = Duration::from_millis(150);
 #[derive(Clone, Copy)]
 pub enum Side {
     Library,
+    /// The library's call for the end alone.
+    End,
     /// The same search in plain Rust.
     Plain,
     /// The same without rules.
@@ -37,6 +39,7 @@ pub struct Took {
 pub fn call(side: Side, list: &List, memory: usize, cutoff: Duration) -> Option<Took> {
     let side = match side {
         Side::Library => "library",
+        Side::End => "end",
         Side::Plain => "plain",
         Side::Bare => "bare",
     };
@@ -69,6 +72,7 @@ pub fn answer(words: &[String]) {
     let took = match side.as_str() {
         "plain" => plain(&list, &mut work, &Rules::default()),
         "bare" => plain(&list, &mut work, &Rules::bare()),
+        "end" => end(&list, &mut work),
         _ => library(&list, &mut work),
     };
     println!("{}", took.text());
@@ -79,6 +83,13 @@ fn library(list: &List, work: &mut [u8]) -> Took {
     let mut card = vec![0; card_length(list.jobs.len())];
     let seconds = shortest(|| plan(&sheet, &mut card, work).unwrap_or_else(|refusal| panic!("{}: {refusal}", list.name)));
     let end = Card::of(&card).expect("a card").end;
+    Took { seconds, visited: 0, end }
+}
+
+fn end(list: &List, work: &mut [u8]) -> Took {
+    let sheet = list.sheet();
+    let mut end = 0;
+    let seconds = shortest(|| end = earliest_end(&sheet, work).unwrap_or_else(|refusal| panic!("{}: {refusal}", list.name)));
     Took { seconds, visited: 0, end }
 }
 

@@ -3,6 +3,7 @@ mod ablation;
 mod child;
 mod clock;
 mod desk_calls;
+mod ends;
 mod gecode;
 mod model;
 mod options;
@@ -36,6 +37,7 @@ fn main() {
             Part::Plans => planning::measure(&options),
             Part::Arrivals => planning::measure_arrivals(&options),
             Part::Changeovers => planning::measure_changeovers(&options),
+            Part::Ends => ends::measure(&options),
             Part::Ablation => ablation::measure(&options),
             Part::Gecode => gecode::measure(&options),
             Part::Stack => stack_need::measure(),

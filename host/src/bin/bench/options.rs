@@ -8,6 +8,7 @@ use std::time::Duration;
 #[derive(Clone, Copy, PartialEq, Eq)]
 pub enum Part {
     Plans,
+    Ends,
     Arrivals,
     Changeovers,
     Ablation,
@@ -77,6 +78,7 @@ impl Options {
                 "plans" => options.parts.push(Part::Plans),
                 "arrivals" => options.parts.push(Part::Arrivals),
                 "changeovers" => options.parts.push(Part::Changeovers),
+                "ends" => options.parts.push(Part::Ends),
                 "ablation" => options.parts.push(Part::Ablation),
                 "gecode" => options.parts.push(Part::Gecode),
                 "stack" => options.parts.push(Part::Stack),
@@ -104,7 +106,7 @@ impl Options {
         if options.parts.is_empty() {
             options.parts = vec![Part::Plans, Part::Stack, Part::Sheets, Part::Desk];
         }
-        if options.parts.iter().any(|part| matches!(part, Part::Plans | Part::Ablation | Part::Gecode)) {
+        if options.parts.iter().any(|part| matches!(part, Part::Plans | Part::Ends | Part::Ablation | Part::Gecode)) {
             options.groups = asked.groups()?;
         }
         if options.parts.contains(&Part::Arrivals) {

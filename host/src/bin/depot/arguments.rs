@@ -56,6 +56,10 @@ impl Arguments {
         Ok(read)
     }
 
+    pub fn verb(&self) -> &str {
+        &self.verb
+    }
+
     pub fn has(&self, flag: &str) -> bool {
         self.flags.iter().any(|word| word == flag)
     }

@@ -9,6 +9,7 @@ usage: depot VERB ..
 
   depot plan LIST.csv            the plan that ends first, as a table
   depot plan LIST.csv --svg OUT  and as a picture; --html OUT for a page
+  depot end LIST.csv             the earliest end alone, in a sentence
   depot sheet LIST.csv -o FILE   a list to a job sheet, the bytes that a cabinet takes
   depot list FILE                a job sheet back to a list
   depot desk                     an interactive share desk: open, change, claim, back, look, show
@@ -41,6 +42,18 @@ A list is a text with a line for each job:
 
 Up to 20 jobs. Fields are separated by commas, or all by semicolons; one with such a sign or a double quote in it stands in double
 quotes, with a double quote written twice. Lines that begin with # and a space are remarks.
+";
+
+const END: &str = "\
+usage: depot end LIST.csv|SHEET [OPTION..]
+
+Says when the last bus is full at the earliest: the end of the plan that 'depot plan' shows, and of no plan, whoever makes it, earlier.
+It takes less time than the plan. A name that ends in .csv is a list, every other a job sheet; - is a sheet on standard input.
+
+  --start HH:MM    the plan's start as a time of day, in place of the list's
+  --raw            the minute alone, counted from the start
+  --json           for programs
+  --memory BYTES   working memory of the search, with K or M (16M); 0 is allowed, and no length changes the answer
 ";
 
 const PLAN: &str = "\
@@ -114,6 +127,7 @@ pub fn asked_for(words: &[String]) -> bool {
 pub fn of_verb(verb: &str) -> Option<String> {
     Some(match verb {
         "plan" => format!("{PLAN}{LIST_FORMAT}"),
+        "end" => END.into(),
         "sheet" => format!("{SHEET}{LIST_FORMAT}"),
         "list" => LIST.into(),
         "desk" => DESK.into(),

@@ -3,6 +3,7 @@ mod arguments;
 mod chart;
 mod clock;
 mod desk;
+mod end_verb;
 mod explain;
 mod help;
 mod json;
@@ -53,6 +54,7 @@ fn run(words: &[String]) -> Result<Outcome, Trouble> {
         "sheet" => sheet_verbs::sheet(rest),
         "list" => sheet_verbs::list(rest),
         "plan" => plan_verb::run(rest),
+        "end" => end_verb::run(rest),
         "desk" => desk::run(rest),
         "explain" => explain::run(rest),
         "help" => help::run(rest),

@@ -15,11 +15,11 @@ const TAKES: Takes = Takes {
     needed: 1,
 };
 
-const MEMORY: usize = 16 << 20;
+pub const MEMORY: usize = 16 << 20;
 
 /// What is printed on standard output.
 #[derive(Clone, Copy, PartialEq, Eq)]
-enum Form {
+pub enum Form {
     Table,
     Raw,
     Json,
@@ -47,16 +47,16 @@ pub fn run(words: &[String]) -> Result<Outcome, Trouble> {
     })
 }
 
-fn form(arguments: &Arguments) -> Result<Form, Trouble> {
+pub fn form(arguments: &Arguments) -> Result<Form, Trouble> {
     match (arguments.has("--raw"), arguments.has("--json")) {
-        (true, true) => Err(Trouble::usage("--raw and --json exclude each other", "plan")),
+        (true, true) => Err(Trouble::usage("--raw and --json exclude each other", arguments.verb())),
         (true, false) => Ok(Form::Raw),
         (false, true) => Ok(Form::Json),
         (false, false) => Ok(Form::Table),
     }
 }
 
-fn refused(yard: &Yard, refusal: Refusal, form: Form) -> Result<Outcome, Trouble> {
+pub fn refused(yard: &Yard, refusal: Refusal, form: Form) -> Result<Outcome, Trouble> {
     match form {
         Form::Raw => say(&format!("refused {}\n", refusal.number()))?,
         Form::Json => say(&(json::refusal(refusal) + "\n"))?,

@@ -115,13 +115,7 @@ impl Planned {
 
     /// How many of what, in words.
     pub fn size(&self) -> String {
-        let plural = |count: usize, one: &str| format!("{count} {one}{}", if count == 1 { "" } else { "s" });
-        let rests = if self.has_rests() {
-            format!(" with a changeover of {}", plural(self.changeover.into(), "minute"))
-        } else {
-            String::new()
-        };
-        format!("{} on {}{rests}", plural(self.jobs.len(), "job"), plural(self.modules.into(), "module"))
+        counted(self.jobs.len(), self.modules, self.changeover)
     }
 
     /// The plan's end, in words.
@@ -145,6 +139,14 @@ impl Planned {
         }
         format!("minute {minute}")
     }
+}
+
+/// How many jobs, on how many modules, and the changeover where there is one.
+pub fn counted(jobs: usize, modules: u16, changeover: u16) -> String {
+    let plural = |count: usize, one: &str| format!("{count} {one}{}", if count == 1 { "" } else { "s" });
+    let rests =
+        if changeover > 0 { format!(" with a changeover of {}", plural(changeover.into(), "minute")) } else { String::new() };
+    format!("{} on {}{rests}", plural(jobs, "job"), plural(modules.into(), "module"))
 }
 
 /// A lateness in words.

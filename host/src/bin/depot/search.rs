@@ -1,5 +1,5 @@
-//! The planning call on a thread of its own, and how long it has been searching on standard error.
-use depot_host::{card_length, plan, read, Card, Reading, Refusal, MOST_JOBS};
+//! A call that searches, on a thread of its own, and how long it has been searching on standard error.
+use depot_host::{card_length, earliest_end, plan, read, Card, Reading, Refusal, MOST_JOBS};
 use std::io::{self, IsTerminal, Write};
 use std::sync::mpsc::{self, RecvTimeoutError};
 use std::thread;
@@ -18,20 +18,30 @@ pub struct Found {
 }
 
 pub fn run(sheet: &[u8], memory: usize) -> Result<Found, Refusal> {
-    let (send, receive) = mpsc::channel();
     let lent = sheet.to_vec();
-    let search = thread::spawn(move || {
+    let mut bytes = searched(move || {
         let mut card = vec![0; card_length(MOST_JOBS)];
-        let answer = plan(&lent, &mut card, &mut vec![0; memory]);
-        send.send(answer.map(|()| card)).ok();
-    });
-    let answer = wait(&receive);
-    search.join().expect("the search ends");
-    let mut bytes = answer?;
+        plan(&lent, &mut card, &mut vec![0; memory]).map(|()| card)
+    })?;
     let reading = read(sheet)?;
     bytes.truncate(card_length(reading.jobs.len()));
     let card = Card::of(&bytes).expect("an answered call leaves a card");
     Ok(Found { reading, bytes, card })
+}
+
+/// The earliest end alone.
+pub fn end(sheet: &[u8], memory: usize) -> Result<u16, Refusal> {
+    let lent = sheet.to_vec();
+    searched(move || earliest_end(&lent, &mut vec![0; memory]))
+}
+
+/// What the call answers.
+fn searched<T: Send + 'static>(call: impl FnOnce() -> T + Send + 'static) -> T {
+    let (send, receive) = mpsc::channel();
+    let search = thread::spawn(move || send.send(call()).ok());
+    let answer = wait(&receive);
+    search.join().expect("the search ends");
+    answer
 }
 
 fn wait<T>(receive: &mpsc::Receiver<T>) -> T {

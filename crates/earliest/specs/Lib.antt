@@ -1,0 +1,2 @@
+-- What the call for the end alone answers.
+pub mod Earliest

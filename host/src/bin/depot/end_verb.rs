@@ -1,0 +1,51 @@
+//! `depot end`: the earliest end of a list, in a sentence for a bid meeting.
+use crate::arguments::{Arguments, Takes};
+use crate::clock::{Clock, START_ALLOWED};
+use crate::outcome::{say, Outcome, Trouble};
+use crate::plan_verb::{form, refused, Form, MEMORY};
+use crate::planned::{counted, Yard};
+use crate::{json, search};
+use depot_host::{read, units};
+
+const TAKES: Takes = Takes {
+    verb: "end",
+    flags: &["--raw", "--json"],
+    values: &["--start", "--memory"],
+    plain: &["a list or a sheet"],
+    needed: 1,
+};
+
+pub fn run(words: &[String]) -> Result<Outcome, Trouble> {
+    let arguments = Arguments::read(&TAKES, words)?;
+    let form = form(&arguments)?;
+    let start = arguments.read_value("--start", Clock::starting, START_ALLOWED)?;
+    let memory = arguments.read_value("--memory", units::bytes, "a number of bytes, or one with K or M")?.unwrap_or(MEMORY);
+    let yard = Yard::open(arguments.plain(0).expect("a file is needed"), start)?;
+    let end = match search::end(&yard.sheet, memory) {
+        Ok(end) => end,
+        Err(refusal) => return refused(&yard, refusal, form),
+    };
+    say(&match form {
+        Form::Table => in_words(&yard, end),
+        Form::Raw => format!("{end}\n"),
+        Form::Json => in_json(&yard, end),
+    })
+}
+
+/// The sentence: when the last bus is full, how long after the start, and of what that is the earliest end.
+fn in_words(yard: &Yard, end: u16) -> String {
+    let reading = read(&yard.sheet).expect("a sheet with an end reads");
+    let size = counted(reading.jobs.len(), reading.modules, reading.changeover);
+    if reading.jobs.is_empty() {
+        return format!("There is nothing to charge: the plan of {size} ends at its start, minute 0.\n");
+    }
+    let after = format!("{} h {:02} min after the start", end / 60, end % 60);
+    let when = yard.clock.map_or(after.clone(), |clock| format!("{}, {after}", clock.time(end.into())));
+    format!("The last bus is full at {when} (minute {end}): no plan of {size} ends earlier.\n")
+}
+
+fn in_json(yard: &Yard, end: u16) -> String {
+    let mut members = vec![("end", end.to_string())];
+    members.extend(yard.clock.map(|clock| ("end_time", json::text(&clock.time(end.into())))));
+    json::object(&members) + "\n"
+}
