@@ -139,8 +139,12 @@ module _ (L : Layout) (s : List ℕ) (t : Laid L s) where
   length-front : (i : ℕ) → i ≤ n → length (front i) ≡ o + recordSize * i
   length-front i l =
       length-append (older.labelsOf s) (joined i row)
-      ∙ omega (arith, length-labels, joined-length i recordSize row (λ k m.
-      length-record L s (o + older.recordSize L * k) (record-fits k (omega arith))))
+      ∙ omega (
+        arith,
+        length-labels,
+        joined-length i recordSize row (λ k m.
+            length-record L s (o + older.recordSize L * k) (record-fits k (omega arith))),
+      )
 
   abbrev trailer : List ℕ
   trailer = take older.trailerSize (drop (older.trailerAt s) s)
