@@ -1,7 +1,6 @@
 -- What the count answers.
 use mathlib.Core.Path.{_≡_}
-use mathlib.Core.Logic.{_⊎_}
-use mathlib.Core.Bool.{true, cond}
+use mathlib.Core.Bool.{not, cond, _&&_, _||_}
 use mathlib.Core.List.{List}
 use Prim.Native.Nat.{ℕ, _≤_, _<_, _^_}
 use lib.Count.{ones}
@@ -20,6 +19,11 @@ setsAnswer s =
     cond (eqb (planableRefusal s) 0)
     (record { refusal = 0; sets = closedSets (sheetIn s) })
     (record { refusal = planableRefusal s; sets = 0 })
+
+-- r is `left` without j and the others
+pub record Leaving (left j others r : ℕ) : Type 0 where
+  pub within : r ≤ left
+  pub each : (i : ℕ) → bit r i ≡ (bit left i && not (eqb i j || bit others i))
 
 -- r is the number of closed sets among the jobs `left`, where `before` and `behind` are the marks of a sheet without circles
 pub record SetsAmong (left : ℕ) (before behind : List ℕ) (r : ℕ) : Type 0 where

@@ -3,15 +3,12 @@ ghost use mathlib.Core.Path.{_≡_};
 ghost use mathlib.Core.Logic.{_⊎_};
 ghost use mathlib.Core.Bool.{true};
 ghost use Prim.Native.Nat.{_<_, _≤_, _^_};
-ghost use lib.ListN.{getD};
-ghost use lib.Bits.{bitAnd};
-ghost use Prim.Native.Nat.{_-_};
 ghost use Rattle.figures.specs.Figures.{mostJobs};
 ghost use Rattle.bits.specs.Bits.{bit};
 ghost use Rattle.tables.specs.Tables.{sheetOf, countOf};
 ghost use Rattle.schedule.specs.Plan.{Circular};
 ghost use Rattle.job_sets.specs.Sets.{closedSets};
-ghost use Rattle.job_sets.specs.Results.{SetsAmong, setsAnswer};
+ghost use Rattle.job_sets.specs.Results.{Leaving, SetsAmong, setsAnswer};
 use figures::MOST_JOBS;
 use tables::Jobs;
 
@@ -48,6 +45,15 @@ fn busiest(before: &[u32; MOST_JOBS], behind: &[u32; MOST_JOBS], left: u32) -> u
     best
 }
 
+// The jobs of `left` without j and a set of others.
+fn leaving(left: u32, j: usize, others: u32) -> u32
+    requires { ⌜ j < mostJobs ⌝ }
+    ensures { λ r. ⌜ Leaving left j others r ⌝ }
+{
+    let rest = bits::clear32(left, j);
+    rest - (rest & others)
+}
+
 // The number of the sets among the jobs `left` that have, with each job, all of `left` that it follows. They are split on one job j: those
 // without it have none of the jobs that follow it, and those with it have all that it follows.
 fn sets_among(before: &[u32; MOST_JOBS], behind: &[u32; MOST_JOBS], left: u32) -> u32
@@ -58,14 +64,13 @@ fn sets_among(before: &[u32; MOST_JOBS], behind: &[u32; MOST_JOBS], left: u32) -
         return 1;
     }
     let j = busiest(before, behind, left);
-    let others = bits::clear32(left, j);
-    let without = others - (others & behind[j]);
-    let with = others - (others & before[j]);
-    let absent = sets_among(before, behind, without);
-    if with == without {
+    let lower = leaving(left, j, behind[j]);
+    let higher = leaving(left, j, before[j]);
+    let absent = sets_among(before, behind, lower);
+    if higher == lower {
         return 2 * absent;
     }
-    absent + sets_among(before, behind, with)
+    absent + sets_among(before, behind, higher)
 }
 
 // The number of job sets of a table.
