@@ -5,3 +5,5 @@ pub mod Choosing
 pub mod Remaining
 pub mod Counted
 pub mod Answers
+pub mod Held
+pub mod Shapes
