@@ -16,7 +16,7 @@ DEPOT = ROOT / 'host/target/release/depot'
 SEEN = ROOT / 'target/pictures'
 
 HEADER = 'cabinet,64\nlabel,modules,minutes,after,departure\n'
-# lists that are hard to draw: long labels, short and thin bars, late jobs, no jobs, the longest plan, many arrivals
+# lists that are hard to draw: long labels, short and thin bars, late jobs, no jobs, the longest plan, many arrivals, long rests
 ODD = {
     'none': HEADER,
     'longest': HEADER + 'WWWWWWWWWWWWWWWW,64,1440,,2880\n' * 20,
@@ -25,6 +25,10 @@ ODD = {
     'fleet': HEADER + ''.join(f'N  {400 + i} B,{1 + 3 * i % 30},{20 + 31 * i % 200},"N  {399 + i} B",{9 * i}\n' for i in range(1, 12)).replace('"N  400 B"', ''),
     'thin': HEADER + ''.join(f'J{i},3,{60 + 7 * i},,{100 + i}\n' for i in range(20)),
     'road': HEADER.replace('departure', 'departure,arrival') + ''.join(f'BUS NUMBER {i},9,{60 + 7 * i},,{300 + i},{9 * i}\n' for i in range(20)),
+    'rest': 'changeover,30\n' + HEADER.replace('64', '24') + ''.join(f'J{i},{3 + i % 3},{10 + 7 * i},,{100 + 9 * i}\n' for i in range(12)),
+    'rest-road': 'changeover,7\n' + HEADER.replace('64', '12').replace('departure', 'departure,arrival') + ''.join(
+        f'N {i} BUS,{2 + i % 3},{15 + 6 * i},,{90 + 12 * i},{5 * i}\n' for i in range(14)),
+    'rest-longest': 'changeover,30\n' + HEADER + 'WWWWWWWWWWWWWWWW,64,1440,,2880\n' * 20,
 }
 
 MEASURE = '''<script>

@@ -17,13 +17,13 @@ def record(label=1, modules=1, minutes=10, earlier=0, departure=30, arrival=0):
     return struct.pack('<BBHIHH', label, modules, minutes, earlier, departure, arrival)
 
 
-def sheet(labels, records, modules, offset=None):
+def sheet(labels, records, modules, offset=None, changeover=0):
     offset = len(labels) if offset is None else offset
-    return labels + b''.join(records) + struct.pack('<IHH', offset, len(records), modules)
+    return labels + b''.join(records) + struct.pack('<IHHH', offset, len(records), modules, changeover)
 
 
 E1 = bytes.fromhex(
-    '414243 01010A0000000000 1E00 0000 0102140000000000 1900 0000 01010A0000000000 1E00 0000 0300000003000200')
+    '414243 01010A0000000000 1E00 0000 0102140000000000 1900 0000 01010A0000000000 1E00 0000 0300000003000200 0000')
 LONGEST = sheet(b'L' * 320, [record(label=16, modules=64, minutes=1440, departure=2880)] * 20, 64)
 
 PLANS = [
@@ -55,6 +55,15 @@ PLANS = [
      '25 35 5 0000000000000001 A\n'
      '0 20 -5 0000000000000003 B\n'
      '25 35 5 0000000000000002 C\n'),
+    ('E1 with a changeover of 5', sheet(b'ABC', [record(), record(modules=2, minutes=20, departure=25), record()], 2, changeover=5),
+     'plan 35 3 2\n'
+     '0 10 -20 0000000000000001 A\n'
+     '15 35 10 0000000000000003 B\n'
+     '0 10 -20 0000000000000002 C\n'),
+    ('a wait without a rest', sheet(b'AB', [record(), record(earlier=1)], 2, changeover=30),
+     'plan 20 2 2\n'
+     '0 10 -20 0000000000000001 A\n'
+     '10 20 -10 0000000000000002 B\n'),
     ('a departure before the arrival', sheet(b'A', [record(departure=0, arrival=1440)], 1),
      'plan 1450 1 1\n'
      '1440 1450 1450 0000000000000001 A\n'),
@@ -74,13 +83,16 @@ PLANS = [
 
 REFUSED = [
     (1, 'nothing', b''),
-    (1, '7 bytes', bytes(7)),
-    (1, '569 bytes', LONGEST + b'\0'),
+    (1, '9 bytes', bytes(9)),
+    (1, '571 bytes', LONGEST + b'\0'),
     (1, 'a byte before the longest sheet', b'L' + LONGEST),
     (1, '100000 bytes', bytes(100000)),
     (2, '21 jobs', sheet(b'A' * 21, [record()] * 21, 1)),
     (3, 'no modules', sheet(b'A', [record()], 0)),
     (3, '65 modules', sheet(b'A', [record()], 65)),
+    (19, 'a changeover of 31', sheet(b'A', [record()], 1, changeover=31)),
+    (3, '65 modules and a changeover of 31', sheet(b'A', [record()], 65, changeover=31)),
+    (19, 'a changeover of 31 and an offset of one more', sheet(b'A', [record()], 1, offset=2, changeover=31)),
     (4, 'an offset of one more', sheet(b'A', [record()], 1, offset=2)),
     (5, 'no minutes', sheet(b'A', [record(minutes=0)], 1)),
     (5, '1441 minutes', sheet(b'A', [record(minutes=1441)], 1)),

@@ -1,7 +1,7 @@
 /*
  * A cabinet's controller in small: it reads and plans the job sheet of the example E1, prints the plan as the printing program
- * does, writes the sheet anew, and claims and hands back power as in E9 and E10, with modules of 30 kW. It checks all that it gets
- * and exits with 1 where something differs.
+ * does, writes the sheet anew, also with a changeover, follows that plan minute by minute beside another controller, and claims and
+ * hands back power as in E9 and E10, with modules of 30 kW. It checks all that it gets and exits with 1 where something differs.
  */
 #include "depot.h"
 
@@ -25,7 +25,7 @@ static const uint8_t e1[] = {
     0x01, 0x01, 0x0A, 0x00, 0x00, 0x00, 0x00, 0x00, 0x1E, 0x00, 0x00, 0x00, /* 1 module for 10 minutes, departure 30, arrival 0 */
     0x01, 0x02, 0x14, 0x00, 0x00, 0x00, 0x00, 0x00, 0x19, 0x00, 0x00, 0x00, /* 2 modules for 20 minutes, departure 25, arrival 0 */
     0x01, 0x01, 0x0A, 0x00, 0x00, 0x00, 0x00, 0x00, 0x1E, 0x00, 0x00, 0x00, /* as the first */
-    0x03, 0x00, 0x00, 0x00, 0x03, 0x00, 0x02, 0x00                          /* records from offset 3, 3 jobs, 2 modules */
+    0x03, 0x00, 0x00, 0x00, 0x03, 0x00, 0x02, 0x00, 0x00, 0x00              /* records from offset 3, 3 jobs, 2 modules, changeover 0 */
 };
 
 static const char e1_lines[] = "plan 30 3 2\n"
@@ -123,14 +123,63 @@ static void read_and_write_e1(void)
     check(reading.jobs[3].minutes == 0, "places past the last job are 0");
     check(label.refusal == DEPOT_DONE && label.offset == 2 && label.length == 1, "the label of E1's job 2 is its byte 2");
     check(depot_label(e1, sizeof e1, 3).refusal == DEPOT_NO_SUCH_NUMBER, "E1 has no job 3");
+    check(reading.changeover == 0, "E1's modules need no rest");
     check(depot_read(e1, sizeof e1 - 1).refusal == DEPOT_TOO_MANY_JOBS, "E1 without its last byte seems to have 768 jobs");
 
-    written = depot_write(reading.jobs, reading.count, e1, 3, reading.modules, sheet, sizeof sheet);
+    written = depot_write(reading.jobs, reading.count, e1, 3, reading.modules, reading.changeover, sheet, sizeof sheet);
     check(written.refusal == DEPOT_DONE && written.length == sizeof e1, "writing E1's jobs gives as many bytes");
     check(written.length == DEPOT_SHEET_BYTES(3, 3), "they are as many as the header says");
     check(memcmp(sheet, e1, sizeof e1) == 0, "writing E1's jobs gives E1");
-    written = depot_write(reading.jobs, reading.count, e1, 2, reading.modules, sheet, sizeof sheet);
+    written = depot_write(reading.jobs, reading.count, e1, 2, reading.modules, reading.changeover, sheet, sizeof sheet);
     check(written.refusal == DEPOT_LABEL_LENGTHS && written.length == 0, "a label byte too few is refused");
+    written = depot_write(reading.jobs, reading.count, e1, 3, reading.modules, 31, sheet, sizeof sheet);
+    check(written.refusal == DEPOT_CHANGEOVER && written.length == 0, "a changeover of 31 minutes is refused");
+}
+
+/* ---- following a plan */
+
+/*
+ * E1 with a changeover of 5 minutes, followed by controller 0, whose share is the cabinet's 2 modules, while controller 1 takes all that
+ * it is given. A job's modules are handed back at its end plus the changeover, and a minute's hand-backs come before its claims.
+ */
+static void follow_e1_with_a_changeover(void)
+{
+    enum { MODULE = 300, CHANGEOVER = 5 };
+    static const uint32_t assured[] = {2 * MODULE, 0}, ceilings[] = {10 * MODULE, 10 * MODULE};
+    struct depot_reading reading = depot_read(e1, sizeof e1);
+    uint8_t sheet[DEPOT_LONGEST_SHEET], card[DEPOT_LONGEST_CARD];
+    struct depot_written written;
+    struct depot_desk desk;
+    unsigned minute, end;
+    size_t job;
+    memset(&desk, 0, sizeof desk);
+
+    written = depot_write(reading.jobs, reading.count, e1, 3, reading.modules, CHANGEOVER, sheet, sizeof sheet);
+    check(written.refusal == DEPOT_DONE, "E1 is written with a changeover");
+    check(depot_read(sheet, written.length).changeover == CHANGEOVER, "reading gives it");
+    check(depot_plan(sheet, written.length, card, sizeof card, NULL, 0) == DEPOT_DONE, "E1 with a changeover is planned");
+    end = (unsigned)number(card + 13 * reading.count + 4, 2);
+    check(end == 35, "B starts when the modules of A and C have rested, and the plan ends at 35");
+    check(depot_desk_open(&desk, 10 * MODULE, assured, 2, ceilings, 2) == DEPOT_DONE, "a desk opens");
+    printf("E1 with a changeover of %d, plan's end %u\n", CHANGEOVER, end);
+    for (minute = 0; minute <= end + CHANGEOVER; minute++) {
+        for (job = 0; job < reading.count; job++) {
+            uint32_t power = (uint32_t)reading.jobs[job].modules * MODULE;
+            if (number(card + 12 * job + 2, 2) + CHANGEOVER == minute) {
+                check(depot_desk_hand_back(&desk, 0, power) == DEPOT_DONE, "a hand-back of the plan is granted");
+                printf("minute %2u: job %u hands back %u modules\n", minute, (unsigned)job, (unsigned)reading.jobs[job].modules);
+            }
+        }
+        for (job = 0; job < reading.count; job++) {
+            uint32_t power = (uint32_t)reading.jobs[job].modules * MODULE;
+            if (number(card + 12 * job, 2) == minute) {
+                check(depot_desk_claim(&desk, 0, power) == DEPOT_DONE, "a claim of the plan is granted");
+                printf("minute %2u: job %u claims %u modules\n", minute, (unsigned)job, (unsigned)reading.jobs[job].modules);
+            }
+        }
+        (void)depot_desk_claim(&desk, 1, depot_desk_look(&desk, 1).power);
+    }
+    check(desk.held[0] == 0 && desk.held[1] == 8 * MODULE, "the plan's controller holds nothing then, the other all but the share");
 }
 
 /* ---- the share desk */
@@ -189,6 +238,7 @@ int main(void)
     plan_e1();
     plan_e1_on_the_road();
     read_and_write_e1();
+    follow_e1_with_a_changeover();
     claim_and_hand_back();
     return failures != 0;
 }

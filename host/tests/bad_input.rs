@@ -126,6 +126,25 @@ fn the_cabinet() {
 }
 
 #[test]
+fn the_changeover() {
+    let list = |lines: &str| format!("cabinet,16\n{lines}label,modules,minutes,departure\nA,1,10,30\n");
+    for (word, found) in [("31", "'31'"), ("x", "'x'"), ("-3", "'-3'"), ("2.5", "'2.5'"), ("0:05", "'0:05'")] {
+        let fault = format!("line 2, column 2 (minutes of the changeover): found {found}; allowed: a whole number from 0 to 30");
+        assert_eq!(faults(list(&format!("changeover,{word}\n")).as_bytes()), [fault]);
+    }
+    let once = "a line 'changeover,C' once, C a whole number from 0 to 30";
+    for (line, found) in [("changeover", "nothing"), ("changeover,5,6", "'5,6'")] {
+        let fault = format!("line 2, column 2 (minutes of the changeover): found {found}; allowed: {once}");
+        assert_eq!(faults(list(&format!("{line}\n")).as_bytes()), [fault]);
+    }
+    let twice = format!("line 3: found a second line 'changeover'; allowed: {once}");
+    assert_eq!(faults(list("changeover,5\nchangeover,0\n").as_bytes()), [twice]);
+    // behind the header it is a job's label, with too little behind it
+    let behind = faults(b"cabinet,16\nlabel,modules,minutes,departure\nchangeover,5\n");
+    assert_eq!(behind.len(), 2, "{behind:?}");
+}
+
+#[test]
 fn columns() {
     let all = "the columns label, modules, minutes, after, departure, arrival";
     let unknown = faults(b"cabinet,4\nlabel,modules,minutes,departure,price\nA,1,10,30\n");
@@ -207,11 +226,12 @@ fn over_wide_and_circular() {
 #[test]
 fn sheets_that_do_not_read() {
     for (bytes, number) in [
-        (&b"1234567"[..], 1),
+        (&b"123456789"[..], 1),
         (&[0; LONGEST_SHEET + 1], 1),
-        (&[0, 0, 0, 0, 21, 0, 1, 0], 2),
-        (&[0; 8], 3),
-        (&[1, 0, 0, 0, 0, 0, 1, 0], 4),
+        (&[0, 0, 0, 0, 21, 0, 1, 0, 0, 0], 2),
+        (&[0; 10], 3),
+        (&[1, 0, 0, 0, 0, 0, 1, 0, 31, 0], 19),
+        (&[1, 0, 0, 0, 0, 0, 1, 0, 30, 0], 4),
     ] {
         for verb in ["plan", "list"] {
             let ran = depot(&[verb, "-"], bytes);
@@ -270,7 +290,7 @@ fn words() {
     usage(&["sheet", "a"], "depot sheet: -o FILE is missing; 'depot sheet --help' shows what it takes\n");
     usage(&["sheet"], "depot sheet: a list is missing; 'depot sheet --help' shows what it takes\n");
     usage(&["list"], "depot list: a sheet is missing; 'depot list --help' shows what it takes\n");
-    for number in ["0", "19", "x", "-1x"] {
+    for number in ["0", "20", "x", "-1x"] {
         assert_eq!(depot(&["explain", number], b"").status, 2);
     }
 }
@@ -306,8 +326,8 @@ fn desk_lines() {
         ("claim 0 0.05", "found '0.05'; allowed: whole hundreds of watts, so 0 or 0.1 kW"),
         ("back 0 429496729.6", "found '429496729.6'; allowed: kW, up to 40000"),
         ("look 0 1", "found 'look 0 1'; allowed: look, or look CONTROLLER"),
-        ("explain 19", "found '19'; allowed: refusals 1 to 18, 21 and 22"),
-        ("explain x", "found 'x'; allowed: a refusal's number, 1 to 18, 21 and 22"),
+        ("explain 20", "found '20'; allowed: refusals 1 to 19, 21 and 22"),
+        ("explain x", "found 'x'; allowed: a refusal's number, 1 to 19, 21 and 22"),
         ("change", "found 'change' alone; allowed: change LIMIT SHARE/CEILING .., as 'change 400 yard=180/360 workshop=100/200'"),
         ("change 10 4/10 3/10", "there is no desk yet; open one first, as 'open 500 yard=240/420 workshop=100/200'"),
         ("change 10 yard=4/10 3/10", "found 'yard'; allowed: a controller's number"),

@@ -10,7 +10,7 @@ use depot_host::{card_length, plan, Card};
 use std::path::Path;
 use std::{env, fs};
 
-const EXAMPLES: [&str; 4] = ["small-depot", "mixed-night", "hard-night", "on-the-road"];
+const EXAMPLES: [&str; 5] = ["small-depot", "mixed-night", "hard-night", "on-the-road", "contactors"];
 /// The one whose search takes a while.
 const HARD: &str = "hard-night";
 const SCRIPT: &str = "examples/shared-feeder.desk";
@@ -51,7 +51,7 @@ fn help() {
 fn explain() {
     golden("explain.txt", &["explain"], 0);
     golden("explain.json", &["explain", "--json"], 0);
-    let each = (1..=18).chain([21, 22]).map(|number: u32| depot(&["explain", &number.to_string()], b"").text());
+    let each = (1..=19).chain([21, 22]).map(|number: u32| depot(&["explain", &number.to_string()], b"").text());
     same("host/tests/golden/explain-each.txt", each.collect::<Vec<_>>().join("\n").as_bytes());
     golden("explain-17.json", &["explain", "17", "--json"], 0);
 }
@@ -71,7 +71,7 @@ fn plans_and_pictures() {
         let drawn = fs::read(&svg).unwrap();
         same(&picture, &drawn);
         let page = fs::read_to_string(&html).unwrap();
-        if ["mixed-night", "on-the-road"].contains(&name) {
+        if ["mixed-night", "on-the-road", "contactors"].contains(&name) {
             same(&format!("host/tests/golden/plan-{name}.html"), page.as_bytes());
         }
         for outside in ["http:", "https:", "src=", "href=", "<script", "@import"] {
@@ -96,7 +96,7 @@ fn card_is_the_library_s(list: &str, card: &[u8]) {
 
 #[test]
 fn plans_in_other_forms() {
-    for name in ["small-depot", "mixed-night", "on-the-road"] {
+    for name in ["small-depot", "mixed-night", "on-the-road", "contactors"] {
         let list = format!("examples/{name}.csv");
         golden(&format!("plan-{name}.json"), &["plan", &list, "--json"], 0);
         golden(&format!("plan-{name}.raw"), &["plan", &list, "--raw"], 0);
@@ -108,11 +108,11 @@ fn plans_in_other_forms() {
     assert_eq!(depot(&["sheet", "examples/small-depot.csv", "-o", &sheet], b"").status, 0);
     let from_input = depot(&["plan", "-"], &fs::read(&sheet).unwrap());
     same("host/tests/golden/plan-no-start.txt", &from_input.output);
-    let empty = depot(&["plan", "-"], &[0, 0, 0, 0, 0, 0, 1, 0]);
-    assert_eq!(
-        (empty.status, empty.text().as_str()),
-        (0, "-: 0 jobs on 1 module: nothing to plan; the plan ends at minute 0.\n")
-    );
+    for (changeover, said) in [(0, ""), (1, " with a changeover of 1 minute")] {
+        let empty = depot(&["plan", "-"], &[0, 0, 0, 0, 0, 0, 1, 0, changeover, 0]);
+        let said = format!("-: 0 jobs on 1 module{said}: nothing to plan; the plan ends at minute 0.\n");
+        assert_eq!((empty.status, empty.text()), (0, said));
+    }
 }
 
 /// A sheet without jobs, the longest sheet and labels full of markup are drawn too.
@@ -122,7 +122,16 @@ fn pictures_of_edges() {
     let header = "cabinet,64\nlabel,modules,minutes,after,departure,arrival\n";
     let markup = "\"<b>&\"\"'x'\",1,1,,0\n</title>,1,1,,0\n";
     let arriving = longest.replace(",2880", ",2880,1440");
-    for (name, rows) in [("none", ""), ("longest", longest.as_str()), ("markup", markup), ("arriving", &arriving)] {
+    let resting = format!("changeover,30\n{header}");
+    for (name, header, rows) in [
+        ("none", header, ""),
+        ("longest", header, longest.as_str()),
+        ("markup", header, markup),
+        ("arriving", header, &arriving),
+        ("none", &resting, ""),
+        ("resting", &resting, &longest),
+        ("resting and arriving", &resting, &arriving),
+    ] {
         let list = file(&format!("{name}.csv"), format!("{header}{rows}").as_bytes());
         let [svg, html] = ["svg", "html"].map(|kind| file(&format!("{name}.{kind}"), b""));
         let ran = depot(&["plan", &list, "--svg", &svg, "--html", &html], b"");
@@ -160,7 +169,8 @@ fn as_the_program_says(program: &Path) {
     let mut random = Random::new(12);
     for turn in 0..120 {
         let sheet = sheets::good(&mut random);
-        let bytes = if turn % 2 == 0 { sheet.bytes() } else { sheets::damaged(&mut random, sheet, &[turn % 9 + 1]) };
+        let check = sheets::CHECKS[turn / 2 % sheets::CHECKS.len()];
+        let bytes = if turn % 2 == 0 { sheet.bytes() } else { sheets::damaged(&mut random, sheet, &[check]) };
         let said = run(program, &[], &bytes);
         assert_eq!(depot(&["plan", "-", "--raw"], &bytes).output, said.output, "sheet {bytes:02x?}");
     }
@@ -181,6 +191,10 @@ fn sheets_and_lists() {
     let road = file("road.sheet", b"");
     assert_eq!(depot(&["sheet", "examples/on-the-road.csv", "-o", &road], b"").status, 0);
     golden("list-arrivals.csv", &["list", &road, "--start", "19:30"], 0);
+    let resting = file("resting.sheet", b"");
+    assert_eq!(depot(&["sheet", "examples/contactors.csv", "-o", &resting], b"").status, 0);
+    golden("list-changeover.csv", &["list", &resting, "--start", "20:45"], 0);
+    golden("list-changeover.json", &["list", &resting, "--json"], 0);
     let to_output = depot(&["sheet", "examples/mixed-night.csv", "-o", "-"], b"");
     assert_eq!(to_output.output, fs::read(&sheet).unwrap());
 }
@@ -258,6 +272,54 @@ fn arrivals_as_people_write_them() {
     assert_eq!(last[1 + 10..1 + 12], 1440u16.to_le_bytes());
 }
 
+/// A changeover in its line, in any place before the header; without the line it is 0.
+#[test]
+fn changeovers_as_people_write_them() {
+    let sheet = |lines: &str| {
+        let list = format!("{lines}label,modules,minutes,departure\nA,1,10,30\nB,2,20,25\n");
+        let ran = depot(&["sheet", &file("changeover.csv", list.as_bytes()), "-o", "-"], b"");
+        assert_eq!((ran.status, ran.errors.as_str()), (0, ""), "{lines}");
+        ran.output
+    };
+    let plain = sheet("cabinet,4\nchangeover,5\n");
+    assert_eq!(plain[plain.len() - 4..], [4, 0, 5, 0]);
+    for other in
+        ["changeover,5\ncabinet,4\n", "cabinet,4\nstart,21:00\nChangeover, 5 \n", "# a remark\ncabinet,4,,\nchangeover,5,,\n"]
+    {
+        assert_eq!(sheet(other), plain, "{other}");
+    }
+    let none = sheet("cabinet,4\n");
+    assert_eq!(none, sheet("cabinet,4\nchangeover,0\n"));
+    assert_eq!(none[none.len() - 4..], [4, 0, 0, 0]);
+    let most = sheet("cabinet,4\nchangeover,30\n");
+    assert_eq!(most[most.len() - 4..], [4, 0, 30, 0]);
+}
+
+/// Where the changeover is 0 nothing is said of it; where it is not, table, JSON, page and picture have it.
+#[test]
+fn modules_that_rest() {
+    let e1 = "cabinet,2\nlabel,modules,minutes,departure\nA,1,10,30\nB,2,20,25\nC,1,10,30\n";
+    let plan = |text: &str| {
+        let (list, svg, html) = (file("e1.csv", text.as_bytes()), file("e1.svg", b""), file("e1.html", b""));
+        let table = depot(&["plan", &list, "--svg", &svg, "--html", &html], b"").text();
+        let json = depot(&["plan", &list, "--json"], b"").text();
+        [table, json, fs::read_to_string(svg).unwrap(), fs::read_to_string(html).unwrap()]
+    };
+    let without = plan(e1);
+    assert_eq!(plan(&format!("changeover,0\n{e1}")), without);
+    let signs = ["rest", "free", "hand_back", "changeover"];
+    assert!(without.iter().all(|text| signs.iter().all(|sign| !text.contains(sign))), "{without:?}");
+    let [table, json, svg, html] = plan(&format!("changeover,5\n{e1}"));
+    assert!(table.contains("3 jobs on 2 modules with a changeover of 5 minutes. The last is full at minute 35"), "{table}");
+    assert!(json.contains("\"cabinet\": 2, \"changeover\": 5, ") && json.contains("\"end\": 10, \"hand_back\": 15, "), "{json}");
+    for drawn in [svg, html] {
+        // a tail for each of the three bars, and one in the legend
+        assert_eq!(drawn.matches("<rect class=\"rest\"").count(), 4);
+        assert!(drawn.contains("A: modules 0, 0:00 to 0:10, modules rest until 0:15, departs 0:30"), "{drawn}");
+        assert!(drawn.contains(">its modules rest<"));
+    }
+}
+
 /// A bus that starts only when another one has arrived, though there is room for it before, is named.
 #[test]
 fn buses_behind_one_on_the_road() {
@@ -333,5 +395,5 @@ fn output_that_nobody_reads_is_no_trouble() {
     let pipe = format!("'{}' explain | head -n 1", env!("CARGO_BIN_EXE_depot"));
     let ran = run(Path::new("/bin/sh"), &["-c", &pipe], b"");
     assert_eq!((ran.status, ran.errors.as_str()), (0, ""));
-    assert_eq!(ran.text(), " 1  the sheet has fewer than 8 or more than 568 bytes\n");
+    assert_eq!(ran.text(), " 1  the sheet has fewer than 10 or more than 570 bytes\n");
 }

@@ -89,7 +89,7 @@ fn chain(n: usize, last: Job) -> Vec<Job> {
 /// The parts of the sheet of these jobs.
 fn parts(jobs: Vec<Job>, modules: u16) -> Sheet {
     let length = jobs.iter().map(|job| usize::from(job.label_len)).sum();
-    Sheet { labels: vec![b'~'; length], offset: length as u32, count: jobs.len() as u16, modules, jobs }
+    Sheet { labels: vec![b'~'; length], offset: length as u32, count: jobs.len() as u16, modules, changeover: 0, jobs }
 }
 
 fn longest() -> Sheet {
@@ -99,12 +99,20 @@ fn longest() -> Sheet {
         arrival: 1440,
         ..job
     });
-    parts(longest_labels.collect(), 64)
+    Sheet { changeover: 30, ..parts(longest_labels.collect(), 64) }
 }
 
 /// Sheets at the edges of what reading and planning check.
 fn edge_sheets() -> Vec<Vec<u8>> {
     let mut sheets: Vec<Sheet> = around(1, 64, 65535).iter().map(|modules| parts(vec![], *modules as u16)).collect();
+    for changeover in around(0, 30, 65535).into_iter().map(|minutes| minutes as u16) {
+        sheets.push(Sheet { changeover, ..parts(vec![], 1) });
+        sheets.push(Sheet { changeover, ..parts(chain(MOST_JOBS, PLAIN), 64) });
+        // 3 comes before 19, and 19 before 4 and 5
+        sheets.push(Sheet { changeover, ..parts(vec![PLAIN], 65) });
+        sheets.push(Sheet { changeover, offset: 2, ..parts(vec![PLAIN], 1) });
+        sheets.push(Sheet { changeover, ..parts(vec![Job { minutes: 0, ..PLAIN }], 1) });
+    }
     for n in [1, MOST_JOBS] {
         sheets.extend(edge_jobs(n as u32).iter().map(|job| parts(chain(n, *job), 64)));
     }
@@ -123,14 +131,14 @@ fn edge_sheets() -> Vec<Vec<u8>> {
     for count in [0, 1, 2, 20, 21, 65535] {
         sheets.push(Sheet { count, ..parts(vec![PLAIN], 1) });
     }
-    for offset in [0, 1, 2, u32::MAX - 17, u32::MAX] {
+    for offset in [0, 1, 2, u32::MAX - 21, u32::MAX] {
         sheets.push(Sheet { offset, ..parts(vec![PLAIN], 1) });
     }
     sheets.push(parts(chain(MOST_JOBS + 1, PLAIN), 64));
     sheets.push(longest());
     let mut bytes: Vec<Vec<u8>> = sheets.iter().map(Sheet::bytes).collect();
     assert!(bytes.iter().any(|sheet| sheet.len() == LONGEST_SHEET));
-    for length in [0, 1, 7, 8, 9, LONGEST_SHEET - 1, LONGEST_SHEET, LONGEST_SHEET + 1, 1 << 16] {
+    for length in [0, 1, 9, 10, 11, LONGEST_SHEET - 1, LONGEST_SHEET, LONGEST_SHEET + 1, 1 << 16] {
         bytes.push(vec![0; length]);
         bytes.push([vec![b'~'; length], longest().bytes()].concat());
     }
@@ -170,12 +178,13 @@ fn reading() {
         assert_eq!(answer.refusal, refusal(&expected), "sheet {sheet:02x?}");
         assert_eq!(answer.count, expected.as_ref().map_or(0, |sheet| sheet.jobs.len()));
         assert_eq!(usize::from(answer.modules), expected.as_ref().map_or(0, |sheet| sheet.modules));
+        assert_eq!(u32::from(answer.changeover), expected.as_ref().map_or(0, |sheet| sheet.changeover));
         assert!(lent.has(&sheet));
         // what was read writes the same sheet; what was refused has no jobs
         let (jobs, behind) = answer.jobs.split_at(answer.count);
         if expected.is_ok() {
-            let labels = &sheet[..sheet.len() - 12 * jobs.len() - 8];
-            assert_eq!(reference::writing::write(jobs, labels, answer.modules, sheet.len()), Ok(sheet));
+            let labels = &sheet[..sheet.len() - 12 * jobs.len() - 10];
+            assert_eq!(reference::writing::write(jobs, labels, answer.modules, answer.changeover, sheet.len()), Ok(sheet));
         }
         assert!(behind.iter().all(|job| *job == Job::default()));
     }
@@ -197,14 +206,15 @@ fn labels() {
     }
 }
 
-fn write_and_compare(jobs: &[Job], labels: &[u8], modules: u16, room: usize) {
+fn write_and_compare(jobs: &[Job], labels: &[u8], modules: u16, changeover: u16, room: usize) {
     let out = Lent::painted(room);
     // SAFETY: a buffer of its own, and two slices that are read.
-    let answer =
-        unsafe { ffi::depot_write(jobs.as_ptr(), jobs.len(), labels.as_ptr(), labels.len(), modules, out.at(), out.len()) };
-    let expected = reference::writing::write(jobs, labels, modules, room);
+    let answer = unsafe {
+        ffi::depot_write(jobs.as_ptr(), jobs.len(), labels.as_ptr(), labels.len(), modules, changeover, out.at(), out.len())
+    };
+    let expected = reference::writing::write(jobs, labels, modules, changeover, room);
     let written = expected.as_deref().unwrap_or(&[]);
-    let about = || format!("{jobs:?}, {} label bytes, modules {modules}, room {room}", labels.len());
+    let about = || format!("{jobs:?}, {} label bytes, modules {modules}, changeover {changeover}, room {room}", labels.len());
     assert_eq!(answer, ffi::Written { refusal: refusal(&expected), length: written.len() }, "{}", about());
     assert!(out.has(written), "{}", about());
 }
@@ -217,17 +227,22 @@ fn writing() {
     }
     for jobs in lists {
         let whole: usize = jobs.iter().map(|job| usize::from(job.label_len)).sum();
-        let length = whole + 12 * jobs.len() + 8;
+        let length = whole + 12 * jobs.len() + 10;
         for labels in [0, whole.saturating_sub(1), whole, whole + 1] {
             for modules in around(1, 64, 65535) {
-                for room in [0, 7, length - 1, length, length + 1, LONGEST_SHEET] {
-                    write_and_compare(&jobs, &vec![b'!'; labels], modules as u16, room);
+                for room in [0, 9, length - 1, length, length + 1, LONGEST_SHEET] {
+                    for changeover in [0, 30, 31] {
+                        write_and_compare(&jobs, &vec![b'!'; labels], modules as u16, changeover, room);
+                    }
                 }
             }
         }
     }
     for byte in [0, 32, 33, 126, 127, 255] {
-        write_and_compare(&[PLAIN], &[byte], 1, LONGEST_SHEET);
+        write_and_compare(&[PLAIN], &[byte], 1, 0, LONGEST_SHEET);
+    }
+    for changeover in around(0, 30, 65535) {
+        write_and_compare(&[PLAIN], b"A", 1, changeover as u16, LONGEST_SHEET);
     }
 }
 
@@ -345,16 +360,16 @@ fn claims_hand_backs_and_looks() {
 #[test]
 fn empty_buffers_may_have_any_pointer() {
     let mut desk = Desk::default();
-    let mut sheet = [0; 8];
+    let mut sheet = [0; 10];
     // SAFETY: buffers of no elements, beside a live desk and a live sheet.
     unsafe {
         assert_eq!(ffi::depot_plan(null_mut(), 0, null_mut(), 0, null_mut(), 0), 1);
         assert_eq!(ffi::depot_read(null_mut(), 0).refusal, 1);
         assert_eq!(ffi::depot_label(null_mut(), 0, 0).refusal, 1);
-        assert_eq!(ffi::depot_write(null_mut(), 0, null_mut(), 0, 1, null_mut(), 0).refusal, 10);
-        assert_eq!(ffi::depot_write(null_mut(), 0, null_mut(), 0, 1, sheet.as_mut_ptr(), 8).length, 8);
+        assert_eq!(ffi::depot_write(null_mut(), 0, null_mut(), 0, 1, 7, null_mut(), 0).refusal, 10);
+        assert_eq!(ffi::depot_write(null_mut(), 0, null_mut(), 0, 1, 7, sheet.as_mut_ptr(), 10).length, 10);
         assert_eq!(ffi::depot_desk_open(&mut desk, 1, null_mut(), 0, null_mut(), 0), 11);
         assert_eq!(ffi::depot_desk_change(&mut desk, 1, null_mut(), 0, null_mut(), 0), 14);
     }
-    assert_eq!(sheet, [0, 0, 0, 0, 0, 0, 1, 0]);
+    assert_eq!(sheet, [0, 0, 0, 0, 0, 0, 1, 0, 7, 0]);
 }

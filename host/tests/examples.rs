@@ -9,9 +9,14 @@ fn job(modules: u8, minutes: u16, earlier: u32) -> Job {
 
 /// The end and the order on the card of these jobs.
 fn planned(modules: u16, jobs: Vec<Job>) -> Result<(u16, Vec<u8>), Refusal> {
+    resting(modules, 0, jobs)
+}
+
+/// The same where modules rest between two jobs.
+fn resting(modules: u16, changeover: u16, jobs: Vec<Job>) -> Result<(u16, Vec<u8>), Refusal> {
     let n = jobs.len();
     let mut card = vec![0; card_length(n)];
-    plan(&Sheet::of(modules, jobs).bytes(), &mut card, &mut [0; 4096])?;
+    plan(&Sheet { changeover, ..Sheet::of(modules, jobs) }.bytes(), &mut card, &mut [0; 4096])?;
     Ok((u16::from_le_bytes([card[13 * n + 4], card[13 * n + 5]]), card[12 * n..13 * n].to_vec()))
 }
 
@@ -20,7 +25,7 @@ fn e1() {
     let sheet = [
         0x41, 0x42, 0x43, 0x01, 0x01, 0x0A, 0x00, 0x00, 0x00, 0x00, 0x00, 0x1E, 0x00, 0x00, 0x00, 0x01, 0x02, 0x14, 0x00, 0x00,
         0x00, 0x00, 0x00, 0x19, 0x00, 0x00, 0x00, 0x01, 0x01, 0x0A, 0x00, 0x00, 0x00, 0x00, 0x00, 0x1E, 0x00, 0x00, 0x00, 0x03,
-        0x00, 0x00, 0x00, 0x03, 0x00, 0x02, 0x00,
+        0x00, 0x00, 0x00, 0x03, 0x00, 0x02, 0x00, 0x00, 0x00,
     ];
     let mut card = [0xEE; 48];
     assert_eq!(plan(&sheet, &mut card, &mut []), Ok(()));
@@ -103,11 +108,43 @@ fn e1_with_a_on_the_road() {
     assert_eq!(card[36..], [1, 0, 2, 36, 0, 0, 0, 35, 0, 3, 0]);
 }
 
-/// The longest sheet, of 568 bytes, plans; with a byte more it is too long.
+/// E1 with modules that rest for 5 minutes: B starts when those of A and C have rested.
+#[test]
+fn e1_with_a_changeover() {
+    let mut card = [0; card_length(3)];
+    let jobs = vec![job(1, 10, 0), job(2, 20, 0), job(1, 10, 0)];
+    let sheet = Sheet { changeover: 5, ..Sheet::of(2, jobs) };
+    assert_eq!(plan(&sheet.bytes(), &mut card, &mut []), Ok(()));
+    let rows =
+        [[0, 0, 10, 0, 1, 0, 0, 0, 0, 0, 0, 0], [15, 0, 35, 0, 3, 0, 0, 0, 0, 0, 0, 0], [0, 0, 10, 0, 2, 0, 0, 0, 0, 0, 0, 0]];
+    assert_eq!(card[..36], rows.concat());
+    assert_eq!(card[36..], [0, 2, 1, 36, 0, 0, 0, 35, 0, 3, 0]);
+}
+
+/// Neither before the first job nor behind the last of a module is there a rest, and a wait on an earlier job has none.
+#[test]
+fn where_modules_do_not_rest() {
+    assert_eq!(resting(1, 30, vec![job(1, 10, 0)]), Ok((10, vec![0])));
+    assert_eq!(resting(2, 30, vec![job(1, 10, 0), job(1, 20, 1)]), Ok((30, vec![0, 1])));
+    assert_eq!(resting(1, 30, vec![job(1, 10, 0), job(1, 20, 1)]), Ok((60, vec![0, 1])));
+    assert_eq!(resting(1, 30, vec![job(1, 10, 0), job(1, 20, 0)]), Ok((60, vec![0, 1])));
+}
+
+#[test]
+fn edges_of_the_changeover() {
+    assert_eq!(resting(1, 31, vec![job(1, 10, 0)]), Err(Refusal::Changeover));
+    assert_eq!(resting(65, 31, vec![job(1, 10, 0)]), Err(Refusal::CabinetSize));
+    assert_eq!(resting(1, 31, vec![job(1, 0, 0)]), Err(Refusal::Changeover));
+    let late = (0..20).map(|j| arriving(1440, job(1, 1440, (1 << j) >> 1))).collect();
+    assert_eq!(resting(1, 30, late), Ok((30_810, (0..20).collect())));
+}
+
+/// The longest sheet, of 570 bytes, plans; with a byte more it is too long.
 #[test]
 fn longest_sheet() {
     let long_label = Job { label_len: 16, ..job(1, 1, 0) };
-    let mut sheet = Sheet { labels: vec![b'~'; 320], jobs: vec![long_label; 20], offset: 320, count: 20, modules: 64 };
+    let labels = vec![b'~'; 320];
+    let mut sheet = Sheet { labels, jobs: vec![long_label; 20], offset: 320, count: 20, modules: 64, changeover: 30 };
     let mut card = [0; card_length(20)];
     assert_eq!(sheet.bytes().len(), LONGEST_SHEET);
     assert_eq!(plan(&sheet.bytes(), &mut card, &mut []), Ok(()));

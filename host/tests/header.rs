@@ -231,7 +231,7 @@ fn refusals_agree() {
         let name: String = format!("{refusal:?}").chars().map(in_capitals).collect();
         expected.push((format!("DEPOT{name}"), refusal.number().to_string()));
     }
-    assert_eq!(expected.len(), 21);
+    assert_eq!(expected.len(), 22);
     assert_eq!(declared, expected);
 }
 

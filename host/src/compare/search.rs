@@ -91,7 +91,8 @@ fn compare_every_order(random: &mut Random, sheet: Sheet, all: &[(&str, Rules)],
     let mut card = vec![0; card_length(sheet.jobs.len())];
     plan(&bytes, &mut card, &mut work).unwrap_or_else(|refusal| panic!("{}: {refusal}", about()));
     assert_eq!(card, best.card(), "{}, memory {}", about(), work.len());
-    let tables = Tables::of(&List { name: String::new(), modules: sheet.modules, changeover: sheet.changeover, jobs: sheet.jobs });
+    let tables =
+        Tables::of(&List { name: String::new(), modules: sheet.modules, changeover: sheet.changeover, jobs: sheet.jobs });
     for (left_out, rules) in all {
         let found = found(run_with(&tables, &mut work, rules));
         let order: Vec<usize> = found.order.iter().map(|job| usize::from(*job)).collect();

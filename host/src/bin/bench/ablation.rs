@@ -23,9 +23,9 @@ pub fn measure(options: &Options) {
     }
 }
 
-/// The group with the rules that look at arrivals, and with each of them left out.
-pub fn of_arrivals(group: &Group, memory: usize, limit: u64) {
-    print_table(group, memory, limit, &rows(&Rules::each_of_arrivals_left_out(), group, memory, limit));
+/// The group with all rules, and with each of these left out.
+pub fn of_rules(left_out: &[(&'static str, Rules)], group: &Group, memory: usize, limit: u64) {
+    print_table(group, memory, limit, &rows(left_out, group, memory, limit));
 }
 
 /// All rules first, then each left out.

@@ -35,6 +35,7 @@ fn main() {
         match part {
             Part::Plans => planning::measure(&options),
             Part::Arrivals => planning::measure_arrivals(&options),
+            Part::Changeovers => planning::measure_changeovers(&options),
             Part::Ablation => ablation::measure(&options),
             Part::Gecode => gecode::measure(&options),
             Part::Stack => stack_need::measure(),

@@ -9,6 +9,7 @@ use std::time::Duration;
 pub enum Part {
     Plans,
     Arrivals,
+    Changeovers,
     Ablation,
     Gecode,
     Stack,
@@ -27,6 +28,8 @@ pub struct Options {
     pub groups: Vec<Group>,
     /// Those whose jobs arrive later.
     pub arriving: Vec<Group>,
+    /// Those whose modules rest between two jobs.
+    pub resting: Vec<Group>,
     memory: Option<Vec<usize>>,
     pub cutoff: Duration,
     pub limit: u64,
@@ -35,11 +38,12 @@ pub struct Options {
     pub svg: Option<String>,
 }
 
-/// Sizes and seed of the lists where none are asked for; those with arrivals have a seed on which nothing was tuned.
+/// Sizes and seed of the lists where none are asked for; those with arrivals or a changeover have a seed on which nothing was tuned.
 const SIZES: [usize; 2] = [10, 12];
 const SEED: u64 = 1;
-const ARRIVING_SIZES: [usize; 3] = [14, 16, 20];
-const ARRIVING_SEED: u64 = 8_117;
+const FRESH_SIZES: [usize; 3] = [14, 16, 20];
+const FRESH_SEED: u64 = 8_117;
+const CHANGEOVERS: [u16; 2] = [5, 10];
 
 /// What is read before the lists are made.
 struct Asked {
@@ -47,6 +51,7 @@ struct Asked {
     family: String,
     seed: Option<u64>,
     file: Option<String>,
+    changeovers: Vec<u16>,
 }
 
 impl Options {
@@ -56,6 +61,7 @@ impl Options {
             parts: Vec::new(),
             groups: Vec::new(),
             arriving: Vec::new(),
+            resting: Vec::new(),
             memory: None,
             cutoff: Duration::from_secs(1),
             limit: 300_000,
@@ -63,13 +69,14 @@ impl Options {
             bare: false,
             svg: None,
         };
-        let mut asked = Asked { sizes: None, family: String::new(), seed: None, file: None };
+        let mut asked = Asked { sizes: None, family: String::new(), seed: None, file: None, changeovers: CHANGEOVERS.to_vec() };
         let mut words = words.iter();
         while let Some(word) = words.next() {
             let mut value = || words.next().ok_or(format!("{word} needs a value"));
             match word.as_str() {
                 "plans" => options.parts.push(Part::Plans),
                 "arrivals" => options.parts.push(Part::Arrivals),
+                "changeovers" => options.parts.push(Part::Changeovers),
                 "ablation" => options.parts.push(Part::Ablation),
                 "gecode" => options.parts.push(Part::Gecode),
                 "stack" => options.parts.push(Part::Stack),
@@ -78,6 +85,7 @@ impl Options {
                 "--sizes" => asked.sizes = Some(numbers(value()?, size)?),
                 "--family" => asked.family = value()?.clone(),
                 "--seed" => asked.seed = Some(value()?.parse().map_err(|_| "--seed takes a number")?),
+                "--changeovers" => asked.changeovers = numbers(value()?, minutes)?,
                 "--lists" => asked.file = Some(value()?.clone()),
                 "--memory" => options.memory = Some(numbers(value()?, units::bytes)?),
                 "--cutoff" => options.cutoff = seconds(value()?).ok_or("--cutoff takes seconds above 0")?,
@@ -101,6 +109,9 @@ impl Options {
         }
         if options.parts.contains(&Part::Arrivals) {
             options.arriving = asked.arriving()?;
+        }
+        if options.parts.contains(&Part::Changeovers) {
+            options.resting = asked.resting()?;
         }
         Ok(Some(options))
     }
@@ -131,17 +142,32 @@ impl Asked {
             return Ok(vec![self.of_file(file)?]);
         }
         let families = self.families()?;
-        let seed = self.seed.unwrap_or(ARRIVING_SEED);
+        let seed = self.seed.unwrap_or(FRESH_SEED);
         let group = |arrivals: Arrivals, n: usize| {
             let lists = families.iter().map(|family| family.arriving(seed, n, arrivals)).collect();
             Group { name: format!("{}, n = {n}", arrivals.name()), lists }
         };
-        let sizes = self.sizes.clone().unwrap_or(ARRIVING_SIZES.to_vec());
+        let sizes = self.sizes.clone().unwrap_or(FRESH_SIZES.to_vec());
         Ok(Arrivals::ALL
             .into_iter()
             .flat_map(|arrivals| sizes.iter().map(move |n| (arrivals, *n)))
             .map(|(a, n)| group(a, n))
             .collect())
+    }
+
+    /// Lists with each of the changeovers; those of a file have their own.
+    fn resting(&self) -> Result<Vec<Group>, String> {
+        if let Some(file) = &self.file {
+            return Ok(vec![self.of_file(file)?]);
+        }
+        let families = self.families()?;
+        let seed = self.seed.unwrap_or(FRESH_SEED);
+        let sizes = self.sizes.clone().unwrap_or(FRESH_SIZES.to_vec());
+        let group = |(changeover, n): (u16, usize)| {
+            let lists = families.iter().map(|family| family.list(seed, n).resting(changeover)).collect();
+            Group { name: format!("rest {changeover}, n = {n}"), lists }
+        };
+        Ok(self.changeovers.iter().flat_map(|changeover| sizes.iter().map(|n| (*changeover, *n))).map(group).collect())
     }
 
     fn has_family(&self, name: &str) -> bool {
@@ -164,12 +190,16 @@ impl Asked {
     }
 }
 
-fn numbers(words: &str, one: fn(&str) -> Option<usize>) -> Result<Vec<usize>, String> {
+fn numbers<T>(words: &str, one: fn(&str) -> Option<T>) -> Result<Vec<T>, String> {
     words.split(',').map(|word| one(word).ok_or(format!("'{word}' is out of place"))).collect()
 }
 
 fn size(word: &str) -> Option<usize> {
     word.parse().ok().filter(|n| (1..=depot_host::MOST_JOBS).contains(n))
+}
+
+fn minutes(word: &str) -> Option<u16> {
+    word.parse().ok().filter(|minutes| (0..=30).contains(minutes))
 }
 
 fn seconds(word: &str) -> Option<Duration> {

@@ -5,6 +5,7 @@ use crate::options::{Group, Options};
 use crate::picture::{self, Line, Panel};
 use crate::times::{Times, HEADS};
 use depot_host::lists::List;
+use depot_host::plain_search::Rules;
 use depot_host::units::in_bytes;
 use std::fs;
 use std::time::Duration;
@@ -19,15 +20,22 @@ struct Solved {
 
 /// Lists whose jobs arrive later: the library beside the plain search, and that with the rules that look at arrivals left out.
 pub fn measure_arrivals(options: &Options) {
+    measure_rules(&options.arriving, &Rules::each_of_arrivals_left_out(), options);
+}
+
+/// The same of lists whose modules rest between two jobs, and of the rules that look at the changeover.
+pub fn measure_changeovers(options: &Options) {
+    measure_rules(&options.resting, &Rules::each_of_changeovers_left_out(), options);
+}
+
+fn measure_rules(groups: &[Group], left_out: &[(&'static str, Rules)], options: &Options) {
+    let with_each_memory = |measure: &dyn Fn(&Group, usize)| {
+        let memory = options.memory_or(&[1 << 20]);
+        groups.iter().for_each(|group| memory.iter().for_each(|bytes| measure(group, *bytes)));
+    };
     print_heads(options);
-    for group in &options.arriving {
-        for memory in options.memory_or(&[1 << 20]) {
-            measure_with(group, memory, options);
-        }
-    }
-    for group in &options.arriving {
-        options.memory_or(&[1 << 20]).into_iter().for_each(|memory| ablation::of_arrivals(group, memory, options.limit));
-    }
+    with_each_memory(&|group, memory| drop(measure_with(group, memory, options)));
+    with_each_memory(&|group, memory| ablation::of_rules(left_out, group, memory, options.limit));
 }
 
 fn print_heads(options: &Options) {
@@ -35,7 +43,7 @@ fn print_heads(options: &Options) {
         "planning, cut-off {} s; times in seconds of the processor, 'rate' in millions of part-plans a second",
         options.cutoff.as_secs_f64()
     );
-    println!("{:14} {:>7} {HEADS} {:>14} {:>6} {:>7}", "lists", "memory", "part-plans", "rate", "/plain");
+    println!("{:15} {:>7} {HEADS} {:>14} {:>6} {:>7}", "lists", "memory", "part-plans", "rate", "/plain");
 }
 
 pub fn measure(options: &Options) {
@@ -104,7 +112,7 @@ fn print_line(group: &Group, memory: usize, runs: &[Option<Solved>], cutoff: Dur
     let library: f64 = both.iter().map(|(library, _)| library.seconds).sum();
     let plain: f64 = both.iter().map(|(_, plain)| plain.seconds).sum();
     println!(
-        "{:14} {:>7} {} {visited:>14} {:>6.2} {:>7.2}",
+        "{:15} {:>7} {} {visited:>14} {:>6.2} {:>7.2}",
         group.name,
         in_bytes(memory),
         times(runs, cutoff),

@@ -6,23 +6,26 @@ usage: bench [PART..] [OPTION..]
 parts; plans, stack, sheets and desk where none is named:
   plans            planning, a line for each size and working memory
   arrivals         planning of lists whose jobs arrive later, in waves and one by one, and what each rule that looks at arrivals pays
+  changeovers      planning of lists whose modules rest between two jobs, and what each rule that looks at the changeover pays
   ablation         what each rule of the search pays: the search in plain Rust with one rule left out
   gecode           the earliest end by MiniZinc's solver Gecode beside planning, where minizinc is installed
   stack            the stack that each call needs, planning at 20 jobs
   sheets           reading, labels and writing of the longest sheet
   desk             the desk's calls
 
-options of plans, arrivals, ablation and gecode:
-  --sizes N,N..    sizes of the lists (10,12; arrivals 14,16,20)
+options of plans, arrivals, changeovers, ablation and gecode:
+  --sizes N,N..    sizes of the lists (10,12; arrivals and changeovers 14,16,20)
   --family WORD    only families whose name has this word
-  --seed NUMBER    seed of the lists (1; arrivals 8117)
-  --lists FILE     lists from a file instead: 'name n N', then n lines 'modules minutes earlier-jobs-in-hexadecimal arrival', of which
-                   the arrival may be left out
+  --seed NUMBER    seed of the lists (1; arrivals and changeovers 8117)
+  --changeovers C,C..
+                   changeovers: the minutes that a module rests (5,10)
+  --lists FILE     lists from a file instead: 'name n N changeover', then n lines 'modules minutes earlier-jobs-in-hexadecimal arrival',
+                   of which changeover and arrival may be left out
   --memory B,B..   lengths of the working memory, in bytes or with K or M (plans 0,4K,64K,1M,16M; the others 1M)
-  --cutoff S       plans, arrivals, gecode: processor seconds until a call is given up (1)
-  --limit N        arrivals, ablation: part-plans until a search is given up (300000)
+  --cutoff S       plans, arrivals, changeovers, gecode: processor seconds until a call is given up (1)
+  --limit N        arrivals, changeovers, ablation: part-plans until a search is given up (300000)
   --full           sizes 10,12,14,16,20
-  --each           plans, arrivals, gecode: a line for each list too
+  --each           plans, arrivals, changeovers, gecode: a line for each list too
   --bare           plans: the library is one without rules (tests/bare_search.py), and so is the plain search beside it
   --svg FILE       plans: a picture too, the share of the lists that are solved within a time
 ";

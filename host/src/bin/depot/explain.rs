@@ -12,7 +12,7 @@ const READING: &str = "reading, labels, planning";
 const READING_AND_WRITING: &str = "reading, labels, planning, writing";
 
 /// Which calls refuse with each number, and what to do, in the order of the numbers.
-const TO_DO: [(Refusal, &str, &str); 20] = [
+const TO_DO: [(Refusal, &str, &str); 21] = [
     (Refusal::SheetLength, READING, "The file is no job sheet, or it was cut off or joined with another. Make it again: 'depot sheet LIST.csv -o FILE'."),
     (Refusal::TooManyJobs, READING_AND_WRITING, "Split the list: a cabinet plans up to 20 charges at a time."),
     (Refusal::CabinetSize, READING_AND_WRITING, "Put the number of the cabinet's modules, 1 to 64, into the line 'cabinet,N' of the list."),
@@ -27,7 +27,7 @@ const TO_DO: [(Refusal, &str, &str); 20] = [
     (Refusal::LabelByte, READING_AND_WRITING, "Write labels in plain letters, digits and signs, without accents, and with spaces inside alone."),
     (Refusal::OverWide, "planning", "Give the job fewer modules, or plan it on a larger cabinet: as it stands it has no plan. 'depot plan' names the job."),
     (Refusal::Circular, "planning", "Take one 'after' out of the circle: as it stands no job of it can start. 'depot plan' names a circle."),
-    (Refusal::BufferTooShort, "planning, writing", "A fault of the calling program: lend 13 bytes for each job and 8 for a card, 568 for every sheet."),
+    (Refusal::BufferTooShort, "planning, writing", "A fault of the calling program: lend 13 bytes for each job and 8 for a card, 570 for every sheet."),
     (Refusal::ListLengths, "opening, changes", "Give 2 to 8 controllers, each with a share and a ceiling; in a change as many as the desk has."),
     (Refusal::DeskFigures, "opening, changes", "Choose a limit of 0.1 to 40,000 kW, ceilings within it, and for each controller a share within its ceiling."),
     (Refusal::SharesExceedLimit, "opening, changes", "Lower the shares until they add up to the limit or less: what is assured must fit on the feeder at once."),
@@ -46,6 +46,12 @@ const TO_DO: [(Refusal, &str, &str); 20] = [
          Look for the figure.",
     ),
     (Refusal::ExceedsHolding, "hand-backs", "Hand back no more than the controller holds: 'show' has the figure."),
+    (
+        Refusal::Changeover,
+        READING_AND_WRITING,
+        "Put the minutes that a module rests between two jobs, 0 to 30, into the line 'changeover,C' of the list, or leave the line out \
+         where modules need no rest. A sheet of a program that knows no changeover has two bytes too few: make it again from the list.",
+    ),
     (
         Refusal::HoldingAboveCeiling,
         "changes",

@@ -22,6 +22,7 @@ const LIST_FORMAT: &str = "
 A list is a text with a line for each job:
 
   cabinet,16                                      the modules in the cabinet, 1 to 64
+  changeover,5                                    the minutes that a module rests between two jobs, 0 to 30; 0 where it is left out
   start,21:00                                     the plan's start as a time of day; may be left out
   label,modules,minutes,after,departure,arrival   the header; the columns may stand in any order
   B101,4,120,,05:30                               a job
@@ -101,7 +102,7 @@ Exit status: 0 every call was answered; 1 some call was refused; 2 some line is 
 const EXPLAIN: &str = "\
 usage: depot explain [N] [--json]
 
-What refusal N, 1 to 18, 21 or 22, means, which calls refuse with it, and what to do. Without N, all of them in a line each.
+What refusal N, 1 to 19, 21 or 22, means, which calls refuse with it, and what to do. Without N, all of them in a line each.
 ";
 
 /// Whether help is asked for among these words.

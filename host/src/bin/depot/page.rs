@@ -21,8 +21,8 @@ footer{font-size:13px;margin-top:14px}\
 
 pub fn text(plan: &Planned) -> String {
     let title = escaped(&format!("{}: charging plan", plan.name));
-    let light = chart::page_rules(&chart::LIGHT);
-    let dark = chart::page_rules(&chart::DARK);
+    let light = chart::page_rules(plan, &chart::LIGHT);
+    let dark = chart::page_rules(plan, &chart::DARK);
     let order: Vec<&str> = plan.order.iter().map(|job| plan.jobs[usize::from(*job)].label.as_str()).collect();
     let notes = road::notes(plan).join(" ");
     format!(

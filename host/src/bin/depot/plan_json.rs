@@ -11,6 +11,9 @@ pub fn text(plan: &Planned) -> String {
         ("order", json::numbers(&plan.order)),
         ("jobs", json::list(jobs)),
     ];
+    if plan.has_rests() {
+        members.insert(3, ("changeover", plan.changeover.to_string()));
+    }
     if !plan.has_start {
         members.remove(1);
     }
@@ -33,10 +36,16 @@ fn job(plan: &Planned, number: usize, planned: &PlannedJob) -> String {
         ("arrival", job.arrival.to_string()),
         ("lateness", planned.lateness().to_string()),
     ];
+    if plan.has_rests() {
+        members.insert(5, ("hand_back", plan.free_from(planned).to_string()));
+    }
     if plan.has_start {
         let times =
             [("start_time", row.start), ("end_time", row.end), ("departure_time", job.departure), ("arrival_time", job.arrival)];
         members.extend(times.map(|(name, minute)| (name, time(plan, minute))));
+        if plan.has_rests() {
+            members.push(("hand_back_time", time(plan, plan.free_from(planned))));
+        }
     }
     json::object(&members)
 }

@@ -59,7 +59,8 @@ pub struct Column {
     pub right: bool,
 }
 
-/// The columns of the table; the last is the lateness. Arrivals have theirs where some bus is still on the road at the start.
+/// The columns of the table; the last is the lateness. Arrivals have theirs where some bus is still on the road at the start, and the
+/// minutes from which on modules are free again where they rest.
 pub fn columns(plan: &Planned) -> Vec<Column> {
     let column = |head: &str, right: bool, cell: &dyn Fn(usize, &PlannedJob) -> String| {
         let cells = plan.jobs.iter().enumerate().map(|(number, job)| cell(number, job));
@@ -80,6 +81,9 @@ pub fn columns(plan: &Planned) -> Vec<Column> {
     }
     columns.extend(moment("start", &|job| job.row.start));
     columns.extend(moment("end", &|job| job.row.end));
+    if plan.has_rests() {
+        columns.extend(moment("free", &|job| plan.free_from(job)));
+    }
     columns.extend(moment("departs", &|job| job.job.departure));
     columns.push(column("lateness", true, &|_, job| lateness_in_words(job.lateness())));
     columns

@@ -64,6 +64,8 @@ impl PlannedJob {
 pub struct Planned {
     pub name: String,
     pub modules: u16,
+    /// The minutes that a module rests between two jobs.
+    pub changeover: u16,
     pub jobs: Vec<PlannedJob>,
     pub order: Vec<u8>,
     pub end: u16,
@@ -80,6 +82,7 @@ impl Planned {
         Planned {
             name: yard.name.rsplit('/').next().unwrap_or(&yard.name).into(),
             modules: reading.modules,
+            changeover: reading.changeover,
             jobs: parts.map(|((label, job), row)| PlannedJob { label, job, row }).collect(),
             order: card.order,
             end: card.end,
@@ -101,10 +104,25 @@ impl Planned {
         self.on_the_road().next().is_some()
     }
 
+    /// Whether modules rest between two jobs.
+    pub fn has_rests(&self) -> bool {
+        self.changeover > 0
+    }
+
+    /// The minute from which on the job's modules serve others: then they have rested and are handed back.
+    pub fn free_from(&self, job: &PlannedJob) -> u16 {
+        job.row.end + self.changeover
+    }
+
     /// How many of what, in words.
     pub fn size(&self) -> String {
         let plural = |count: usize, one: &str| format!("{count} {one}{}", if count == 1 { "" } else { "s" });
-        format!("{} on {}", plural(self.jobs.len(), "job"), plural(self.modules.into(), "module"))
+        let rests = if self.has_rests() {
+            format!(" with a changeover of {}", plural(self.changeover.into(), "minute"))
+        } else {
+            String::new()
+        };
+        format!("{} on {}{rests}", plural(self.jobs.len(), "job"), plural(self.modules.into(), "module"))
     }
 
     /// The plan's end, in words.

@@ -59,15 +59,15 @@ fn held(plan: &Planned) -> Vec<Held> {
 }
 
 /// The first minute from which on, up to its start, the job has arrived, those that it waits for have ended, and as many modules as it
-/// needs are free beside all other jobs of the plan. There it could start and no other job would have to move.
+/// needs are free, and rested, beside all other jobs of the plan. There it could start and no other job would have to move.
 fn room_from(plan: &Planned, job: usize) -> u16 {
     let PlannedJob { job: figures, row, .. } = &plan.jobs[job];
     let others = || plan.jobs.iter().enumerate().filter(|(other, _)| *other != job).map(|(_, other)| other);
     let ended = plan.jobs.iter().enumerate().filter(|(i, _)| figures.earlier >> i & 1 == 1).map(|(_, other)| other.row.end).max();
     let first = figures.arrival.max(ended.unwrap_or(0));
     let has_room = |minute: &u16| {
-        let running = others().filter(|other| other.row.start <= *minute && *minute < other.row.end);
-        let held: u16 = running.map(|other| u16::from(other.job.modules)).sum();
+        let keeping = others().filter(|other| other.row.start <= *minute && *minute < plan.free_from(other));
+        let held: u16 = keeping.map(|other| u16::from(other.job.modules)).sum();
         held + u16::from(figures.modules) <= plan.modules
     };
     (first..row.start).rev().take_while(has_room).last().unwrap_or(row.start)
@@ -89,6 +89,7 @@ mod tests {
         Planned {
             name: String::new(),
             modules: 2,
+            changeover: 0,
             jobs: jobs.iter().enumerate().map(job).collect(),
             order: order.to_vec(),
             end: 35,
@@ -103,6 +104,15 @@ mod tests {
         let plan = plan(&[1, 0, 2], &[(1, 10, 25, 25, 1), (2, 20, 0, 0, 3), (1, 10, 0, 25, 2)]);
         assert_eq!(held(&plan), [Held { job: 2, behind: 0, room_from: 20 }]);
         assert_eq!(notes(&plan)[0], "C starts at minute 25, when A arrives, though there is room for it from minute 20 on.");
+    }
+
+    /// The same with modules that rest for 3 minutes, and for 5.
+    #[test]
+    fn modules_that_rest_leave_less_room() {
+        let jobs = [(1, 10, 25, 25, 1), (2, 20, 0, 0, 3), (1, 10, 0, 25, 2)];
+        let resting = |changeover| Planned { changeover, ..plan(&[1, 0, 2], &jobs) };
+        assert_eq!(held(&resting(3)), [Held { job: 2, behind: 0, room_from: 23 }]);
+        assert_eq!(held(&resting(5)), []);
     }
 
     #[test]

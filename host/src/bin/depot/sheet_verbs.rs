@@ -62,5 +62,10 @@ fn in_json(reading: &Reading, labels: &[String]) -> String {
         ])
     };
     let jobs = json::list(reading.jobs.iter().zip(labels).map(job));
-    json::object(&[("cabinet", reading.modules.to_string()), ("jobs", jobs)]) + "\n"
+    let mut members = vec![("cabinet", reading.modules.to_string())];
+    if reading.changeover > 0 {
+        members.push(("changeover", reading.changeover.to_string()));
+    }
+    members.push(("jobs", jobs));
+    json::object(&members) + "\n"
 }

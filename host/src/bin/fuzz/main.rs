@@ -1,7 +1,9 @@
 //! Compares the library with the other implementations as long as it is asked to; the tests do the same a fixed number of times.
-use depot_host::compare::{desk::Answers, older::Older, planning::Planning, search, sheet_calls::Sheets, sheet_calls::WRITING};
+use depot_host::compare::sheet_calls::{Sheets, READING, WRITING};
+use depot_host::compare::{desk::Answers, older::Older, planning::Planning, search, sheets::CHECKS};
 use depot_host::plain_search::Rules;
 use depot_host::random::Random;
+use depot_host::raw_sheet::Layout;
 use depot_host::{families, LONGEST_SHEET};
 use std::time::{Duration, Instant, SystemTime, UNIX_EPOCH};
 use std::{env, panic, process};
@@ -81,27 +83,29 @@ fn tell(rounds: u64, compared: &Compared, start: Instant) {
 fn round(seed: u64, compared: &mut Compared) {
     let mut planning = Planning::new(seed);
     planning.good(SHEETS);
-    (1..=9).for_each(|check| planning.damaged(check, FAULTS));
+    CHECKS.iter().for_each(|check| planning.damaged(*check, FAULTS));
     planning.short_cards(FAULTS);
     planning.scrambled(2 * FAULTS);
     planning.noisy(any_length(seed));
     compared.planned += planning.compared;
 
-    let mut older = Older::new(seed);
-    older.good(FAULTS);
-    (5..=9).for_each(|check| older.damaged(check, FAULTS));
-    older.short_cards(FAULTS);
-    older.scrambled(FAULTS);
-    compared.planned += older.answers.iter().sum::<usize>();
+    for layout in Layout::OLDER {
+        let mut older = Older::new(layout, seed);
+        older.good(FAULTS);
+        (5..=9).for_each(|check| older.damaged(check, FAULTS));
+        older.short_cards(FAULTS);
+        older.scrambled(FAULTS);
+        compared.planned += older.answers.iter().sum::<usize>();
+    }
 
     let mut sheets = Sheets::new(seed);
     sheets.good_reading(SHEETS);
-    (1..=7).for_each(|check| sheets.damaged_reading(check, FAULTS));
+    READING.iter().for_each(|check| sheets.damaged_reading(*check, FAULTS));
     sheets.scrambled_reading(SHEETS);
     sheets.noisy_reading(any_length(seed));
     sheets.good_writing(SHEETS);
     WRITING.iter().for_each(|check| sheets.damaged_writing(*check, FAULTS));
-    compared.read += 3 * SHEETS + 13 * FAULTS + 1;
+    compared.read += 3 * SHEETS + (READING.len() + WRITING.len()) * FAULTS + 1;
 
     let mut answers = Answers::default();
     let mut random = Random::new(seed);
@@ -111,12 +115,14 @@ fn round(seed: u64, compared: &mut Compared) {
     let all_rules = [("no rule", Rules::default())];
     for _ in 0..SHEETS {
         search::compare_arrivals(&mut random, &all_rules);
-        compared.planned += 1;
+        search::compare_changeovers(&mut random, &all_rules);
+        compared.planned += 2;
     }
     for family in families::all() {
         search::compare(&family, seed);
         search::compare_arriving(&family, seed);
-        compared.searches += 3;
+        search::compare_resting(&family, seed);
+        compared.searches += 6;
     }
 }
 

@@ -1,5 +1,5 @@
 //! The bars: a job's modules from its start to its end, the part behind a missed departure hatched, one label each. The edge at which a
-//! job starts is thick where that is its arrival.
+//! job starts is thick where that is its arrival. A dotted tail shows how long the modules rest.
 use super::frame::{self, Frame};
 use super::marks;
 use super::tints::classes;
@@ -117,10 +117,15 @@ pub fn draw(plan: &Planned, frame: &Frame) -> String {
     svg
 }
 
-/// The rectangles of a job, hatched from a missed departure on.
+/// The rectangles of a job, hatched from a missed departure on, each with its tail where modules rest.
 fn bar(plan: &Planned, frame: &Frame, job: &PlannedJob, class: &str) -> String {
     let mut svg = format!("<g><title>{}</title>\n", escaped(&in_words(plan, job)));
+    let rested = frame::x(plan, plan.free_from(job).into());
     for Area { x, y, wide, high } in &areas(plan, frame, job) {
+        if plan.has_rests() {
+            let end = x + wide;
+            svg += &rest(end, *y, rested - end, *high);
+        }
         writeln!(
             svg,
             "<rect class=\"bar {class}\" x=\"{x:.1}\" y=\"{y:.1}\" width=\"{wide:.1}\" height=\"{high:.1}\" rx=\"2\"/>"
@@ -137,6 +142,11 @@ fn bar(plan: &Planned, frame: &Frame, job: &PlannedJob, class: &str) -> String {
         }
     }
     svg + "</g>\n"
+}
+
+/// The tail of modules that rest.
+pub fn rest(x: f64, y: f64, wide: f64, high: f64) -> String {
+    format!("<rect class=\"rest\" x=\"{x:.1}\" y=\"{y:.1}\" width=\"{wide:.1}\" height=\"{high:.1}\"/>\n")
 }
 
 /// Lines between the rectangles of one job.
@@ -182,8 +192,9 @@ fn in_words(plan: &Planned, job: &PlannedJob) -> String {
     let time = |minute: u16| plan.clock.time(minute.into());
     let (row, departure) = (&job.row, job.job.departure);
     let arrives = if job.is_on_the_road() { format!(", arrives {}", time(job.job.arrival)) } else { String::new() };
+    let rests = if plan.has_rests() { format!(", modules rest until {}", time(plan.free_from(job))) } else { String::new() };
     format!(
-        "{}: modules {}{arrives}, {} to {}, departs {}, {}",
+        "{}: modules {}{arrives}, {} to {}{rests}, departs {}, {}",
         job.label,
         ranges(&row.module_numbers()),
         time(row.start),

@@ -1,9 +1,10 @@
 //! The rules that give colours to the parts of a plan's picture.
+use crate::planned::Planned;
 use depot_host::drawing::colours::{self, Palette};
 use std::fmt::Write;
 
-/// The rules for a picture on this paper.
-pub fn rules(palette: &Palette) -> String {
+/// The rules for the picture of a plan on this paper.
+pub fn rules(plan: &Planned, palette: &Palette) -> String {
     let Palette { paper, ink, soft, bars, late, end, .. } = palette;
     let words = colours::rules(palette);
     let mut css = format!(
@@ -27,17 +28,24 @@ pub fn rules(palette: &Palette) -> String {
         write!(css, ".chart .t{place}{{fill:{fill};stroke:{edge}}}.chart .join.t{place}{{fill:none}}").unwrap();
     }
     css += ".chart .ground{stroke:none}";
+    if plan.has_rests() {
+        write!(
+            css,
+            ".chart .rest{{fill:url(#rest);stroke:{soft};stroke-width:0.9;stroke-dasharray:3 2}}.chart .dot{{fill:{soft}}}"
+        )
+        .unwrap();
+    }
     css
 }
 
 /// The rules of a page around a picture on this paper.
-pub fn page_rules(palette: &Palette) -> String {
+pub fn page_rules(plan: &Planned, palette: &Palette) -> String {
     let Palette { paper, ink, soft, grid, late, .. } = palette;
     format!(
         "body{{background:{paper};color:{ink}}}th,td{{border-bottom:1px solid {grid}}}th,footer{{color:{soft}}}\
          tr.late td{{background:{}}}tr.late td:last-child{{color:{}}}{}",
         late.0,
         late.1,
-        rules(palette)
+        rules(plan, palette)
     )
 }

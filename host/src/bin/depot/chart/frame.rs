@@ -56,9 +56,9 @@ pub fn words_right(plan: &Planned) -> f64 {
     key_left(plan) - 6.0
 }
 
-/// The last minute that the picture shows: there is room behind every end and departure for the job's words.
+/// The last minute that the picture shows: all modules have rested, and there is room behind every end and departure for the job's words.
 pub fn last_minute(plan: &Planned) -> f64 {
-    let mut last = f64::from(plan.end).max(1.0);
+    let mut last = f64::from(plan.end + plan.changeover).max(1.0);
     for job in &plan.jobs {
         let room = words_right(plan) - LEFT - words::reach(&format!("{} late", job.label));
         let departure = if is_far(plan, job.job.departure) { 0 } else { job.job.departure };
@@ -78,7 +78,7 @@ impl Frame {
     pub fn of(plan: &Planned, departures: f64, callouts: f64) -> Frame {
         let modules = f64::from(plan.modules);
         let top = TOP + 12.0 + departures;
-        let legend_lines = if plan.has_arrivals() { LEGEND_LINE } else { 0.0 };
+        let legend_lines = if plan.has_arrivals() || plan.has_rests() { LEGEND_LINE } else { 0.0 };
         let room = MOST_HEIGHT - top - callouts - AXIS - END_WORDS - LEGEND - legend_lines;
         let row = (room / modules).min(TALLEST_ROW);
         Frame {

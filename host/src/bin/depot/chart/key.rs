@@ -1,4 +1,5 @@
 //! The key at the right, a line for each job, and the legend below.
+use super::bars;
 use super::frame::{Frame, ARRIVALS, KEY_ROW, LEGEND_LINE, MARGIN};
 use super::marks;
 use super::tints::classes;
@@ -104,6 +105,9 @@ fn legend(plan: &Planned, frame: &Frame) -> String {
         format!("<line class=\"end\" x1=\"{:.1}\" y1=\"{:.1}\" x2=\"{0:.1}\" y2=\"{:.1}\"/>\n", x + 3.0, y - 10.0, y + 2.0)
     };
     first.entry(&end, 10.0, "plan's end");
+    if plan.has_rests() {
+        second.entry(&|x, y| bars::rest(x, y - 9.5, 14.0, 12.0), 19.0, "its modules rest");
+    }
     if plan.has_arrivals() {
         second.entry(&|x, y| marks::arrival_mark(x + 4.5, y - 8.5), 14.0, "arrival of a bus that is on the road at the start");
         let edge = |x: f64, y: f64| {

@@ -18,7 +18,7 @@ pub use depot_host::drawing::colours::{DARK, LIGHT};
 
 /// A file of its own.
 pub fn file(plan: &Planned) -> String {
-    let style = format!("<style>{}</style>\n", colours::rules(&LIGHT));
+    let style = format!("<style>{}</style>\n", colours::rules(plan, &LIGHT));
     picture(plan, &style)
 }
 
@@ -38,6 +38,10 @@ fn picture(plan: &Planned, style: &str) -> String {
     );
     svg += "<defs><pattern id=\"late\" width=\"6\" height=\"6\" patternUnits=\"userSpaceOnUse\" patternTransform=\"rotate(45)\">\
             <line class=\"hatch\" x1=\"0\" y1=\"0\" x2=\"0\" y2=\"6\"/></pattern></defs>\n";
+    if plan.has_rests() {
+        svg += "<defs><pattern id=\"rest\" width=\"4\" height=\"4\" patternUnits=\"userSpaceOnUse\">\
+                <circle class=\"dot\" cx=\"2\" cy=\"2\" r=\"0.7\"/></pattern></defs>\n";
+    }
     writeln!(svg, "<rect class=\"paper\" width=\"{width}\" height=\"{height}\"/>").unwrap();
     svg += &title(plan);
     svg += &marks::grid(plan, &frame);

@@ -19,6 +19,8 @@ pub const COLUMNS: [&str; 6] = ["label", "modules", "minutes", "after", "departu
 pub struct List {
     /// N, the modules in the cabinet.
     pub modules: u16,
+    /// The minutes that a module rests between two jobs.
+    pub changeover: u16,
     /// The time of day of the plan's start, where the list has it.
     pub clock: Option<Clock>,
     pub jobs: Vec<Job>,
@@ -32,7 +34,7 @@ impl List {
     /// The job sheet, as the library writes it.
     pub fn sheet(&self) -> Result<Vec<u8>, Refusal> {
         let mut sheet = vec![0; LONGEST_SHEET];
-        let length = write(&self.jobs, &self.labels, self.modules, &mut sheet)?;
+        let length = write(&self.jobs, &self.labels, self.modules, self.changeover, &mut sheet)?;
         sheet.truncate(length);
         Ok(sheet)
     }

@@ -18,6 +18,18 @@ const AFTER: usize = 3;
 const ARRIVAL: (u32, &str) = (1440, "24 hours");
 const DEPARTURE: (u32, &str) = (2880, "48 hours");
 
+/// A figure that has a line of its own before the header.
+struct Setting {
+    name: &'static str,
+    sign: &'static str,
+    means: &'static str,
+    low: u32,
+    high: u32,
+}
+
+const CABINET: Setting = Setting { name: "cabinet", sign: "N", means: "modules of the cabinet", low: 1, high: 64 };
+const CHANGEOVER: Setting = Setting { name: "changeover", sign: "C", means: "minutes of the changeover", low: 0, high: 30 };
+
 /// The column of each field, and where each column stands.
 struct Header {
     columns: Vec<Option<usize>>,
@@ -35,6 +47,7 @@ struct Entry {
 struct Reader {
     faults: Faults,
     modules: Option<u16>,
+    changeover: Option<u16>,
     clock: Option<Clock>,
     /// Whether the clock stands in place of the list's.
     given: bool,
@@ -50,6 +63,7 @@ pub fn read(file: &str, bytes: &[u8], start: Option<Clock>) -> Result<List, Trou
     let mut reader = Reader {
         faults: Faults::default(),
         modules: None,
+        changeover: None,
         clock: start,
         given,
         separator: None,
@@ -92,7 +106,8 @@ impl Reader {
             return;
         }
         match (fields[0].to_ascii_lowercase().as_str(), &self.header) {
-            ("cabinet", None) => self.cabinet(number, &fields[1..]),
+            ("cabinet", None) => self.modules = self.setting(number, &CABINET, self.modules, &fields[1..]),
+            ("changeover", None) => self.changeover = self.setting(number, &CHANGEOVER, self.changeover, &fields[1..]),
             ("start", None) => self.start(number, &fields[1..]),
             (_, None) => self.header(number, &fields),
             (_, Some(_)) => self.row(number, &fields, &quoted),
@@ -104,17 +119,21 @@ impl Reader {
         COLUMNS.into_iter().zip(&header.columns).find(|(_, place)| **place == Some(column - 1)).map(|(name, _)| name)
     }
 
-    fn cabinet(&mut self, line: usize, values: &[String]) {
-        let allowed = "a line 'cabinet,N' once, N a whole number from 1 to 64";
+    /// The figure of a line that may stand once; where the line is wrong, a fault and what was read before.
+    fn setting(&mut self, line: usize, of: &Setting, before: Option<u16>, values: &[String]) -> Option<u16> {
+        let Setting { name, sign, means, low, high } = of;
+        let number = format!("a whole number from {low} to {high}");
+        let allowed = format!("a line '{name},{sign}' once, {sign} {number}");
         let found = shown(&values.join(","));
         match values {
-            [word] if self.modules.is_none() => match whole(word).filter(|n| (1..=64).contains(n)) {
-                Some(n) => self.modules = Some(n as u16),
-                None => self.faults.put(line, Some((2, "modules of the cabinet")), found, "a whole number from 1 to 64"),
+            [word] if before.is_none() => match whole(word).filter(|n| (*low..=*high).contains(n)) {
+                Some(n) => return Some(n as u16),
+                None => self.faults.put(line, Some((2, means)), found, number),
             },
-            [_] => self.faults.put(line, None, "a second line 'cabinet'", allowed),
-            _ => self.faults.put(line, Some((2, "modules of the cabinet")), found, allowed),
+            [_] => self.faults.put(line, None, format!("a second line '{name}'"), allowed),
+            _ => self.faults.put(line, Some((2, means)), found, allowed),
         }
+        before
     }
 
     fn start(&mut self, line: usize, values: &[String]) {
@@ -240,6 +259,7 @@ impl Reader {
         }
         let list = List {
             modules: self.modules.unwrap_or(1),
+            changeover: self.changeover.unwrap_or(0),
             clock: self.clock,
             jobs: self.entries.iter().map(|entry| entry.job).collect(),
             labels: labels.concat().into_bytes(),

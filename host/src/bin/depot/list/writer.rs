@@ -5,9 +5,12 @@ use depot_host::Reading;
 use std::fmt::Write;
 
 /// The list of these figures and labels; with a clock, arrivals and departures are times of day. Where all buses are there from the
-/// start, there is no column of arrivals.
+/// start, there is no column of arrivals, and where modules need no rest no line of the changeover.
 pub fn text(reading: &Reading, labels: &[String], clock: Option<Clock>) -> String {
     let mut text = format!("cabinet,{}\n", reading.modules);
+    if reading.changeover > 0 {
+        writeln!(text, "changeover,{}", reading.changeover).unwrap();
+    }
     if let Some(clock) = clock {
         writeln!(text, "start,{}", clock.time(0)).unwrap();
     }
