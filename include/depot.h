@@ -15,7 +15,8 @@
  *             pointer must lead to as many elements as are said, aligned as C asks; this is the one thing that no call can check.
  * Overlaps.   What a call writes must not overlap anything else that it is lent. What it only reads may overlap.
  * Threads.    Calls may run at the same time as long as none writes what another is lent.
- * Stack.      Measured, not proved: depot_plan stays within DEPOT_PLAN_STACK bytes, every other call within DEPOT_CALL_STACK.
+ * Stack.      Measured, not proved: depot_plan stays within DEPOT_PLAN_STACK bytes, depot_sets within DEPOT_SETS_STACK, every
+ *             other call within DEPOT_CALL_STACK.
  *             The tests of the host package hold these figures.
  * Names       that begin with depot_ or DEPOT_ belong to the library. It calls memcpy, memmove and memset, and nothing else.
  *
@@ -94,6 +95,7 @@ enum depot_refusal {
 #define DEPOT_MOST_POWER 400000 /* the largest limit of a feeder, in hundreds of watts: 40 MW */
 
 #define DEPOT_PLAN_STACK 40960
+#define DEPOT_SETS_STACK 8192
 #define DEPOT_CALL_STACK 2048
 
 /* ---- planning ---------------------------------------------------------------------------------------------------------------- */
@@ -115,6 +117,23 @@ enum depot_refusal {
  * The time grows steeply with the jobs and nothing interrupts the call: docs/FIRMWARE.md, 'Time'. Stack: DEPOT_PLAN_STACK.
  */
 uint32_t depot_plan(const uint8_t *sheet, size_t sheet_len, uint8_t *card, size_t card_len, uint8_t *work, size_t work_len);
+
+/* What counting the job sets answers. */
+struct depot_set_count {
+    uint32_t refusal; /* 0, or the refusal's number; then the count is 0 */
+    uint32_t sets;    /* how many sets of jobs a part-plan can hold, 1 to 1,048,576 */
+};
+
+/*
+ * Counts the sets of jobs that a part-plan of the sheet can hold: those that have, with each job, all its earlier jobs, the empty one and
+ * the full one included. A chain of n jobs has n + 1, n jobs without marks 2 to the power n. It tells what planning is in for; nothing is
+ * planned, and no working memory is lent.
+ *
+ * sheet  Read. The sheet's bytes.
+ *
+ * Answers the count, or a refusal: 1 to 9 and 19. Stack: DEPOT_SETS_STACK.
+ */
+struct depot_set_count depot_sets(const uint8_t *sheet, size_t sheet_len);
 
 /* ---- job sheets -------------------------------------------------------------------------------------------------------------- */
 

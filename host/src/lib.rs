@@ -1,6 +1,6 @@
 //! The depot's planner and share desk for Rust programs: a safe wrapper of the proved static library.
 //!
-//! [`version`], [`plan`], [`Card`], [`read`], [`label`], [`write()`], [`Desk`] and [`Refusal`] are the product. The other modules test it and
+//! [`version`], [`plan`], [`sets`], [`Card`], [`read`], [`label`], [`write()`], [`Desk`] and [`Refusal`] are the product. The other modules test it and
 //! measure it.
 
 mod card;
@@ -56,4 +56,11 @@ pub fn plan(sheet: &[u8], card: &mut [u8], work: &mut [u8]) -> Result<(), Refusa
     let answer =
         unsafe { ffi::depot_plan(sheet.as_ptr(), sheet.len(), card.as_mut_ptr(), card.len(), work.as_mut_ptr(), work.len()) };
     Refusal::or_done(answer)
+}
+
+/// How many sets of jobs a part-plan of the sheet can hold: those that have, with each job, all its earlier jobs. Nothing is planned.
+pub fn sets(sheet: &[u8]) -> Result<u32, Refusal> {
+    // SAFETY: a live slice; the library keeps no pointer.
+    let answer = unsafe { ffi::depot_sets(sheet.as_ptr(), sheet.len()) };
+    Refusal::or_done(answer.refusal).map(|()| answer.sets)
 }

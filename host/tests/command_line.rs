@@ -35,7 +35,7 @@ fn golden(name: &str, words: &[&str], status: i32) {
 #[test]
 fn help() {
     golden("help.txt", &["--help"], 0);
-    for verb in ["plan", "sheet", "list", "desk", "explain"] {
+    for verb in ["plan", "sets", "sheet", "list", "desk", "explain"] {
         let name = format!("help-{verb}.txt");
         golden(&name, &[verb, "--help"], 0);
         golden(&name, &["help", verb], 0);
@@ -65,7 +65,8 @@ fn plans_and_pictures() {
         let [svg, html, card] = ["svg", "html", "card"].map(|kind| file(&format!("{name}.{kind}"), b""));
         let ran = depot(&["plan", &list, "--svg", &svg, "--html", &html, "--card", &card], b"");
         assert_eq!(ran.status, 0, "{}", ran.errors);
-        let progress = |line: &str| line.starts_with("searching for the earliest end: ") || line.starts_with("searched for ");
+        let starts = ["a long search: ", "searching for the earliest end: ", "searched for "];
+        let progress = |line: &str| starts.iter().any(|start| line.starts_with(start));
         assert!(ran.errors.lines().all(|line| name == HARD && progress(line)), "{}", ran.errors);
         same(&format!("host/tests/golden/plan-{name}.txt"), &ran.output);
         let drawn = fs::read(&svg).unwrap();
@@ -113,6 +114,29 @@ fn plans_in_other_forms() {
         let said = format!("-: 0 jobs on 1 module{said}: nothing to plan; the plan ends at minute 0.\n");
         assert_eq!((empty.status, empty.text()), (0, said));
     }
+}
+
+/// How large the search will be, in every form; refused as planning refuses, and with no start asked for.
+#[test]
+fn job_sets() {
+    for name in EXAMPLES {
+        let list = format!("examples/{name}.csv");
+        golden(&format!("sets-{name}.txt"), &["sets", &list], 0);
+        golden(&format!("sets-{name}.json"), &["sets", &list, "--json"], 0);
+        let sheet = file("of-list.sheet", b"");
+        assert_eq!(depot(&["sheet", &list, "-o", &sheet], b"").status, 0);
+        let counted = depot_host::sets(&fs::read(&sheet).unwrap()).unwrap();
+        assert_eq!(depot(&["sets", &list, "--raw"], b"").text(), format!("{counted}\n"));
+    }
+    let wide = [65, 1, 2, 1, 0, 0, 0, 0, 0, 0, 0, 0, 0, 1, 0, 0, 0, 1, 0, 1, 0, 0, 0];
+    for verb in ["sets", "plan"] {
+        let raw = depot(&[verb, "-", "--raw"], &wide);
+        assert_eq!((raw.status, raw.text().as_str()), (1, "refused 8\n"));
+        assert_eq!(depot(&[verb, "-", "--json"], &wide).status, 1);
+        assert_eq!(depot(&[verb, "-"], &wide).status, 1);
+    }
+    let both = depot(&["sets", "examples/small-depot.csv", "--raw", "--json"], b"");
+    assert_eq!((both.status, both.output.len()), (2, 0));
 }
 
 /// A sheet without jobs, the longest sheet and labels full of markup are drawn too.

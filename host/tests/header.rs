@@ -89,6 +89,7 @@ fn in_c(name: &str) -> String {
         "LabelPlace" => "struct depot_label_place",
         "Written" => "struct depot_written",
         "Desk" => "struct depot_desk",
+        "SetCount" => "struct depot_set_count",
         "Looked" => "struct depot_looked",
         other => panic!("{other} has no type in C"),
     };
@@ -150,7 +151,7 @@ fn constant(text: &str, name: &str) -> usize {
 #[test]
 fn calls_agree() {
     let declared = c_calls();
-    assert_eq!(declared.len(), 10);
+    assert_eq!(declared.len(), 11);
     assert_eq!(calls(&source("crates/depot/src/lib.rt")), declared);
     assert_eq!(calls(&source("host/src/ffi.rs")), declared);
 }
@@ -162,6 +163,7 @@ fn structs_agree() {
         ("Reading", "crates/sheet/src/lib.rt", "host/src/ffi.rs"),
         ("LabelPlace", "crates/sheet/src/lib.rt", "host/src/ffi.rs"),
         ("Written", "crates/sheet/src/lib.rt", "host/src/ffi.rs"),
+        ("SetCount", "crates/job_sets/src/lib.rt", "host/src/ffi.rs"),
         ("Desk", "crates/desk/src/lib.rt", "host/src/desk.rs"),
         ("Looked", "crates/lent/src/lib.rt", "host/src/ffi.rs"),
     ];
@@ -270,7 +272,11 @@ fn stack_is_within_the_header_s_figures() {
     let measured = stack::of_every_call();
     assert_eq!(measured.len(), c_calls().len());
     for (call, bytes) in measured {
-        let figure = if call == "depot_plan" { "DEPOT_PLAN_STACK" } else { "DEPOT_CALL_STACK" };
+        let figure = match call {
+            "depot_plan" => "DEPOT_PLAN_STACK",
+            "depot_sets" => "DEPOT_SETS_STACK",
+            _ => "DEPOT_CALL_STACK",
+        };
         println!("{call}: {bytes} of {}", macros[figure]);
         assert!(bytes <= macros[figure], "{call} needs {bytes} bytes of stack");
     }

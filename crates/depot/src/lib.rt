@@ -1,6 +1,7 @@
 // What firmware links: the version, planning, job sheets, and the desk where firmware keeps it. Each is a call of a proved function; include/depot.h
 // declares them for C. The desk's calls copy the lent desk, make the call by value, and put the desk that it hands back in its place.
 use desk::Desk;
+use job_sets::SetCount;
 use lent::Looked;
 use sheet::LabelPlace;
 use sheet::Reading;
@@ -9,6 +10,7 @@ use sheet_format::Job;
 ghost use mathlib.Core.Path.{_≡_};
 ghost use lib.ListN.{length};
 ghost use Rattle.planner.specs.Planning.{planRefusal, cardAfter, memoryAfter};
+ghost use Rattle.job_sets.specs.Results.{setsAnswer};
 ghost use Rattle.sheet_format.specs.Format.{jobsIn, cabinet};
 ghost use Rattle.sheet.specs.Read.{reading};
 ghost use Rattle.sheet.specs.Label.{labelPlace};
@@ -41,6 +43,14 @@ pub extern "C" fn depot_plan(sheet: &[u8], card: &mut [u8], work: &mut [u8]) -> 
     ensures work { λ _. ⌜ now (work .exit) ≡ memoryAfter (now (sheet .entry)) (length (now (card .entry))) (now (work .entry)) ⌝ }
 {
     planner::plan(sheet, card, work)
+}
+
+// How many sets of jobs a part-plan of the sheet can hold, or the first refusal of 1 to 9 and 19. Nothing is planned.
+#[no_mangle]
+pub extern "C" fn depot_sets(sheet: &[u8]) -> SetCount
+    ensures { λ r. ⌜ r ≡ setsAnswer (now (sheet .entry)) ⌝ }
+{
+    job_sets::set_count(sheet)
 }
 
 // ---- job sheets

@@ -85,6 +85,7 @@ fn sets_of(jobs: &Jobs) -> u32
 }
 
 // The refusal, and the number of job sets of a sheet.
+#[repr(C)]
 pub struct SetCount {
     pub refusal: u32,
     pub sets: u32,

@@ -17,16 +17,22 @@ pub fn plan(bytes: &[u8], room: usize) -> Result<Vec<u8>, u32> {
 
 /// The same of a sheet that reads: checks 8 to 10.
 pub fn plan_read(sheet: &Sheet, room: usize) -> Result<Vec<u8>, u32> {
+    order_checks(sheet)?;
+    if room < 13 * sheet.jobs.len() + 8 {
+        return Err(10);
+    }
+    Ok(best(sheet).card())
+}
+
+/// Checks 8 and 9.
+pub fn order_checks(sheet: &Sheet) -> Result<(), u32> {
     if sheet.jobs.iter().any(|job| job.modules > sheet.modules) {
         return Err(8);
     }
     if some_job_precedes_itself(sheet) {
         return Err(9);
     }
-    if room < 13 * sheet.jobs.len() + 8 {
-        return Err(10);
-    }
-    Ok(best(sheet).card())
+    Ok(())
 }
 
 /// The plan of a sheet of which 1 to 9 and 19 do not fail.

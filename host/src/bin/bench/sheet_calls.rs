@@ -1,6 +1,6 @@
 //! Reading, labels and writing of the longest sheet, in nanoseconds.
 use crate::clock::nanoseconds;
-use depot_host::{label, read, write, Job, LONGEST_LABEL, LONGEST_SHEET, MOST_JOBS};
+use depot_host::{label, read, sets, write, Job, LONGEST_LABEL, LONGEST_SHEET, MOST_JOBS};
 
 pub fn measure() {
     let jobs = [Job { label_len: LONGEST_LABEL as u8, modules: 1, minutes: 1, ..Job::default() }; MOST_JOBS];
@@ -11,5 +11,6 @@ pub fn measure() {
     println!("sheet of {LONGEST_SHEET} bytes, nanoseconds a call");
     println!("  writing          {:>7.1}", nanoseconds(|_| write(&jobs, &labels, 64, 30, &mut sheet).is_ok()));
     println!("  reading          {:>7.1}", nanoseconds(|_| read(&sheet).is_ok()));
+    println!("  job sets         {:>7.1}", nanoseconds(|_| sets(&sheet).is_ok()));
     println!("  label            {:>7.1}", nanoseconds(|i| label(&sheet, i as usize % MOST_JOBS).is_ok()));
 }

@@ -19,7 +19,7 @@ const MEMORY: usize = 16 << 20;
 
 /// What is printed on standard output.
 #[derive(Clone, Copy, PartialEq, Eq)]
-enum Form {
+pub enum Form {
     Table,
     Raw,
     Json,
@@ -27,7 +27,7 @@ enum Form {
 
 pub fn run(words: &[String]) -> Result<Outcome, Trouble> {
     let arguments = Arguments::read(&TAKES, words)?;
-    let form = form(&arguments)?;
+    let form = form(&arguments, TAKES.verb)?;
     let start = arguments.read_value("--start", Clock::starting, START_ALLOWED)?;
     let memory = arguments.read_value("--memory", units::bytes, "a number of bytes, or one with K or M")?.unwrap_or(MEMORY);
     let yard = Yard::open(arguments.plain(0).expect("a file is needed"), start)?;
@@ -47,16 +47,18 @@ pub fn run(words: &[String]) -> Result<Outcome, Trouble> {
     })
 }
 
-fn form(arguments: &Arguments) -> Result<Form, Trouble> {
+/// The form that is asked for on the verb's command line.
+pub fn form(arguments: &Arguments, verb: &str) -> Result<Form, Trouble> {
     match (arguments.has("--raw"), arguments.has("--json")) {
-        (true, true) => Err(Trouble::usage("--raw and --json exclude each other", "plan")),
+        (true, true) => Err(Trouble::usage("--raw and --json exclude each other", verb)),
         (true, false) => Ok(Form::Raw),
         (false, true) => Ok(Form::Json),
         (false, false) => Ok(Form::Table),
     }
 }
 
-fn refused(yard: &Yard, refusal: Refusal, form: Form) -> Result<Outcome, Trouble> {
+/// Says a refusal in this form.
+pub fn refused(yard: &Yard, refusal: Refusal, form: Form) -> Result<Outcome, Trouble> {
     match form {
         Form::Raw => say(&format!("refused {}\n", refusal.number()))?,
         Form::Json => say(&(json::refusal(refusal) + "\n"))?,

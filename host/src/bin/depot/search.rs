@@ -1,4 +1,5 @@
 //! The planning call on a thread of its own, and how long it has been searching on standard error.
+use crate::outlook::Outlook;
 use depot_host::{card_length, plan, Card, Refusal, MOST_JOBS};
 use std::io::{self, IsTerminal, Write};
 use std::sync::mpsc::{self, RecvTimeoutError};
@@ -13,6 +14,7 @@ const ELSEWHERE: Duration = Duration::from_secs(10);
 /// The card's bytes that the library leaves, and the card.
 pub fn run(sheet: &[u8], memory: usize) -> Result<(Vec<u8>, Card), Refusal> {
     let (send, receive) = mpsc::channel();
+    let outlook = Outlook::of(sheet)?;
     let sheet = sheet.to_vec();
     let search = thread::spawn(move || {
         let mut card = vec![0; card_length(MOST_JOBS)];
@@ -21,14 +23,15 @@ pub fn run(sheet: &[u8], memory: usize) -> Result<(Vec<u8>, Card), Refusal> {
         card.truncate(card_length(jobs));
         send.send(answer.map(|()| card)).ok();
     });
-    let answer = wait(&receive);
+    let answer = wait(&receive, &outlook);
     search.join().expect("the search ends");
     let bytes = answer?;
     let card = Card::of(&bytes).expect("an answered call leaves a card");
     Ok((bytes, card))
 }
 
-fn wait<T>(receive: &mpsc::Receiver<T>) -> T {
+/// Waits for the answer. Where that takes a while it is said what the list is in for, and then how long it has taken.
+fn wait<T>(receive: &mpsc::Receiver<T>, outlook: &Outlook) -> T {
     let start = Instant::now();
     let terminal = io::stderr().is_terminal();
     let mut pause = SILENT;
@@ -45,6 +48,9 @@ fn wait<T>(receive: &mpsc::Receiver<T>) -> T {
             Err(RecvTimeoutError::Disconnected) => panic!("the search stopped without an answer"),
             Err(RecvTimeoutError::Timeout) => {
                 let seconds = start.elapsed().as_secs();
+                if !said {
+                    eprintln!("a long search: {} {}", outlook.sets_in_words(), outlook.benchmark_in_words());
+                }
                 if terminal {
                     eprint!("\rsearching for the earliest end: {} (Ctrl-C gives up)", took(seconds));
                     io::stderr().flush().ok();
