@@ -95,7 +95,7 @@ enum depot_refusal {
 #define DEPOT_MOST_POWER 400000 /* the largest limit of a feeder, in hundreds of watts: 40 MW */
 
 #define DEPOT_PLAN_STACK 40960
-#define DEPOT_SETS_STACK 8192
+#define DEPOT_SETS_STACK 4096
 #define DEPOT_CALL_STACK 2048
 
 /* ---- planning ---------------------------------------------------------------------------------------------------------------- */

@@ -42,26 +42,35 @@ fn shapes_of_twenty_jobs() {
     assert_eq!(of(n, fence), Ok(17_711), "a fence");
 }
 
-/// Longest of many sheets of twenty jobs, each timed three times with the least taken, so that what else runs does not count.
+/// How long the count takes: the least of three times, so that what else runs does not count.
+fn time(sheet: &[u8]) -> Duration {
+    let once = |_| {
+        let start = Instant::now();
+        assert!(sets(sheet).is_ok());
+        start.elapsed()
+    };
+    (0..3).map(once).min().expect("three times")
+}
+
+/// The longest of many sheets of twenty jobs, and chains of two, on which the split goes on longest of all shapes known.
 #[test]
 fn no_sheet_takes_long() {
+    const LONG: Duration = Duration::from_millis(1);
     let mut random = Random::new(SEED);
     let mut longest = (Duration::ZERO, Vec::new());
     for round in 0..100_000 {
         let percent = [1, 2, 3, 5, 8, 12, 20, 40][round % 8];
         let sheet = random_marks(&mut random, MOST_JOBS, percent);
-        let time = |_| {
-            let start = Instant::now();
-            assert!(sets(&sheet).is_ok());
-            start.elapsed()
-        };
-        let took = (0..3).map(time).min().expect("three times");
+        let took = time(&sheet);
         if took > longest.0 {
             longest = (took, sheet);
         }
     }
     println!("longest of 100,000 sheets of 20 jobs: {:?}, {:?} sets", longest.0, sets(&longest.1));
-    assert!(longest.0 < Duration::from_millis(1), "{:?}", longest);
+    let pairs: Vec<u32> = (0..MOST_JOBS).map(|j| if j % 2 == 1 { 1 << (j - 1) } else { 0 }).collect();
+    let pairs = time(&marked(&pairs));
+    println!("ten chains of two: {pairs:?}");
+    assert!(longest.0 < LONG && pairs < LONG, "{longest:?}, {pairs:?}");
 }
 
 /// A count without the empty set.
