@@ -7,7 +7,9 @@ use command::{depot, file, run, top};
 use depot_host::compare::sheets;
 use depot_host::random::Random;
 use depot_host::{card_length, plan, Card};
+use std::io::{BufRead, BufReader};
 use std::path::Path;
+use std::process::{Command, Stdio};
 use std::{env, fs};
 
 const EXAMPLES: [&str; 5] = ["small-depot", "mixed-night", "hard-night", "on-the-road", "contactors"];
@@ -137,6 +139,47 @@ fn job_sets() {
     }
     let both = depot(&["sets", "examples/small-depot.csv", "--raw", "--json"], b"");
     assert_eq!((both.status, both.output.len()), (2, 0));
+}
+
+/// A search that takes longer than a second says first what the list is in for. Nobody waits for its end.
+#[test]
+fn a_long_search_says_what_it_is_in_for() {
+    let figures = [
+        (9, 72),
+        (9, 76),
+        (3, 56),
+        (7, 85),
+        (6, 61),
+        (6, 68),
+        (7, 50),
+        (7, 40),
+        (5, 40),
+        (9, 35),
+        (7, 55),
+        (7, 41),
+        (5, 35),
+        (8, 32),
+        (9, 65),
+        (6, 94),
+        (3, 68),
+        (6, 63),
+        (7, 49),
+        (7, 84),
+    ];
+    let rows: String = figures.iter().map(|(modules, minutes)| format!("B,{modules},{minutes},,600\n")).collect();
+    let list = file("long.csv", format!("cabinet,16\nlabel,modules,minutes,after,departure\n{rows}").as_bytes());
+    let mut child = Command::new(env!("CARGO_BIN_EXE_depot"))
+        .args(["plan", &list])
+        .stdout(Stdio::null())
+        .stderr(Stdio::piped())
+        .spawn()
+        .expect("the program starts");
+    let mut said = String::new();
+    BufReader::new(child.stderr.take().expect("a piped stderr")).read_line(&mut said).expect("a line");
+    child.kill().expect("it still searches");
+    child.wait().expect("it ends");
+    let sets = String::from_utf8(depot(&["sets", &list], b"").output).expect("text").replace('\n', " ");
+    assert_eq!(said.trim_end(), format!("a long search: {}", sets.trim_end()));
 }
 
 /// A sheet without jobs, the longest sheet and labels full of markup are drawn too.

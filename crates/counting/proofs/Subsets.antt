@@ -1,14 +1,11 @@
 -- Sums over all sets of numbers below n, and their split on one number.
-use mathlib.Core.Path.{_≡_, refl, sym, ap, _∙_}
-use mathlib.Core.Logic.{_⊎_, inl, inr}
-use mathlib.Core.Bool.{Bool, true, false, not, _&&_, _||_}
+use mathlib.Core.Path.{_≡_, refl, ap, _∙_}
+use mathlib.Core.Bool.{Bool, true, false, not, _&&_, _||_, and-true, and-false}
 use Prim.Native.Nat.{ℕ, zero, suc, _+_, _≤_, _<_}
 use native.Mathlib.Omega.{arith}
 use lib.Dec.{eqb}
 use borrow.Author.Tests.{eqb-true, eq-eqb, ne-eqb}
 use Rattle.counting.specs.Counting.{only, every}
-use Rattle.counting.proofs.Tests.{true-or-false, clash, same-test, and-left, and-right, and-both, implied, implication}
-use Rattle.counting.proofs.Ranges.{every-at, every-intro}
 
 -- no numbers at all
 abbrev pub none : ℕ → Bool
@@ -86,7 +83,7 @@ every-same (suc n) p q h = go (every-same n p q (λ i l. h i (omega arith))) (h 
     go a b = rw (a, b) refl
 
 -- below n, a set with n is the set
-below : (n : ℕ) (d : ℕ → Bool) (i : ℕ) → i < n → adding d n i ≡ d i
+pub below : (n : ℕ) (d : ℕ → Bool) (i : ℕ) → i < n → adding d n i ≡ d i
 below n d i l = rw (ne-eqb i n (λ e. omega arith)) refl
 
 -- As many sets have all of D and, without it, pass q, as have none of D and pass q.
@@ -127,14 +124,6 @@ subsets-fixed (suc n) D q = go (D n) refl (subsets-fixed n D)
         at : (i : ℕ) (b : Bool) → eqb i n ≡ b → minus (adding d n) D i ≡ adding (minus d D) n i
         at i true x = let z : D i ≡ false = ap D (eqb-true i n x) ∙ e in rw (x, z) refl
         at i false x = rw x refl
-
-    and-true : (a : Bool) → (a && true) ≡ a
-    and-true true = refl
-    and-true false = refl
-
-    and-false : (a : Bool) → (a && false) ≡ false
-    and-false true = refl
-    and-false false = refl
 
     go : (b : Bool) → D n ≡ b
         → ((q : (ℕ → Bool) → Bool) → subsets n (λ d. only (has n D d && q (minus d D)) 1) ≡ subsets n (λ d. only (misses n D d && q d) 1))

@@ -1,18 +1,15 @@
 -- What the count answers: the first refusal, or the number.
-use mathlib.Core.Path.{_≡_, refl, sym, ap, _∙_}
-use mathlib.Core.Bool.{cond}
+use mathlib.Core.Path.{_≡_, refl, sym, _∙_}
 use mathlib.Core.List.{List}
 use Prim.Native.Nat.{ℕ, _≤_}
-use lib.Dec.{eqb}
 use borrow.Author.Tests.{eq-eqb, ne-eqb}
 use Rattle.schedule.specs.Plan.{Circular}
 use Rattle.figures.specs.Figures.{mostJobs}
 use Rattle.tables.specs.Tables.{sheetOf, countOf}
 use Rattle.planable.specs.declared.Checked.{Checked}
-use Rattle.planable.specs.Planable.{sheetIn, planableRefusal}
+use Rattle.planable.specs.Planable.{planableRefusal}
 use Rattle.planable.specs.Results.{CheckedOf}
 use Rattle.planable.proofs.Planable.{Ready, ready-table}
-use Rattle.job_sets.specs.declared.SetCount.{SetCount}
 use Rattle.job_sets.specs.Sets.{closedSets}
 use Rattle.job_sets.specs.Results.{setsAnswer}
 use Rattle.job_sets.proofs.Closed.{sets-same}

@@ -1,8 +1,8 @@
 -- The job sets of a sheet are those that the split counts.
-use mathlib.Core.Path.{_≡_, refl, sym, ap, _∙_}
-use mathlib.Core.Bool.{Bool, true, false, not, _&&_, _||_}
+use mathlib.Core.Path.{_≡_, ap, _∙_}
+use mathlib.Core.Bool.{Bool, true, not, _&&_, _||_}
 use Prim.Native.Nat.{ℕ, _^_, _<_}
-use Rattle.counting.specs.Counting.{only, every, count}
+use Rattle.counting.specs.Counting.{every, count}
 use Rattle.counting.proofs.Tests.{same-test, and-left, and-right, and-both, implied, implication}
 use Rattle.counting.proofs.Counts.{count-same}
 use Rattle.counting.proofs.Ranges.{every-at, every-intro}

@@ -1,17 +1,16 @@
 -- The number of closed sets among the jobs that are left, from the numbers of the two parts.
-use mathlib.Core.Path.{_≡_, refl, sym, ap, _∙_}
+use mathlib.Core.Path.{_≡_, sym, ap, _∙_}
 use mathlib.Core.Logic.{_⊎_, inl, inr}
 use mathlib.Core.Bool.{Bool, true, false, not, _&&_, _||_}
 use mathlib.Core.List.{List}
-use Prim.Native.Nat.{ℕ, zero, suc, _+_, _*_, _-_, _^_, _≤_, _<_}
+use Prim.Native.Nat.{ℕ, zero, suc, _+_, _-_, _^_, _≤_, _<_}
 use native.Mathlib.Omega.{arith}
-use native.Mathlib.Nat.{le-trans}
 use lib.Dec.{eqb}
 use lib.Count.{ones}
 use lib.ListN.{getD}
 use lib.Pow.{pow-pos, pow-mono, pow-add}
 use borrow.Author.Tests.{eqb-true, eq-eqb}
-use Rattle.counting.specs.Counting.{only, sum, every, count}
+use Rattle.counting.specs.Counting.{every, count}
 use Rattle.counting.proofs.Tests.{same-test, less-or-not, and-left, implied, implication, clash, true-or-false}
 use Rattle.counting.proofs.Ranges.{every-at, every-intro}
 use Rattle.counting.proofs.Sums.{sum-single}

@@ -1,13 +1,13 @@
 -- The closed sets are exactly those that some part-plan has placed.
 use mathlib.Core.Path.{_≡_, refl, sym, ap, _∙_}
-use mathlib.Core.Logic.{_⊎_, inl, inr, _↔_}
-use mathlib.Core.Bool.{Bool, true, false, _&&_, _||_}
+use mathlib.Core.Logic.{_⊎_, inl, inr}
+use mathlib.Core.Bool.{Bool, true, false, _&&_, _||_, and-false}
 use mathlib.Core.List.{List, [], _∷_}
 use Prim.Native.Nat.{ℕ, _<_}
 use lib.Dec.{eqb}
 use borrow.Author.Tests.{eqb-true}
 use Rattle.counting.proofs.Tests.{and-both, or-either, or-second}
-use Rattle.schedule.specs.Plan.{Sheet, Circular}
+use Rattle.schedule.specs.Plan.{Sheet}
 use Rattle.schedule.specs.ListPlan.{PartPlan, noJobs, placing, Follows, emptyPart, place, startOf, placeAll, partOf}
 use Rattle.schedule.proofs.Starts.{Ready, ready-says, ready-when}
 use Rattle.schedule.proofs.Sound.{completes-all, order-completes}
@@ -62,10 +62,6 @@ module _ (S : Sheet) (d : ℕ → Bool) (e : closed S d ≡ true) where
           without-j i true y =
               let out = ap d (eqb-true i j y) ∙ x in
               h i ∙ ap (λ b. P .placed i && b) out ∙ and-false (P .placed i) ∙ sym out
-            where
-              and-false : (a : Bool) → (a && false) ≡ false
-              and-false true = refl
-              and-false false = refl
           without-j i false y = h i
 
 -- ---- what is held is closed

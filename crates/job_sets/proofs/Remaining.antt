@@ -1,12 +1,11 @@
 -- What is left without a job and a set of others.
 use mathlib.Core.Path.{_≡_, refl, sym, ap, _∙_}
 use mathlib.Core.Bool.{Bool, true, false, not, _&&_, _||_}
-use Prim.Native.Nat.{ℕ, zero, suc, _-_, _*_, _+_, _/_, _%_, _^_, _≤_, _<_, min}
+use Prim.Native.Nat.{ℕ, zero, suc, _-_, _/_, _%_, _^_, _<_, min}
 use native.Mathlib.Omega.{arith}
 use lib.Dec.{eqb}
 use lib.Count.{ones}
 use lib.Bits.{bitAnd, and-step, and-le-l}
-use Rattle.counting.proofs.Tests.{and-left}
 use Rattle.counting.proofs.Counts.{count-mono}
 use Rattle.bits.specs.Bits.{bit, withoutBit}
 use Rattle.bits.proofs.Digits.{bit-first, bit-suc}

@@ -1,17 +1,17 @@
 -- Jobs without marks, and a chain.
-use mathlib.Core.Path.{_≡_, refl, sym, ap, subst, _∙_}
+use mathlib.Core.Path.{_≡_, refl, sym, ap, _∙_}
 use mathlib.Core.Logic.{_⊎_, inl, inr}
-use mathlib.Core.Bool.{Bool, true, false, not, _&&_, _||_}
-use Prim.Native.Nat.{ℕ, zero, suc, _+_, _*_, _^_, _≤_, _<_}
+use mathlib.Core.Bool.{Bool, true, not, _||_, and-true, and-false}
+use Prim.Native.Nat.{ℕ, zero, suc, _^_, _<_}
 use native.Mathlib.Omega.{arith}
 use lib.Dec.{eqb}
-use borrow.Author.Tests.{eqb-true, eq-eqb, ne-eqb}
-use Rattle.counting.specs.Counting.{only, sum, every, count}
-use Rattle.counting.proofs.Tests.{same-test, clash, last-or-below, and-left, and-right, and-both, or-first, implied, implication}
+use borrow.Author.Tests.{eqb-true, eq-eqb}
+use Rattle.counting.specs.Counting.{only, every}
+use Rattle.counting.proofs.Tests.{same-test, clash, last-or-below, or-first, implied, implication}
 use Rattle.counting.proofs.Ranges.{every-at, every-intro}
 use Rattle.counting.proofs.Sums.{sum-const}
 use Rattle.counting.proofs.Counts.{count-same}
-use Rattle.counting.proofs.Subsets.{adding, subsets, subsets-same, subsets-none}
+use Rattle.counting.proofs.Subsets.{adding, below, subsets, subsets-same, subsets-none}
 use Rattle.bits.specs.Bits.{bit}
 use Rattle.bits.proofs.Numbers.{count-subsets}
 use Rattle.schedule.specs.Plan.{Sheet}
@@ -32,18 +32,6 @@ free-sets S free =
 -- d has, with each number below n, all below it
 abbrev initial : ℕ → (ℕ → Bool) → Bool
 initial n d = every n (λ j. not (d j) || every j d)
-
-and-true : (a : Bool) → (a && true) ≡ a
-and-true true = refl
-and-true false = refl
-
-and-false : (a : Bool) → (a && false) ≡ false
-and-false true = refl
-and-false false = refl
-
--- below n, a set with n is the set
-below : (n : ℕ) (d : ℕ → Bool) (i : ℕ) → i < n → adding d n i ≡ d i
-below n d i l = rw (ne-eqb i n (λ e. omega arith)) refl
 
 every-below : (n : ℕ) (d : ℕ → Bool) → every n (adding d n) ≡ every n d
 every-below n d =

@@ -1,16 +1,15 @@
 -- The number of closed sets among the jobs of L, split on one of them.
-use mathlib.Core.Path.{_≡_, refl, sym, ap, subst, _∙_}
+use mathlib.Core.Path.{_≡_, refl, sym, ap, subst}
 use mathlib.Core.Logic.{_⊎_, inl, inr}
 use mathlib.Core.Bool.{Bool, true, false, not, _&&_, _||_}
-use Prim.Native.Nat.{ℕ, zero, suc, _+_, _*_, _^_, _≤_, _<_}
+use Prim.Native.Nat.{ℕ, _+_, _<_}
 use native.Mathlib.Omega.{arith}
 use lib.Dec.{eqb}
-use lib.Pow.{pow-pos, pow-add}
 use borrow.Author.Tests.{eqb-true, eq-eqb, not-true}
-use Rattle.counting.specs.Counting.{only, sum, every, count}
-use Rattle.counting.proofs.Tests.{true-or-false, clash, same-test, and-left, and-right, and-both, not-of-false, implied, implication}
+use Rattle.counting.specs.Counting.{only, every}
+use Rattle.counting.proofs.Tests.{or-either, or-first, or-second, true-or-false, clash, same-test, and-left, and-right, and-both, not-of-false, implied, implication}
 use Rattle.counting.proofs.Ranges.{every-at, every-intro}
-use Rattle.counting.proofs.Subsets.{subsets, Within, subsets-same, subsets-split, has, misses, minus, subsets-fixed}
+use Rattle.counting.proofs.Subsets.{subsets-same, subsets-split, has, misses, minus, subsets-fixed}
 use Rattle.bits.proofs.Numbers.{count-subsets}
 use Rattle.job_sets.specs.Sets.{closedIn, setsIn}
 
@@ -43,35 +42,17 @@ module _ (n : ℕ) (R : ℕ → ℕ → Bool)
   says-closed L d c = every-intro n _ (λ k l. implication (d k) _ (λ x. and-both (L k) _ (c .among k l x)
       (every-intro n _ (λ i m. implication (R i k && L i) (d i) (λ y. c .before i k m l x (and-left (R i k) (L i) y) (and-right (R i k) (L i) y))))))
 
-  or-cases : (a b : Bool) → (a || b) ≡ true → (a ≡ true) ⊎ (b ≡ true)
-  or-cases true b e = inl refl
-  or-cases false b e = inr e
-
-  or-right : (a b : Bool) → b ≡ true → (a || b) ≡ true
-  or-right true b e = refl
-  or-right false b e = e
-
-  or-left : (a b : Bool) → a ≡ true → (a || b) ≡ true
-  or-left true b e = refl
-  or-left false b e = clash false e refl
-
   module _ (L : ℕ → Bool) (j : ℕ) (l : j < n) (in-l : L j ≡ true) where
-    upper : ℕ → Bool
-    upper = up j
-
-    lower : ℕ → Bool
-    lower = down j
-
     -- a job that follows one of j's jobs upwards is one; a job that one of j's jobs downwards follows is one
     up-on : (i k : ℕ) → i < n → k < n → up j i ≡ true → R i k ≡ true → up j k ≡ true
-    up-on i k a b u r = or-right (eqb k j) (R j k) (go (or-cases (eqb i j) (R j i) u))
+    up-on i k a b u r = or-second (eqb k j) (R j k) (go (or-either (eqb i j) (R j i) u))
       where
         go : (eqb i j ≡ true) ⊎ (R j i ≡ true) → R j k ≡ true
         go (inl e) = subst (λ (x : ℕ). R x k ≡ true) (eqb-true i j e) r
         go (inr e) = chains j i k l a b e r
 
     down-on : (i k : ℕ) → i < n → k < n → down j k ≡ true → R i k ≡ true → down j i ≡ true
-    down-on i k a b u r = or-right (eqb i j) (R i j) (go (or-cases (eqb k j) (R k j) u))
+    down-on i k a b u r = or-second (eqb i j) (R i j) (go (or-either (eqb k j) (R k j) u))
       where
         go : (eqb k j ≡ true) ⊎ (R k j ≡ true) → R i j ≡ true
         go (inl e) = subst (λ (x : ℕ). R i x ≡ true) (eqb-true k j e) r
@@ -92,7 +73,7 @@ module _ (n : ℕ) (R : ℕ → ℕ → Bool)
           where
             free : Closed L d → d j ≡ false → (k : ℕ) → k < n → d k ≡ true → (up j k ≡ true) ⊎ (up j k ≡ false) → up j k ≡ false
             free c out k m x (inr z) = z
-            free c out k m x (inl z) = go (or-cases (eqb k j) (R j k) z)
+            free c out k m x (inl z) = go (or-either (eqb k j) (R j k) z)
               where
                 go : (eqb k j ≡ true) ⊎ (R j k ≡ true) → up j k ≡ false
                 go (inl w) = clash (d j) (subst (λ (y : ℕ). d y ≡ true) (eqb-true k j w) x) out
@@ -108,7 +89,7 @@ module _ (n : ℕ) (R : ℕ → ℕ → Bool)
           where
             out : Closed (minus L (up j)) d → (d j ≡ true) ⊎ (d j ≡ false) → d j ≡ false
             out c (inr z) = z
-            out c (inl z) = clash (up j j) (or-left (eqb j j) (R j j) (eq-eqb j j refl)) (not-true (up j j) (and-right (L j) (not (up j j)) (c .among j l z)))
+            out c (inl z) = clash (up j j) (or-first (eqb j j) (R j j) (eq-eqb j j refl)) (not-true (up j j) (and-right (L j) (not (up j j)) (c .among j l z)))
 
             free : Closed (minus L (up j)) d → (i k : ℕ) → i < n → k < n → d k ≡ true → R i k ≡ true → (up j i ≡ true) ⊎ (up j i ≡ false) → up j i ≡ false
             free c i k a b x r (inr z) = z
@@ -127,7 +108,7 @@ module _ (n : ℕ) (R : ℕ → ℕ → Bool)
             let x = and-left (d j) _ e in
             let c = closed-says L d (and-right (d j) _ e) in
             and-both (has n D d) _ (every-intro n _ (λ i m. implication (D i) (d i) (λ y. all c x i m (and-left (L i) (down j i) y)
-            (or-cases (eqb i j) (R i j) (and-right (L i) (down j i) y)))))
+            (or-either (eqb i j) (R i j) (and-right (L i) (down j i) y)))))
             (says-closed (minus L (down j)) (minus d D) (record {
               among = λ k m y. and-both (L k) (not (down j k)) (c .among k m (and-left (d k) (not (D k)) y))
                   (not-of-false (down j k) (other (L k) (down j k) (c .among k m (and-left (d k) (not (D k)) y))
@@ -152,7 +133,7 @@ module _ (n : ℕ) (R : ℕ → ℕ → Bool)
         back e =
             let h = every-at n (λ i. not (D i) || d i) (and-left (has n D d) _ e) in
             let c = closed-says (minus L (down j)) (minus d D) (and-right (has n D d) _ e) in
-            let own = and-both (L j) (down j j) in-l (or-left (eqb j j) (R j j) (eq-eqb j j refl)) in
+            let own = and-both (L j) (down j j) in-l (or-first (eqb j j) (R j j) (eq-eqb j j refl)) in
             and-both (d j) _ (implied (D j) (d j) (h j l) own) (says-closed L d (record {
               among = λ k m x. in-among c k m x (true-or-false (D k));
               before = λ i k a b x r y. in-before h c i k a b x r y (true-or-false (down j i));

@@ -1,17 +1,14 @@
 -- Which jobs follow a job: within as many steps as there are jobs.
-use mathlib.Core.Path.{_≡_, refl, sym, ap, subst}
-use mathlib.Core.Logic.{_⊎_, inl, inr, _↔_}
-use mathlib.Core.Bool.{Bool, true, false, not, _&&_, _||_}
+use mathlib.Core.Path.{_≡_, refl}
+use mathlib.Core.Bool.{Bool, true, false, _&&_}
 use mathlib.Core.List.{List, [], _∷_}
-use Prim.Native.Nat.{ℕ, zero, suc, _+_, _*_, _≤_, _<_, zero-le}
+use Prim.Native.Nat.{ℕ, zero, suc, _+_, _≤_, _<_, zero-le}
 use native.Mathlib.Omega.{arith}
-use native.Mathlib.Nat.{le-refl}
-use Rattle.counting.specs.Counting.{sum, any}
 use Rattle.counting.proofs.Sums.{sum-const}
-use Rattle.counting.proofs.Tests.{true-or-false, clash, and-left, and-right, and-both}
-use Rattle.counting.proofs.Ranges.{any-some, any-none}
-use Rattle.schedule.specs.Plan.{Sheet, Plan, Valid, MustPrecede, directly, through, Circular}
-use Rattle.schedule.specs.ListPlan.{Order, noJobs, placing, ready, Follows, emptyPart, listPlan, partOf}
+use Rattle.counting.proofs.Tests.{or-second, and-left, and-right, and-both}
+use Rattle.counting.proofs.Ranges.{any-some, any-at}
+use Rattle.schedule.specs.Plan.{Sheet, MustPrecede, directly, through, Circular}
+use Rattle.schedule.specs.ListPlan.{Order, noJobs, placing, ready, Follows, emptyPart, listPlan}
 use Rattle.schedule.proofs.Sound.{completes-all, order-completes, list-plan-valid}
 use Rattle.schedule.proofs.Existence.{has-order}
 use Rattle.schedule.proofs.Horizon.{ends-within}
@@ -58,22 +55,8 @@ module _ (S : Sheet) (lv : Level S) where
   within zero (through a b e m) l = absurd (omega (arith, lv .rises _ _ a b e, level-rises m))
   within (suc k) {i} {j} (directly a b e) l = rw e refl
   within (suc k) {i} {j} (through {k = x} a b e m) l =
-      or-true (S .before i j) _ (some x b e (within k m (omega (arith, lv .rises _ _ a b e))))
-    where
-      or-true : (p q : Bool) → q ≡ true → (p || q) ≡ true
-      or-true true q z = refl
-      or-true false q z = z
-
-      some : (x : ℕ) → x < S .jobs → S .before i x ≡ true → followsWithin S k x j ≡ true
-          → any (S .jobs) (λ a. S .before i a && followsWithin S k a j) ≡ true
-      some x n u w = go (true-or-false (any (S .jobs) (λ a. S .before i a && followsWithin S k a j)))
-        where
-          go : (any (S .jobs) (λ a. S .before i a && followsWithin S k a j) ≡ true)
-              ⊎ (any (S .jobs) (λ a. S .before i a && followsWithin S k a j) ≡ false)
-              → any (S .jobs) (λ a. S .before i a && followsWithin S k a j) ≡ true
-          go (inl z) = z
-          go (inr z) = clash (S .before i x && followsWithin S k x j) (and-both (S .before i x) (followsWithin S k x j) u w)
-              (any-none (S .jobs) (λ a. S .before i a && followsWithin S k a j) z x n)
+      or-second (S .before i j) _ (any-at (S .jobs) (λ a. S .before i a && followsWithin S k a j) x b
+      (and-both (S .before i x) (followsWithin S k x j) e (within k m (omega (arith, lv .rises _ _ a b e)))))
 
   is-chain : (k : ℕ) (i j : ℕ) → i < S .jobs → j < S .jobs → followsWithin S k i j ≡ true → MustPrecede S i j
   unfolding followsWithin

@@ -1,9 +1,9 @@
 -- The sets of the jobs that follow a job, step by step.
-use mathlib.Core.Path.{_≡_, refl, sym, ap, _∙_}
+use mathlib.Core.Path.{_≡_, refl, ap, _∙_}
 use mathlib.Core.Logic.{_⊎_, inl, inr}
-use mathlib.Core.Bool.{Bool, true, false, cond, _&&_, _||_}
+use mathlib.Core.Bool.{Bool, true, false, cond, _&&_, _||_, and-true, and-false}
 use mathlib.Core.List.{List}
-use Prim.Native.Nat.{ℕ, suc, _+_, _≤_, _<_}
+use Prim.Native.Nat.{ℕ, _+_, _<_}
 use native.Mathlib.Omega.{arith}
 use native.Mathlib.Nat.{not-suc-le-zero}
 use native.Mathlib.Numerals.{add-one}
@@ -17,8 +17,8 @@ use Rattle.bits.specs.Bits.{bit}
 use Rattle.bits.proofs.Digits.{bit-or}
 use Rattle.bits.proofs.Sets.{bit-setOf}
 use Rattle.tables.specs.Tables.{sheetOf, earlierAt, countOf}
-use Rattle.marks.specs.Following.{followsWithin, follows}
-use Rattle.marks.specs.Marks.{Further, FollowedBy, FollowedTo, LaterThan, LaterTo, Marked}
+use Rattle.marks.specs.Following.{followsWithin}
+use Rattle.marks.specs.Marks.{Further, FollowedTo, LaterTo, Marked}
 
 -- ---- a step further
 
@@ -41,18 +41,10 @@ module _ (t : List ℕ) (j from : ℕ) where
       A : Bool
       A = any a (λ x. bit (earlierAt t x) i && bit from x)
 
-      false-and : (p : Bool) → (p && false) ≡ false
-      false-and true = refl
-      false-and false = refl
-
-      and-true : (p : Bool) → (p && true) ≡ p
-      and-true true = refl
-      and-true false = refl
-
       go : (b : Bool) → bit from a ≡ b → bit (cond b (bitOr all (earlierAt t a)) all) i ≡ (E || (A || (bit (earlierAt t a) i && bit from a)))
       go true e = rw (e, and-true (bit (earlierAt t a) i)) (bit-or all (earlierAt t a) i ∙ ap (λ b. b || bit (earlierAt t a) i) (h i)
           ∙ or-assoc E A (bit (earlierAt t a) i))
-      go false e = rw (e, false-and (bit (earlierAt t a) i)) (h i ∙ ap (λ b. E || b) (or-false A))
+      go false e = rw (e, and-false (bit (earlierAt t a) i)) (h i ∙ ap (λ b. E || b) (or-false A))
 
 -- ---- as many steps as there are jobs
 

@@ -1,5 +1,4 @@
 -- `job_sets::busiest` meets its contract.
-use Prim.Native.Nat.{_<_}
 use native.Mathlib.Nat.{pos-of-ne-zero}
 use lib.Count.{ones}
 use borrow.Author.Needs.{needs}

@@ -1,12 +1,10 @@
 -- `job_sets::sets_of` meets its contract.
-use mathlib.Core.Path.{_≡_, ap, _∙_}
-use Prim.Native.Nat.{ℕ, _-_, _^_, _≤_, _<_}
+use Prim.Native.Nat.{_^_, _≤_}
 use native.Mathlib.Omega.{arith}
 use lib.Pow.{pow-pos, pow-mono}
 use borrow.Author.Needs.{needs}
 use Rattle.bits.proofs.Digits.{one-shl}
 use Rattle.tables.specs.Tables.{sheetOf}
-use Rattle.job_sets.specs.Results.{SetsAmong}
 use Rattle.job_sets.proofs.Counted.{among-all}
 use Rattle.job_sets.proofs.sets_of.Statement.{statement}
 use Rattle.job_sets.proofs.sets_of.Tie as tie

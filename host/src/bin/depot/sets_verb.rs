@@ -25,8 +25,7 @@ pub fn run(words: &[String]) -> Result<Outcome, Trouble> {
 
 fn in_json(outlook: &Outlook) -> String {
     let (size, planned) = outlook.benchmark();
-    let benchmark =
-        [("jobs", size.to_string()), ("lists", LISTS.to_string()), ("within_half_a_second", planned.to_string())];
+    let benchmark = [("jobs", size.to_string()), ("lists", LISTS.to_string()), ("within_half_a_second", planned.to_string())];
     let members = [
         ("jobs", outlook.jobs.to_string()),
         ("sets", outlook.sets.to_string()),
