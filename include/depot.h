@@ -15,7 +15,8 @@
  *             pointer must lead to as many elements as are said, aligned as C asks; this is the one thing that no call can check.
  * Overlaps.   What a call writes must not overlap anything else that it is lent. What it only reads may overlap.
  * Threads.    Calls may run at the same time as long as none writes what another is lent.
- * Stack.      Measured, not proved: depot_plan and depot_end stay within DEPOT_PLAN_STACK bytes, every other call within DEPOT_CALL_STACK.
+ * Stack.      Measured, not proved: depot_plan and depot_end stay within DEPOT_PLAN_STACK bytes, depot_sets within
+ *             DEPOT_SETS_STACK, every other call within DEPOT_CALL_STACK.
  *             The tests of the host package hold these figures.
  * Names       that begin with depot_ or DEPOT_ belong to the library. It calls memcpy, memmove and memset, and nothing else.
  *
@@ -34,8 +35,8 @@ extern "C" {
 /* ---- the version ------------------------------------------------------------------------------------------------------------- */
 
 /* Of this header, and as a number: major * 1000000 + minor * 1000 + patch. Bytes of sheets and cards may differ between minors. */
-#define DEPOT_VERSION "0.8.0"
-#define DEPOT_VERSION_NUMBER 8000
+#define DEPOT_VERSION "0.9.0"
+#define DEPOT_VERSION_NUMBER 9000
 
 /*
  * The number of the library that is linked. Compare it with DEPOT_VERSION_NUMBER at the start, so that header and library belong
@@ -94,6 +95,7 @@ enum depot_refusal {
 #define DEPOT_MOST_POWER 400000 /* the largest limit of a feeder, in hundreds of watts: 40 MW */
 
 #define DEPOT_PLAN_STACK 40960
+#define DEPOT_SETS_STACK 4096
 #define DEPOT_CALL_STACK 2048
 
 /* ---- planning ---------------------------------------------------------------------------------------------------------------- */
@@ -132,6 +134,23 @@ struct depot_earliest {
  * The two do not overlap. Answers the minute, or a refusal: 1 to 9 and 19. Refused, work is as before. Stack: DEPOT_PLAN_STACK.
  */
 struct depot_earliest depot_end(const uint8_t *sheet, size_t sheet_len, uint8_t *work, size_t work_len);
+
+/* What counting the job sets answers. */
+struct depot_set_count {
+    uint32_t refusal; /* 0, or the refusal's number; then the count is 0 */
+    uint32_t sets;    /* how many sets of jobs a part-plan can hold, 1 to 1,048,576 */
+};
+
+/*
+ * Counts the sets of jobs that a part-plan of the sheet can hold: those that have, with each job, all its earlier jobs, the empty one and
+ * the full one included. A chain of n jobs has n + 1, n jobs without marks 2 to the power n. It tells what planning is in for; nothing is
+ * planned, and no working memory is lent.
+ *
+ * sheet  Read. The sheet's bytes.
+ *
+ * Answers the count, or a refusal: 1 to 9 and 19. Stack: DEPOT_SETS_STACK.
+ */
+struct depot_set_count depot_sets(const uint8_t *sheet, size_t sheet_len);
 
 /* ---- job sheets -------------------------------------------------------------------------------------------------------------- */
 
