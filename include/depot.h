@@ -15,7 +15,8 @@
  *             pointer must lead to as many elements as are said, aligned as C asks; this is the one thing that no call can check.
  * Overlaps.   What a call writes must not overlap anything else that it is lent. What it only reads may overlap.
  * Threads.    Calls may run at the same time as long as none writes what another is lent.
- * Stack.      Measured, not proved: depot_plan and depot_end stay within DEPOT_PLAN_STACK bytes, every other call within DEPOT_CALL_STACK.
+ * Stack.      Measured, not proved: depot_plan and depot_end stay within DEPOT_PLAN_STACK bytes, depot_sets within
+ *             DEPOT_SETS_STACK, every other call within DEPOT_CALL_STACK.
  *             The tests of the host package hold these figures.
  * Names       that begin with depot_ or DEPOT_ belong to the library. It calls memcpy, memmove and memset, and nothing else.
  *
@@ -34,8 +35,8 @@ extern "C" {
 /* ---- the version ------------------------------------------------------------------------------------------------------------- */
 
 /* Of this header, and as a number: major * 1000000 + minor * 1000 + patch. Bytes of sheets and cards may differ between minors. */
-#define DEPOT_VERSION "0.8.0"
-#define DEPOT_VERSION_NUMBER 8000
+#define DEPOT_VERSION "0.9.0"
+#define DEPOT_VERSION_NUMBER 9000
 
 /*
  * The number of the library that is linked. Compare it with DEPOT_VERSION_NUMBER at the start, so that header and library belong
@@ -46,8 +47,8 @@ uint32_t depot_version(void);
 /* ---- refusals ---------------------------------------------------------------------------------------------------------------- */
 
 /*
- * What a call answers: 0, or the number of the first check that fails. Each call makes its checks in the order of these numbers; but
- * those that read or write a sheet make 19 right behind 3, and depot_desk_change makes 14 first.
+ * What a call answers: 0, or the number of the first check that fails. Each call names its checks below, in the order in which it makes
+ * them; that is not always the order of their numbers.
  */
 enum depot_refusal {
     DEPOT_DONE = 0,
@@ -94,6 +95,7 @@ enum depot_refusal {
 #define DEPOT_MOST_POWER 400000 /* the largest limit of a feeder, in hundreds of watts: 40 MW */
 
 #define DEPOT_PLAN_STACK 40960
+#define DEPOT_SETS_STACK 4096
 #define DEPOT_CALL_STACK 2048
 
 /* ---- planning ---------------------------------------------------------------------------------------------------------------- */
@@ -110,7 +112,7 @@ enum depot_refusal {
  * work   Written. Working memory of any length, 0 too: more of it can make the search shorter. What it holds changes no answer, and
  *        an answered call leaves it all zero.
  *
- * The three do not overlap. Answers 0, or a refusal: 1 to 10 and 19. Refused, card and work are as before.
+ * The three do not overlap. Answers 0, or a refusal: 1 to 3, 19, 4 to 10, in this order. Refused, card and work are as before.
  *
  * The time grows steeply with the jobs and nothing interrupts the call: docs/FIRMWARE.md, 'Time'. Stack: DEPOT_PLAN_STACK.
  */
@@ -129,9 +131,27 @@ struct depot_earliest {
  * sheet  Read. The sheet's bytes.
  * work   Written. Working memory as for depot_plan: an answered call leaves it all zero.
  *
- * The two do not overlap. Answers the minute, or a refusal: 1 to 9 and 19. Refused, work is as before. Stack: DEPOT_PLAN_STACK.
+ * The two do not overlap. Answers the minute, or a refusal: 1 to 3, 19, 4 to 9, in this order. Refused, work is as before.
+ * Stack: DEPOT_PLAN_STACK.
  */
 struct depot_earliest depot_end(const uint8_t *sheet, size_t sheet_len, uint8_t *work, size_t work_len);
+
+/* What counting the job sets answers. */
+struct depot_set_count {
+    uint32_t refusal; /* 0, or the refusal's number; then the count is 0 */
+    uint32_t sets;    /* how many sets of jobs a part-plan can hold, 1 to 1,048,576 */
+};
+
+/*
+ * Counts the sets of jobs that a part-plan of the sheet can hold: those that have, with each job, all its earlier jobs, the empty one and
+ * the full one included. A chain of n jobs has n + 1, n jobs without marks 2 to the power n. It tells what planning is in for; nothing is
+ * planned, and no working memory is lent.
+ *
+ * sheet  Read. The sheet's bytes.
+ *
+ * Answers the count, or a refusal: 1 to 3, 19, 4 to 9, in this order. Stack: DEPOT_SETS_STACK.
+ */
+struct depot_set_count depot_sets(const uint8_t *sheet, size_t sheet_len);
 
 /* ---- job sheets -------------------------------------------------------------------------------------------------------------- */
 
@@ -159,7 +179,8 @@ struct depot_reading {
  *
  * sheet  Read. The sheet's bytes.
  *
- * Answers the jobs, n, N and the changeover, or a refusal: 1 to 7 and 19. Stack: DEPOT_CALL_STACK, and the answer in the caller's frame.
+ * Answers the jobs, n, N and the changeover, or a refusal: 1 to 3, 19, 4 to 7, in this order. Stack: DEPOT_CALL_STACK, and the answer
+ * in the caller's frame.
  */
 struct depot_reading depot_read(const uint8_t *sheet, size_t sheet_len);
 
@@ -177,7 +198,7 @@ struct depot_label_place {
  * sheet  Read. The sheet's bytes.
  * job    The job's number, from 0.
  *
- * Answers the label's place, or a refusal: 1 to 7, 19 and 14. Stack: DEPOT_CALL_STACK.
+ * Answers the label's place, or a refusal: 1 to 3, 19, 4 to 7, 14, in this order. Stack: DEPOT_CALL_STACK.
  */
 struct depot_label_place depot_label(const uint8_t *sheet, size_t sheet_len, size_t job);
 
@@ -242,7 +263,7 @@ struct depot_desk {
  * assured   Read. What each controller is assured of, for 2 to 8 controllers.
  * ceilings  Read. What each controller may hold at most, for as many.
  *
- * desk overlaps neither list. Answers 0, or a refusal: 11 to 13. Stack: DEPOT_CALL_STACK.
+ * desk overlaps neither list. Answers 0, or a refusal: 11 to 13, in this order. Stack: DEPOT_CALL_STACK.
  */
 uint32_t depot_desk_open(struct depot_desk *desk, uint32_t limit, const uint32_t *assured, size_t assured_len,
                          const uint32_t *ceilings, size_t ceilings_len);
@@ -269,7 +290,7 @@ uint32_t depot_desk_change(struct depot_desk *desk, uint32_t limit, const uint32
  * controller  The controller's number, from 0.
  * power       How much, 1 or more hundreds of watts. For a job of a plan: its modules times the size of a module.
  *
- * Answers 0, or a refusal: 14 to 17. Stack: DEPOT_CALL_STACK.
+ * Answers 0, or a refusal: 14 to 17, in this order. Stack: DEPOT_CALL_STACK.
  */
 uint32_t depot_desk_claim(struct depot_desk *desk, uint32_t controller, uint32_t power);
 
@@ -280,7 +301,7 @@ uint32_t depot_desk_claim(struct depot_desk *desk, uint32_t controller, uint32_t
  * controller  The controller's number, from 0.
  * power       How much, 1 or more hundreds of watts.
  *
- * Answers 0, or a refusal: 14, 15, 18. Stack: DEPOT_CALL_STACK.
+ * Answers 0, or a refusal: 14, 15, 18, in this order. Stack: DEPOT_CALL_STACK.
  */
 uint32_t depot_desk_hand_back(struct depot_desk *desk, uint32_t controller, uint32_t power);
 

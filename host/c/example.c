@@ -123,6 +123,8 @@ static void read_and_write_e1(void)
     check(reading.jobs[3].minutes == 0, "places past the last job are 0");
     check(label.refusal == DEPOT_DONE && label.offset == 2 && label.length == 1, "the label of E1's job 2 is its byte 2");
     check(depot_label(e1, sizeof e1, 3).refusal == DEPOT_NO_SUCH_NUMBER, "E1 has no job 3");
+    check(depot_sets(e1, sizeof e1).sets == 8, "E1's three jobs wait for none: 8 sets");
+    check(depot_sets(e1, 0).refusal == DEPOT_SHEET_LENGTH && depot_sets(e1, 0).sets == 0, "a refused count is 0");
     check(reading.changeover == 0, "E1's modules need no rest");
     label = depot_label_of(reading, 2);
     check(label.refusal == DEPOT_DONE && label.offset == 2 && label.length == 1, "the reading says where it lies, too");

@@ -29,6 +29,14 @@ pub struct Written {
     pub length: usize,
 }
 
+/// What counting the job sets answers: refusal 0 with the number of sets, or the number of the refusal with 0.
+#[repr(C)]
+#[derive(Clone, Copy, Debug, PartialEq, Eq)]
+pub struct SetCount {
+    pub refusal: u32,
+    pub sets: u32,
+}
+
 /// What a look answers: refusal 0 with the largest claim that would be granted now, or the number of the refusal with 0.
 #[repr(C)]
 #[derive(Clone, Copy, Debug, PartialEq, Eq)]
@@ -51,6 +59,8 @@ extern "C" {
     pub fn depot_plan(sheet: *const u8, sheet_len: usize, card: *mut u8, card_len: usize, work: *mut u8, work_len: usize) -> u32;
 
     pub fn depot_end(sheet: *const u8, sheet_len: usize, work: *mut u8, work_len: usize) -> Earliest;
+
+    pub fn depot_sets(sheet: *const u8, sheet_len: usize) -> SetCount;
 
     pub fn depot_read(sheet: *const u8, sheet_len: usize) -> Reading;
 

@@ -1,7 +1,7 @@
 //! The depot's planner and share desk for Rust programs: a safe wrapper of the proved static library.
 //!
-//! [`version`], [`plan`], [`Card`], [`earliest_end`], [`read`], [`label`], [`label_of`], [`write()`], [`Desk`] and [`Refusal`] are the product. The other modules test it and
-//! measure it.
+//! [`version`], [`plan`], [`Card`], [`earliest_end`], [`sets`], [`read`], [`label`], [`label_of`], [`write()`], [`Desk`] and [`Refusal`]
+//! are the product. The other modules test it and measure it.
 
 mod card;
 mod desk;
@@ -66,4 +66,11 @@ pub fn earliest_end(sheet: &[u8], work: &mut [u8]) -> Result<u16, Refusal> {
     // SAFETY: two live slices that do not overlap; the library keeps no pointer.
     let answer = unsafe { ffi::depot_end(sheet.as_ptr(), sheet.len(), work.as_mut_ptr(), work.len()) };
     Refusal::or_done(answer.refusal).map(|()| answer.end)
+}
+
+/// How many sets of jobs a part-plan of the sheet can hold: those that have, with each job, all its earlier jobs. Nothing is planned.
+pub fn sets(sheet: &[u8]) -> Result<u32, Refusal> {
+    // SAFETY: a live slice; the library keeps no pointer.
+    let answer = unsafe { ffi::depot_sets(sheet.as_ptr(), sheet.len()) };
+    Refusal::or_done(answer.refusal).map(|()| answer.sets)
 }

@@ -2,8 +2,8 @@
 use crate::guarded::{Against, Guarded};
 use crate::raw_sheet::Sheet;
 use crate::{
-    card_length, earliest_end, label, label_of, plan, read, version, write, Desk, Job, Refusal, LONGEST_LABEL, LONGEST_SHEET,
-    MOST_JOBS, MOST_POWER,
+    card_length, earliest_end, label, label_of, plan, read, sets, version, write, Desk, Job, Refusal, LONGEST_LABEL,
+    LONGEST_SHEET, MOST_JOBS, MOST_POWER,
 };
 use std::ffi::{c_int, c_void};
 use std::ptr;
@@ -67,6 +67,9 @@ fn longer_and_longer(j: usize) -> Job {
     Job { modules: 2, minutes: j as u16 + 1, ..Job::default() }
 }
 
+/// Marks of twenty jobs on which counting the job sets goes as deep as there are jobs: none, a chain, and pairs.
+const SHAPES: [fn(usize) -> u32; 3] = [|_| 0, |j| (1 << j) >> 1, |j| if j % 2 == 1 { 1 << (j - 1) } else { 0 }];
+
 /// What each exported call needs, by its name. Planning goes as deep as there are jobs, once for an earlier end and once for a lower job
 /// in an order's first place: the larger of two lists.
 pub fn of_every_call() -> Vec<(&'static str, usize)> {
@@ -76,6 +79,12 @@ pub fn of_every_call() -> Vec<(&'static str, usize)> {
     let sheets = lists.map(|jobs| Sheet::of(2, jobs).bytes());
     let planning = sheets.each_ref().map(|sheet| done(|| plan(sheet, &mut card, &mut work)));
     let ends = sheets.each_ref().map(|sheet| done(|| earliest_end(sheet, &mut work)));
+    let counting = SHAPES.map(|marks| {
+        let jobs = (0..MOST_JOBS).map(|j| Job { modules: 1, minutes: 1, earlier: marks(j), ..Job::default() });
+        let sheet = Sheet::of(2, jobs.collect()).bytes();
+        done(|| sets(&sheet))
+    });
+    let counting = counting.into_iter().max().expect("there are shapes");
     let long = Job { label_len: LONGEST_LABEL as u8, modules: 64, minutes: 1440, ..Job::default() };
     let labels = [b'~'; LONGEST_LABEL * MOST_JOBS];
     let mut sheet = [0; LONGEST_SHEET];
@@ -87,6 +96,7 @@ pub fn of_every_call() -> Vec<(&'static str, usize)> {
         ("depot_version", done(|| Ok(version()))),
         ("depot_plan", planning[0].max(planning[1])),
         ("depot_end", ends[0].max(ends[1])),
+        ("depot_sets", counting),
         ("depot_read", done(|| read(&sheet))),
         ("depot_label", done(|| label(&sheet, MOST_JOBS - 1))),
         (

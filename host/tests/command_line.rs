@@ -7,7 +7,9 @@ use command::{depot, file, run, top};
 use depot_host::compare::sheets;
 use depot_host::random::Random;
 use depot_host::{card_length, plan, Card};
+use std::io::{BufRead, BufReader};
 use std::path::Path;
+use std::process::{Command, Stdio};
 use std::{env, fs};
 
 const EXAMPLES: [&str; 5] = ["small-depot", "mixed-night", "hard-night", "on-the-road", "contactors"];
@@ -48,7 +50,7 @@ fn end() {
 #[test]
 fn help() {
     golden("help.txt", &["--help"], 0);
-    for verb in ["plan", "end", "sheet", "list", "desk", "explain"] {
+    for verb in ["plan", "end", "sets", "sheet", "list", "desk", "explain"] {
         let name = format!("help-{verb}.txt");
         golden(&name, &[verb, "--help"], 0);
         golden(&name, &["help", verb], 0);
@@ -78,7 +80,8 @@ fn plans_and_pictures() {
         let [svg, html, card] = ["svg", "html", "card"].map(|kind| file(&format!("{name}.{kind}"), b""));
         let ran = depot(&["plan", &list, "--svg", &svg, "--html", &html, "--card", &card], b"");
         assert_eq!(ran.status, 0, "{}", ran.errors);
-        let progress = |line: &str| line.starts_with("searching for the earliest end: ") || line.starts_with("searched for ");
+        let starts = ["a long search: ", "searching for the earliest end: ", "searched for "];
+        let progress = |line: &str| starts.iter().any(|start| line.starts_with(start));
         assert!(ran.errors.lines().all(|line| name == HARD && progress(line)), "{}", ran.errors);
         same(&format!("host/tests/golden/plan-{name}.txt"), &ran.output);
         let drawn = fs::read(&svg).unwrap();
@@ -126,6 +129,70 @@ fn plans_in_other_forms() {
         let said = format!("-: 0 jobs on 1 module{said}: nothing to plan; the plan ends at minute 0.\n");
         assert_eq!((empty.status, empty.text()), (0, said));
     }
+}
+
+/// How large the search will be, in every form; refused as planning refuses, and with no start asked for.
+#[test]
+fn job_sets() {
+    for name in EXAMPLES {
+        let list = format!("examples/{name}.csv");
+        golden(&format!("sets-{name}.txt"), &["sets", &list], 0);
+        golden(&format!("sets-{name}.json"), &["sets", &list, "--json"], 0);
+        let sheet = file("of-list.sheet", b"");
+        assert_eq!(depot(&["sheet", &list, "-o", &sheet], b"").status, 0);
+        let counted = depot_host::sets(&fs::read(&sheet).unwrap()).unwrap();
+        assert_eq!(depot(&["sets", &list, "--raw"], b"").text(), format!("{counted}\n"));
+    }
+    let wide = [65, 1, 2, 1, 0, 0, 0, 0, 0, 0, 0, 0, 0, 1, 0, 0, 0, 1, 0, 1, 0, 0, 0];
+    for verb in ["sets", "plan"] {
+        let raw = depot(&[verb, "-", "--raw"], &wide);
+        assert_eq!((raw.status, raw.text().as_str()), (1, "refused 8\n"));
+        assert_eq!(depot(&[verb, "-", "--json"], &wide).status, 1);
+        assert_eq!(depot(&[verb, "-"], &wide).status, 1);
+    }
+    let both = depot(&["sets", "examples/small-depot.csv", "--raw", "--json"], b"");
+    assert_eq!((both.status, both.output.len()), (2, 0));
+}
+
+/// A search that takes longer than a second says first what the list is in for. Nobody waits for its end.
+#[test]
+fn a_long_search_says_what_it_is_in_for() {
+    let figures = [
+        (9, 72),
+        (9, 76),
+        (3, 56),
+        (7, 85),
+        (6, 61),
+        (6, 68),
+        (7, 50),
+        (7, 40),
+        (5, 40),
+        (9, 35),
+        (7, 55),
+        (7, 41),
+        (5, 35),
+        (8, 32),
+        (9, 65),
+        (6, 94),
+        (3, 68),
+        (6, 63),
+        (7, 49),
+        (7, 84),
+    ];
+    let rows: String = figures.iter().map(|(modules, minutes)| format!("B,{modules},{minutes},,600\n")).collect();
+    let list = file("long.csv", format!("cabinet,16\nlabel,modules,minutes,after,departure\n{rows}").as_bytes());
+    let mut child = Command::new(env!("CARGO_BIN_EXE_depot"))
+        .args(["plan", &list])
+        .stdout(Stdio::null())
+        .stderr(Stdio::piped())
+        .spawn()
+        .expect("the program starts");
+    let mut said = String::new();
+    BufReader::new(child.stderr.take().expect("a piped stderr")).read_line(&mut said).expect("a line");
+    child.kill().expect("it still searches");
+    child.wait().expect("it ends");
+    let sets = String::from_utf8(depot(&["sets", &list], b"").output).expect("text").replace('\n', " ");
+    assert_eq!(said.trim_end(), format!("a long search: {}", sets.trim_end()));
 }
 
 /// A sheet without jobs, the longest sheet and labels full of markup are drawn too.

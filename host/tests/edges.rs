@@ -207,6 +207,19 @@ fn reading() {
 }
 
 #[test]
+fn job_sets() {
+    for sheet in edge_sheets() {
+        let lent = Lent::of(&sheet);
+        // SAFETY: a buffer of its own.
+        let answer = unsafe { ffi::depot_sets(lent.at(), lent.len()) };
+        let expected = reference::sets::sets(&sheet);
+        let sets = *expected.as_ref().unwrap_or(&0);
+        assert_eq!(answer, ffi::SetCount { refusal: refusal(&expected), sets }, "sheet {sheet:02x?}");
+        assert!(lent.has(&sheet));
+    }
+}
+
+#[test]
 fn labels() {
     for sheet in edge_sheets() {
         let n = reference::reading::read(&sheet).map_or(0, |sheet| sheet.jobs.len());
@@ -418,6 +431,7 @@ fn empty_buffers_may_have_any_pointer() {
         assert_eq!(ffi::depot_plan(null_mut(), 0, null_mut(), 0, null_mut(), 0), 1);
         assert_eq!(ffi::depot_end(null_mut(), 0, null_mut(), 0).refusal, 1);
         assert_eq!(ffi::depot_read(null_mut(), 0).refusal, 1);
+        assert_eq!(ffi::depot_sets(null_mut(), 0), ffi::SetCount { refusal: 1, sets: 0 });
         assert_eq!(ffi::depot_label(null_mut(), 0, 0).refusal, 1);
         assert_eq!(ffi::depot_write(null_mut(), 0, null_mut(), 0, 1, 7, null_mut(), 0).refusal, 10);
         assert_eq!(ffi::depot_write(null_mut(), 0, null_mut(), 0, 1, 7, sheet.as_mut_ptr(), 10).length, 10);

@@ -1,6 +1,6 @@
 //! The examples E1 to E11 of docs/REQUIREMENTS.md, and the edges of a sheet, through the exported calls.
 use depot_host::raw_sheet::Sheet;
-use depot_host::{card_length, plan, Desk, Job, Refusal, LONGEST_SHEET};
+use depot_host::{card_length, plan, sets, Desk, Job, Refusal, LONGEST_SHEET};
 
 /// A job of so many modules and minutes that waits for the jobs of a set.
 fn job(modules: u8, minutes: u16, earlier: u32) -> Job {
@@ -47,6 +47,17 @@ fn e2_to_e8() {
     assert_eq!(planned(2, vec![job(1, 10, 0), job(1, 10, 0), job(1, 20, 0)]), Ok((20, vec![0, 2, 1])));
     let e8 = vec![job(1, 1, 0), job(1, 10, 0), job(2, 1, 1), job(1, 10, 4)];
     assert_eq!(planned(2, e8), Ok((12, vec![0, 2, 1, 3])));
+}
+
+/// The job sets of E1 to E4 and E8: a chain of three beside a free job has 4 times 2.
+#[test]
+fn job_sets() {
+    let counted = |modules, jobs| sets(&Sheet::of(modules, jobs).bytes());
+    assert_eq!(counted(2, vec![job(1, 10, 0), job(2, 20, 0), job(1, 10, 0)]), Ok(8));
+    assert_eq!(counted(1, vec![]), Ok(1));
+    assert_eq!(counted(1, vec![job(2, 1, 0)]), Err(Refusal::OverWide));
+    assert_eq!(counted(1, vec![job(1, 1, 2), job(1, 1, 1)]), Err(Refusal::Circular));
+    assert_eq!(counted(2, vec![job(1, 1, 0), job(1, 10, 0), job(2, 1, 1), job(1, 10, 4)]), Ok(8));
 }
 
 #[test]

@@ -90,6 +90,7 @@ fn in_c(name: &str) -> String {
         "Earliest" => "struct depot_earliest",
         "Written" => "struct depot_written",
         "Desk" => "struct depot_desk",
+        "SetCount" => "struct depot_set_count",
         "Looked" => "struct depot_looked",
         other => panic!("{other} has no type in C"),
     };
@@ -151,7 +152,7 @@ fn constant(text: &str, name: &str) -> usize {
 #[test]
 fn calls_agree() {
     let declared = c_calls();
-    assert_eq!(declared.len(), 12);
+    assert_eq!(declared.len(), 13);
     assert_eq!(calls(&source("crates/depot/src/lib.rt")), declared);
     assert_eq!(calls(&source("host/src/ffi.rs")), declared);
 }
@@ -164,6 +165,7 @@ fn structs_agree() {
         ("Reading", "crates/sheet/src/lib.rt", "host/src/ffi.rs"),
         ("LabelPlace", "crates/sheet/src/lib.rt", "host/src/ffi.rs"),
         ("Written", "crates/sheet/src/lib.rt", "host/src/ffi.rs"),
+        ("SetCount", "crates/job_sets/src/lib.rt", "host/src/ffi.rs"),
         ("Desk", "crates/desk/src/lib.rt", "host/src/desk.rs"),
         ("Looked", "crates/lent/src/lib.rt", "host/src/ffi.rs"),
     ];
@@ -272,7 +274,11 @@ fn stack_is_within_the_header_s_figures() {
     let measured = stack::of_every_call();
     assert_eq!(measured.len(), c_calls().len());
     for (call, bytes) in measured {
-        let figure = if ["depot_plan", "depot_end"].contains(&call) { "DEPOT_PLAN_STACK" } else { "DEPOT_CALL_STACK" };
+        let figure = match call {
+            "depot_plan" | "depot_end" => "DEPOT_PLAN_STACK",
+            "depot_sets" => "DEPOT_SETS_STACK",
+            _ => "DEPOT_CALL_STACK",
+        };
         println!("{call}: {bytes} of {}", macros[figure]);
         assert!(bytes <= macros[figure], "{call} needs {bytes} bytes of stack");
     }

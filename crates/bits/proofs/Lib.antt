@@ -5,3 +5,4 @@ pub mod Sets
 pub mod Ones
 pub mod Walks
 pub mod Weighing
+pub mod Numbers

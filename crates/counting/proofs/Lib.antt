@@ -6,3 +6,4 @@ pub mod Ranges
 pub mod Counts
 pub mod Joins
 pub mod Loops
+pub mod Subsets

@@ -2,6 +2,7 @@
 // declares them for C. The desk's calls copy the lent desk, make the call by value, and put the desk that it hands back in its place.
 use desk::Desk;
 use earliest::Earliest;
+use job_sets::SetCount;
 use lent::Looked;
 use sheet::LabelPlace;
 use sheet::Reading;
@@ -12,6 +13,7 @@ ghost use lib.ListN.{length};
 ghost use Rattle.planner.specs.Planning.{planRefusal, cardAfter, memoryAfter};
 ghost use Rattle.planable.specs.Planable.{planableRefusal, workAfter};
 ghost use Rattle.earliest.specs.Earliest.{endAnswer};
+ghost use Rattle.job_sets.specs.Results.{setsAnswer};
 ghost use Rattle.sheet_format.specs.Format.{jobsIn, cabinet};
 ghost use Rattle.sheet.specs.Read.{reading};
 ghost use Rattle.sheet.specs.Label.{labelPlace, placeIn};
@@ -22,8 +24,8 @@ ghost use Rattle.depot.specs.Version.{version};
 
 // ---- the version
 
-// 0.8.0
-const VERSION: u32 = 8000;
+// 0.9.0
+const VERSION: u32 = 9000;
 
 // The number of this library's version; the header has the same.
 #[no_mangle]
@@ -54,6 +56,14 @@ pub extern "C" fn depot_end(sheet: &[u8], work: &mut [u8]) -> Earliest
     ensures work { λ _. ⌜ now (work .exit) ≡ workAfter (planableRefusal (now (sheet .entry))) (now (work .entry)) ⌝ }
 {
     earliest::earliest_end(sheet, work)
+}
+
+// How many sets of jobs a part-plan of the sheet can hold, or the first refusal of 1 to 9 and 19. Nothing is planned.
+#[no_mangle]
+pub extern "C" fn depot_sets(sheet: &[u8]) -> SetCount
+    ensures { λ r. ⌜ r ≡ setsAnswer (now (sheet .entry)) ⌝ }
+{
+    job_sets::set_count(sheet)
 }
 
 // ---- job sheets

@@ -1,11 +1,14 @@
-// Runs the edges of job sheets, of planning and of the desk, and prints a line a case: what was tried, and the number that the call gave.
+// Runs the edges of job sheets, of planning, of job sets and of the desk, and prints a line a case: what was tried, and the number that the
+// call gave.
 mod desks;
 mod lines;
 mod plans;
+mod sets;
 mod sheets;
 
 fn main() {
     sheets::run();
     plans::run();
+    sets::run();
     desks::run();
 }

@@ -4,6 +4,7 @@ pub mod desk;
 pub mod older;
 pub mod planning;
 pub mod search;
+pub mod sets;
 pub mod sheet_calls;
 pub mod sheets;
 pub mod two_passes;

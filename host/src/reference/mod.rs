@@ -3,4 +3,5 @@ pub mod desk;
 pub mod older;
 pub mod planning;
 pub mod reading;
+pub mod sets;
 pub mod writing;

@@ -18,13 +18,13 @@ pub fn plan(bytes: &[u8], room: usize) -> Result<Vec<u8>, u32> {
 /// The end of the sheet's plan, or the number of the first check that fails; there is no card, so 10 is not checked.
 pub fn end(bytes: &[u8]) -> Result<u32, u32> {
     let sheet = read(bytes)?;
-    can_be_planned(&sheet)?;
+    order_checks(&sheet)?;
     Ok(best(&sheet).end)
 }
 
 /// The card of a sheet that reads: checks 8 to 10.
 pub fn plan_read(sheet: &Sheet, room: usize) -> Result<Vec<u8>, u32> {
-    can_be_planned(sheet)?;
+    order_checks(sheet)?;
     if room < 13 * sheet.jobs.len() + 8 {
         return Err(10);
     }
@@ -32,7 +32,7 @@ pub fn plan_read(sheet: &Sheet, room: usize) -> Result<Vec<u8>, u32> {
 }
 
 /// Checks 8 and 9.
-fn can_be_planned(sheet: &Sheet) -> Result<(), u32> {
+pub fn order_checks(sheet: &Sheet) -> Result<(), u32> {
     if sheet.jobs.iter().any(|job| job.modules > sheet.modules) {
         return Err(8);
     }

@@ -1,6 +1,6 @@
 //! Reading, labels and writing of the longest sheet, in nanoseconds: the least of several rounds.
 use crate::clock::nanoseconds;
-use depot_host::{ffi, label, read, two_passes, write, Job, LONGEST_LABEL, LONGEST_SHEET, MOST_JOBS};
+use depot_host::{ffi, label, read, sets, two_passes, write, Job, LONGEST_LABEL, LONGEST_SHEET, MOST_JOBS};
 
 const ROUNDS: usize = 15;
 
@@ -15,6 +15,7 @@ pub fn measure() {
     println!("sheet of {LONGEST_SHEET} bytes, nanoseconds a call, the least of {ROUNDS} rounds");
     say("writing", least(|_| write(&jobs, &labels, 64, 30, &mut sheet).is_ok()));
     say("reading, the wrapper's", least(|_| read(&sheet).is_ok()));
+    say("job sets", least(|_| sets(&sheet).is_ok()));
     say("label", least(|i| label(&sheet, i as usize % MOST_JOBS).is_ok()));
     // SAFETY: live bytes, and a call that is lent nothing.
     let reading = unsafe { ffi::depot_read(sheet.as_ptr(), sheet.len()) };

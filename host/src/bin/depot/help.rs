@@ -10,6 +10,7 @@ usage: depot VERB ..
   depot plan LIST.csv            the plan that ends first, as a table
   depot plan LIST.csv --svg OUT  and as a picture; --html OUT for a page
   depot end LIST.csv             the earliest end alone, in a sentence
+  depot sets LIST.csv            how large the search will be, without planning
   depot sheet LIST.csv -o FILE   a list to a job sheet, the bytes that a cabinet takes
   depot list FILE                a job sheet back to a list
   depot desk                     an interactive share desk: open, change, claim, back, look, show
@@ -72,6 +73,18 @@ decides: put buses that are there first, and those that are on the road behind t
   --memory BYTES   working memory of the search, with K or M (16M); 0 is allowed, and no length changes the answer
 ";
 
+const SETS: &str = "\
+usage: depot sets LIST.csv|SHEET [OPTION]
+
+Shows how many sets of jobs a part-plan can hold: those that have, with each job, all jobs that it waits for, the empty one and the full
+one included. A chain of n jobs has n + 1, n jobs of which none waits for another 2 to the power n. Nothing is planned. Below it stands
+how many of the benchmark's lists of that size were planned within half a second. A name that ends in .csv is a list, every other a job
+sheet; - is a sheet on standard input.
+
+  --raw            the number alone
+  --json           for programs
+";
+
 const SHEET: &str = "\
 usage: depot sheet LIST.csv -o FILE [--start HH:MM]
 
@@ -128,6 +141,7 @@ pub fn of_verb(verb: &str) -> Option<String> {
     Some(match verb {
         "plan" => format!("{PLAN}{LIST_FORMAT}"),
         "end" => END.into(),
+        "sets" => format!("{SETS}{LIST_FORMAT}"),
         "sheet" => format!("{SHEET}{LIST_FORMAT}"),
         "list" => LIST.into(),
         "desk" => DESK.into(),

@@ -9,6 +9,7 @@ mod help;
 mod json;
 mod list;
 mod outcome;
+mod outlook;
 mod page;
 mod plan_json;
 mod plan_text;
@@ -17,6 +18,7 @@ mod planned;
 mod pointer;
 mod road;
 mod search;
+mod sets_verb;
 mod sheet_verbs;
 mod style;
 
@@ -55,6 +57,7 @@ fn run(words: &[String]) -> Result<Outcome, Trouble> {
         "list" => sheet_verbs::list(rest),
         "plan" => plan_verb::run(rest),
         "end" => end_verb::run(rest),
+        "sets" => sets_verb::run(rest),
         "desk" => desk::run(rest),
         "explain" => explain::run(rest),
         "help" => help::run(rest),

@@ -47,6 +47,7 @@ pub fn run(words: &[String]) -> Result<Outcome, Trouble> {
     })
 }
 
+/// The form that is asked for on the verb's command line.
 pub fn form(arguments: &Arguments) -> Result<Form, Trouble> {
     match (arguments.has("--raw"), arguments.has("--json")) {
         (true, true) => Err(Trouble::usage("--raw and --json exclude each other", arguments.verb())),
@@ -56,6 +57,7 @@ pub fn form(arguments: &Arguments) -> Result<Form, Trouble> {
     }
 }
 
+/// Says a refusal in this form.
 pub fn refused(yard: &Yard, refusal: Refusal, form: Form) -> Result<Outcome, Trouble> {
     match form {
         Form::Raw => say(&format!("refused {}\n", refusal.number()))?,

@@ -1,4 +1,5 @@
 //! A call that searches, on a thread of its own, and how long it has been searching on standard error.
+use crate::outlook::Outlook;
 use depot_host::{card_length, earliest_end, plan, read, Card, Reading, Refusal, MOST_JOBS};
 use std::io::{self, IsTerminal, Write};
 use std::sync::mpsc::{self, RecvTimeoutError};
@@ -19,7 +20,7 @@ pub struct Found {
 
 pub fn run(sheet: &[u8], memory: usize) -> Result<Found, Refusal> {
     let lent = sheet.to_vec();
-    let mut bytes = searched(move || {
+    let mut bytes = searched(sheet, move || {
         let mut card = vec![0; card_length(MOST_JOBS)];
         plan(&lent, &mut card, &mut vec![0; memory]).map(|()| card)
     })?;
@@ -32,19 +33,20 @@ pub fn run(sheet: &[u8], memory: usize) -> Result<Found, Refusal> {
 /// The earliest end alone.
 pub fn end(sheet: &[u8], memory: usize) -> Result<u16, Refusal> {
     let lent = sheet.to_vec();
-    searched(move || earliest_end(&lent, &mut vec![0; memory]))
+    searched(sheet, move || earliest_end(&lent, &mut vec![0; memory]))
 }
 
-/// What the call answers.
-fn searched<T: Send + 'static>(call: impl FnOnce() -> T + Send + 'static) -> T {
+/// What the call for the sheet answers.
+fn searched<T: Send + 'static>(sheet: &[u8], call: impl FnOnce() -> T + Send + 'static) -> T {
     let (send, receive) = mpsc::channel();
     let search = thread::spawn(move || send.send(call()).ok());
-    let answer = wait(&receive);
+    let answer = wait(&receive, sheet);
     search.join().expect("the search ends");
     answer
 }
 
-fn wait<T>(receive: &mpsc::Receiver<T>) -> T {
+/// Waits for the answer. Where that takes a while it is said what the list is in for, and then how long it has taken.
+fn wait<T>(receive: &mpsc::Receiver<T>, sheet: &[u8]) -> T {
     let start = Instant::now();
     let terminal = io::stderr().is_terminal();
     let mut pause = SILENT;
@@ -61,6 +63,9 @@ fn wait<T>(receive: &mpsc::Receiver<T>) -> T {
             Err(RecvTimeoutError::Disconnected) => panic!("the search stopped without an answer"),
             Err(RecvTimeoutError::Timeout) => {
                 let seconds = start.elapsed().as_secs();
+                if let (false, Ok(outlook)) = (said, Outlook::of(sheet)) {
+                    eprintln!("a long search: {} {}", outlook.sets_in_words(), outlook.benchmark_in_words());
+                }
                 if terminal {
                     eprint!("\rsearching for the earliest end: {} (Ctrl-C gives up)", took(seconds));
                     io::stderr().flush().ok();

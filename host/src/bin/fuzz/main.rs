@@ -1,6 +1,6 @@
 //! Compares the library with the other implementations as long as it is asked to; the tests do the same a fixed number of times.
 use depot_host::compare::sheet_calls::{Sheets, READING, WRITING};
-use depot_host::compare::{desk::Answers, older::Older, planning::Planning, search, sheets::CHECKS};
+use depot_host::compare::{desk::Answers, older::Older, planning::Planning, search, sets::Sets, sheets::CHECKS};
 use depot_host::plain_search::Rules;
 use depot_host::random::Random;
 use depot_host::raw_sheet::Layout;
@@ -106,6 +106,11 @@ fn round(seed: u64, compared: &mut Compared) {
     sheets.good_writing(SHEETS);
     WRITING.iter().for_each(|check| sheets.damaged_writing(*check, FAULTS));
     compared.read += 3 * SHEETS + (READING.len() + WRITING.len()) * FAULTS + 1;
+
+    let mut sets = Sets::new(seed);
+    sets.good(12, SHEETS);
+    CHECKS.iter().for_each(|check| sets.damaged(*check, FAULTS));
+    compared.read += sets.compared;
 
     let mut answers = Answers::default();
     let mut random = Random::new(seed);

@@ -1,0 +1,3 @@
+-- Laws of which jobs follow which.
+pub mod Levels
+pub mod Steps

@@ -1,0 +1,3 @@
+-- Which jobs follow which.
+pub mod Following
+pub mod Marks
