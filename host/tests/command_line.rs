@@ -45,6 +45,15 @@ fn end() {
     }
     golden("end-mixed-night.json", &["end", "examples/mixed-night.csv", "--json"], 0);
     assert_eq!(depot(&["end", "examples/mixed-night.csv", "--raw", "--json"], b"").status, 2);
+    let sheet = depot(&["sheet", "examples/small-depot.csv", "-o", "-"], b"").output;
+    assert_eq!(
+        depot(&["end", "-"], &sheet).text(),
+        "The last bus is full 5 h 25 min after the start (minute 325): no plan of 6 jobs on 8 modules ends earlier.\n"
+    );
+    assert_eq!(
+        depot(&["end", "-"], &[0, 0, 0, 0, 0, 0, 1, 0, 0, 0]).text(),
+        "There is nothing to charge: the plan of 0 jobs on 1 module ends at its start, minute 0.\n"
+    );
 }
 
 #[test]
@@ -144,7 +153,7 @@ fn job_sets() {
         assert_eq!(depot(&["sets", &list, "--raw"], b"").text(), format!("{counted}\n"));
     }
     let wide = [65, 1, 2, 1, 0, 0, 0, 0, 0, 0, 0, 0, 0, 1, 0, 0, 0, 1, 0, 1, 0, 0, 0];
-    for verb in ["sets", "plan"] {
+    for verb in ["sets", "end", "plan"] {
         let raw = depot(&[verb, "-", "--raw"], &wide);
         assert_eq!((raw.status, raw.text().as_str()), (1, "refused 8\n"));
         assert_eq!(depot(&[verb, "-", "--json"], &wide).status, 1);

@@ -40,8 +40,8 @@ fn in_words(yard: &Yard, end: u16) -> String {
         return format!("There is nothing to charge: the plan of {size} ends at its start, minute 0.\n");
     }
     let after = format!("{} h {:02} min after the start", end / 60, end % 60);
-    let when = yard.clock.map_or(after.clone(), |clock| format!("{}, {after}", clock.time(end.into())));
-    format!("The last bus is full at {when} (minute {end}): no plan of {size} ends earlier.\n")
+    let when = yard.clock.map_or(after.clone(), |clock| format!("at {}, {after}", clock.time(end.into())));
+    format!("The last bus is full {when} (minute {end}): no plan of {size} ends earlier.\n")
 }
 
 fn in_json(yard: &Yard, end: u16) -> String {

@@ -8,8 +8,9 @@ use std::fmt::Write;
 
 const TAKES: Takes = Takes { verb: "explain", flags: &["--json"], values: &[], plain: &["a refusal's number"], needed: 0 };
 
-const READING: &str = "reading, labels, planning";
-const READING_AND_WRITING: &str = "reading, labels, planning, writing";
+const PLANNING: &str = "planning, the end alone, job sets";
+const READING: &str = "reading, labels, planning, the end alone, job sets";
+const READING_AND_WRITING: &str = "reading, labels, planning, the end alone, job sets, writing";
 
 /// Which calls refuse with each number, and what to do, in the order of the numbers.
 const TO_DO: [(Refusal, &str, &str); 21] = [
@@ -25,8 +26,8 @@ const TO_DO: [(Refusal, &str, &str); 21] = [
     ),
     (Refusal::LabelLengths, READING_AND_WRITING, "The file was damaged, or a program wrote wrong label lengths. Make it again from the list."),
     (Refusal::LabelByte, READING_AND_WRITING, "Write labels in plain letters, digits and signs, without accents, and with spaces inside alone."),
-    (Refusal::OverWide, "planning", "Give the job fewer modules, or plan it on a larger cabinet: as it stands it has no plan. 'depot plan' names the job."),
-    (Refusal::Circular, "planning", "Take one 'after' out of the circle: as it stands no job of it can start. 'depot plan' names a circle."),
+    (Refusal::OverWide, PLANNING, "Give the job fewer modules, or plan it on a larger cabinet: as it stands it has no plan. 'depot plan' names the job."),
+    (Refusal::Circular, PLANNING, "Take one 'after' out of the circle: as it stands no job of it can start. 'depot plan' names a circle."),
     (Refusal::BufferTooShort, "planning, writing", "A fault of the calling program: lend 13 bytes for each job and 8 for a card, 570 for every sheet."),
     (Refusal::ListLengths, "opening, changes", "Give 2 to 8 controllers, each with a share and a ceiling; in a change as many as the desk has."),
     (Refusal::DeskFigures, "opening, changes", "Choose a limit of 0.1 to 40,000 kW, ceilings within it, and for each controller a share within its ceiling."),
