@@ -15,7 +15,7 @@
  *             pointer must lead to as many elements as are said, aligned as C asks; this is the one thing that no call can check.
  * Overlaps.   What a call writes must not overlap anything else that it is lent. What it only reads may overlap.
  * Threads.    Calls may run at the same time as long as none writes what another is lent.
- * Stack.      Measured, not proved: depot_plan and depot_end stay within DEPOT_PLAN_STACK bytes, depot_sets within
+ * Stack.      Measured, not proved: depot_plan, depot_end and depot_use stay within DEPOT_PLAN_STACK bytes, depot_sets within
  *             DEPOT_SETS_STACK, every other call within DEPOT_CALL_STACK.
  *             The tests of the host package hold these figures.
  * Names       that begin with depot_ or DEPOT_ belong to the library. It calls memcpy, memmove and memset, and nothing else.
@@ -35,8 +35,8 @@ extern "C" {
 /* ---- the version ------------------------------------------------------------------------------------------------------------- */
 
 /* Of this header, and as a number: major * 1000000 + minor * 1000 + patch. Bytes of sheets and cards may differ between minors. */
-#define DEPOT_VERSION "0.9.0"
-#define DEPOT_VERSION_NUMBER 9000
+#define DEPOT_VERSION "0.10.0"
+#define DEPOT_VERSION_NUMBER 10000
 
 /*
  * The number of the library that is linked. Compare it with DEPOT_VERSION_NUMBER at the start, so that header and library belong
@@ -72,7 +72,8 @@ enum depot_refusal {
     DEPOT_EXCEEDS_HOLDING = 18,       /* the hand-back exceeds the holding */
     DEPOT_CHANGEOVER = 19,            /* the changeover is longer than 30 minutes */
     DEPOT_HOLDING_ABOVE_CEILING = 21, /* some holding exceeds its new ceiling */
-    DEPOT_HOLDINGS_EXCEED_LIMIT = 22  /* the holdings, each raised to its new share where that is larger, exceed the new limit */
+    DEPOT_HOLDINGS_EXCEED_LIMIT = 22, /* the holdings, each raised to its new share where that is larger, exceed the new limit */
+    DEPOT_NO_JOBS = 23                /* the plan has no jobs */
 };
 
 /* ---- sizes ------------------------------------------------------------------------------------------------------------------- */
@@ -135,6 +136,26 @@ struct depot_earliest {
  * Stack: DEPOT_PLAN_STACK.
  */
 struct depot_earliest depot_end(const uint8_t *sheet, size_t sheet_len, uint8_t *work, size_t work_len);
+
+/* What the call for the use of the cabinet answers. */
+struct depot_usage {
+    uint32_t refusal;   /* 0, or the refusal's number; then both figures are 0 */
+    uint32_t per_mille; /* of the modules times the plan's end, how many thousandths jobs occupy, rounded down: 0 to 1000 */
+    uint32_t remainder; /* what the per mille leaves of a thousand times the occupied module-minutes */
+};
+
+/*
+ * Finds how much of the cabinet the plan that depot_plan gives uses, without a card. A module is occupied while a job runs on it, and
+ * not while it rests: changeovers are not counted. The figures are exact: a thousand times the occupied module-minutes is per_mille
+ * times the product of the modules and the plan's end, plus the remainder, which is smaller than that product.
+ *
+ * sheet  Read. The sheet's bytes.
+ * work   Written. Working memory as for depot_plan: an answered call leaves it all zero.
+ *
+ * The two do not overlap. Answers the two figures, or a refusal: 1 to 3, 19, 4 to 9, 23, in this order. Refused, work is as before.
+ * It takes the time of depot_end. Stack: DEPOT_PLAN_STACK.
+ */
+struct depot_usage depot_use(const uint8_t *sheet, size_t sheet_len, uint8_t *work, size_t work_len);
 
 /* What counting the job sets answers. */
 struct depot_set_count {

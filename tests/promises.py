@@ -4,7 +4,7 @@
 - Every file that the tables of DOCUMENTS cite exists, and has the names that stand behind it.
 - docs/PROMISES.md has a row for every numbered sentence of docs/REQUIREMENTS.md, in its words. A request (F) that has a row has one
   for each of its sentences; one that has none has not landed.
-- A requirement or a decision is cited by its number, as a link; nothing is called by the name of a paper that is not here.
+- A requirement or a decision has a number of its own, and is cited by it, as a link; nothing is called by the name of a paper that is not here.
 - Every link within the repository leads to a file, and to a heading of it where it names one.
 
 With --write the links at the end of each document, and the sentences of docs/PROMISES.md, are written anew.
@@ -60,6 +60,14 @@ def numbers_of(document):
             sentences[item.group(1)] = item.group(2)
             places[item.group(1)] = f'{document}#{anchor}'
     return sentences, places
+
+
+def twice_in(document):
+    """The numbers that a document gives more than once."""
+    lines = (ROOT / document).read_text().split('\n')
+    numbers = [match.group(2) for match in map(HEADING.fullmatch, lines) if match]
+    numbers += [match.group(1) for match in map(ITEM.fullmatch, lines) if match]
+    return sorted(number for number in set(numbers) if numbers.count(number) > 1)
 
 
 def tokens(path):
@@ -168,7 +176,7 @@ def broken_links(document, text):
 def main():
     sentences, places = numbers_of(REQUIREMENTS)
     places |= numbers_of(DECISIONS)[1]
-    wrong = []
+    wrong = [f'{document}: {number} stands twice' for document in (REQUIREMENTS, DECISIONS) for number in twice_in(document)]
     for document in documents():
         if document == REQUIREMENTS:
             continue

@@ -107,6 +107,24 @@ static void plan_e1_on_the_road(void)
     check(depot_plan(sheet, sizeof sheet, card, sizeof card, NULL, 0) == DEPOT_RECORD_FIELD, "an arrival of 1441 is refused");
 }
 
+/* The use of the cabinet by E1: all of it; with a changeover of 5 minutes 60 of 70 module-minutes; and by no jobs none. */
+static void use_of_e1(void)
+{
+    static const uint8_t none[DEPOT_SHORTEST_SHEET] = {0, 0, 0, 0, 0, 0, 2, 0, 0, 0};
+    uint8_t sheet[sizeof e1], work[64];
+    struct depot_usage used = depot_use(e1, sizeof e1, NULL, 0);
+    check(used.refusal == DEPOT_DONE && used.per_mille == 1000 && used.remainder == 0, "E1 uses the whole cabinet");
+
+    memcpy(sheet, e1, sizeof e1);
+    sheet[sizeof sheet - 2] = 5;
+    memset(work, 0xEE, sizeof work);
+    used = depot_use(sheet, sizeof sheet, work, sizeof work);
+    check(used.refusal == DEPOT_DONE && used.per_mille == 857 && used.remainder == 10, "with a changeover 857 per mille, and 10 over");
+    check(1000 * 60 == 857 * (2 * 35) + 10 && work[0] == 0, "60 of 70 module-minutes");
+    used = depot_use(none, sizeof none, work, sizeof work);
+    check(used.refusal == DEPOT_NO_JOBS && used.per_mille == 0 && used.remainder == 0, "without jobs there is no share");
+}
+
 /* ---- job sheets */
 
 static void read_and_write_e1(void)
@@ -242,6 +260,7 @@ int main(void)
     check(sizeof(struct depot_desk) == 104, "a desk has the library's size");
     plan_e1();
     plan_e1_on_the_road();
+    use_of_e1();
     read_and_write_e1();
     follow_e1_with_a_changeover();
     claim_and_hand_back();

@@ -53,12 +53,23 @@ pub struct Earliest {
     pub end: u16,
 }
 
+/// What the call for the use of the cabinet answers: refusal 0 with the per mille and the remainder, or the number of the refusal with 0.
+#[repr(C)]
+#[derive(Clone, Copy, Debug, PartialEq, Eq)]
+pub struct Usage {
+    pub refusal: u32,
+    pub per_mille: u32,
+    pub remainder: u32,
+}
+
 extern "C" {
     pub fn depot_version() -> u32;
 
     pub fn depot_plan(sheet: *const u8, sheet_len: usize, card: *mut u8, card_len: usize, work: *mut u8, work_len: usize) -> u32;
 
     pub fn depot_end(sheet: *const u8, sheet_len: usize, work: *mut u8, work_len: usize) -> Earliest;
+
+    pub fn depot_use(sheet: *const u8, sheet_len: usize, work: *mut u8, work_len: usize) -> Usage;
 
     pub fn depot_sets(sheet: *const u8, sheet_len: usize) -> SetCount;
 

@@ -1,7 +1,7 @@
 //! The depot's planner and share desk for Rust programs: a safe wrapper of the proved static library.
 //!
-//! [`version`], [`plan`], [`Card`], [`earliest_end`], [`sets`], [`read`], [`label`], [`label_of`], [`write()`], [`Desk`] and [`Refusal`]
-//! are the product. The other modules test it and measure it.
+//! [`version`], [`plan`], [`Card`], [`earliest_end`], [`usage`], [`sets`], [`read`], [`label`], [`label_of`], [`write()`], [`Desk`] and
+//! [`Refusal`] are the product. The other modules test it and measure it.
 
 mod card;
 mod desk;
@@ -66,6 +66,24 @@ pub fn earliest_end(sheet: &[u8], work: &mut [u8]) -> Result<u16, Refusal> {
     // SAFETY: two live slices that do not overlap; the library keeps no pointer.
     let answer = unsafe { ffi::depot_end(sheet.as_ptr(), sheet.len(), work.as_mut_ptr(), work.len()) };
     Refusal::or_done(answer.refusal).map(|()| answer.end)
+}
+
+/// How much of the cabinet a plan uses: a thousand times the module-minutes that jobs occupy is `per_mille` times the product of the
+/// modules and the plan's end, plus `remainder`, which is smaller than that product.
+#[derive(Clone, Copy, Debug, PartialEq, Eq)]
+pub struct Usage {
+    pub per_mille: u32,
+    pub remainder: u32,
+}
+
+/// The use of the cabinet in the plan that [`plan`] gives, without a card; modules that rest are not in use.
+///
+/// `work` is working memory as for [`plan`]. A refused call writes no byte.
+pub fn usage(sheet: &[u8], work: &mut [u8]) -> Result<Usage, Refusal> {
+    // SAFETY: two live slices that do not overlap; the library keeps no pointer.
+    let ffi::Usage { refusal, per_mille, remainder } =
+        unsafe { ffi::depot_use(sheet.as_ptr(), sheet.len(), work.as_mut_ptr(), work.len()) };
+    Refusal::or_done(refusal).map(|()| Usage { per_mille, remainder })
 }
 
 /// How many sets of jobs a part-plan of the sheet can hold: those that have, with each job, all its earlier jobs. Nothing is planned.

@@ -27,12 +27,13 @@ pub enum Refusal {
     Changeover,
     HoldingAboveCeiling = 21,
     HoldingsExceedLimit,
+    NoJobs,
 }
 
 use Refusal::*;
 
 /// Every refusal in the order of the numbers, in plain words.
-const IN_WORDS: [(Refusal, &str); 21] = [
+const IN_WORDS: [(Refusal, &str); 22] = [
     (SheetLength, "the sheet has fewer than 10 or more than 570 bytes"),
     (TooManyJobs, "there are more than 20 jobs"),
     (CabinetSize, "the cabinet has no modules or more than 64"),
@@ -54,11 +55,12 @@ const IN_WORDS: [(Refusal, &str); 21] = [
     (Changeover, "the changeover is longer than 30 minutes"),
     (HoldingAboveCeiling, "some holding exceeds its new ceiling"),
     (HoldingsExceedLimit, "the holdings, each raised to its new share where that is larger, exceed the new limit"),
+    (NoJobs, "there are no jobs"),
 ];
 
 impl Refusal {
     /// The numbers that there are, for people.
-    pub const NUMBERS: &'static str = "1 to 19, 21 and 22";
+    pub const NUMBERS: &'static str = "1 to 19 and 21 to 23";
 
     /// Every refusal, in the order of the numbers.
     pub fn all() -> impl Iterator<Item = Refusal> {
@@ -97,10 +99,10 @@ impl Error for Refusal {}
 #[test]
 fn each_number_has_its_own_words() {
     let numbers: Vec<u32> = Refusal::all().map(Refusal::number).collect();
-    assert_eq!(numbers, (1..=19).chain([21, 22]).collect::<Vec<u32>>());
+    assert_eq!(numbers, (1..=19).chain(21..=23).collect::<Vec<u32>>());
     for (refusal, words) in IN_WORDS {
         assert_eq!(Refusal::of_number(refusal.number()), Some(refusal));
         assert_eq!(refusal.to_string(), words);
     }
-    assert_eq!([0, 20, 23].map(Refusal::of_number), [None; 3]);
+    assert_eq!([0, 20, 24].map(Refusal::of_number), [None; 3]);
 }

@@ -290,7 +290,7 @@ fn words() {
     usage(&["sheet", "a"], "depot sheet: -o FILE is missing; 'depot sheet --help' shows what it takes\n");
     usage(&["sheet"], "depot sheet: a list is missing; 'depot sheet --help' shows what it takes\n");
     usage(&["list"], "depot list: a sheet is missing; 'depot list --help' shows what it takes\n");
-    for number in ["0", "20", "x", "-1x"] {
+    for number in ["0", "99", "x", "-1x"] {
         assert_eq!(depot(&["explain", number], b"").status, 2);
     }
 }
@@ -326,8 +326,8 @@ fn desk_lines() {
         ("claim 0 0.05", "found '0.05'; allowed: whole hundreds of watts, so 0 or 0.1 kW"),
         ("back 0 429496729.6", "found '429496729.6'; allowed: kW, up to 40000"),
         ("look 0 1", "found 'look 0 1'; allowed: look, or look CONTROLLER"),
-        ("explain 20", "found '20'; allowed: refusals 1 to 19, 21 and 22"),
-        ("explain x", "found 'x'; allowed: a refusal's number, 1 to 19, 21 and 22"),
+        ("explain 99", "found '99'; allowed: refusals 1 to 19 and 21 to 23"),
+        ("explain x", "found 'x'; allowed: a refusal's number, 1 to 19 and 21 to 23"),
         ("change", "found 'change' alone; allowed: change LIMIT SHARE/CEILING .., as 'change 400 yard=180/360 workshop=100/200'"),
         ("change 10 4/10 3/10", "there is no desk yet; open one first, as 'open 500 yard=240/420 workshop=100/200'"),
         ("change 10 yard=4/10 3/10", "found 'yard'; allowed: a controller's number"),

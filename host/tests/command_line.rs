@@ -59,7 +59,7 @@ fn end() {
 #[test]
 fn help() {
     golden("help.txt", &["--help"], 0);
-    for verb in ["plan", "end", "sets", "sheet", "list", "desk", "explain"] {
+    for verb in ["plan", "end", "use", "sets", "sheet", "list", "desk", "explain"] {
         let name = format!("help-{verb}.txt");
         golden(&name, &[verb, "--help"], 0);
         golden(&name, &["help", verb], 0);
@@ -75,7 +75,7 @@ fn help() {
 fn explain() {
     golden("explain.txt", &["explain"], 0);
     golden("explain.json", &["explain", "--json"], 0);
-    let each = (1..=19).chain([21, 22]).map(|number: u32| depot(&["explain", &number.to_string()], b"").text());
+    let each = (1..=19).chain(21..=23).map(|number: u32| depot(&["explain", &number.to_string()], b"").text());
     same("host/tests/golden/explain-each.txt", each.collect::<Vec<_>>().join("\n").as_bytes());
     golden("explain-17.json", &["explain", "17", "--json"], 0);
 }
@@ -140,6 +140,63 @@ fn plans_in_other_forms() {
     }
 }
 
+/// The use of the cabinet: the library's two figures, and how many module-minutes they are of.
+#[test]
+fn use_of_the_cabinet() {
+    let lists = ["small-depot", "mixed-night", "on-the-road", "contactors"].map(|name| format!("examples/{name}.csv"));
+    let figure = |line: &str, name: &str| -> u64 {
+        let text = line.split(&format!("\"{name}\": ")).nth(1).expect("a member");
+        text.split([',', '}']).next().unwrap().parse().unwrap()
+    };
+    let mut sums = [0, 0];
+    for list in &lists {
+        let sheet = depot(&["sheet", list, "-o", "-"], b"").output;
+        let used = depot_host::usage(&sheet, &mut vec![0; 1 << 20]).unwrap();
+        assert_eq!(depot(&["use", list, "--raw"], b"").text(), format!("{} {}\n", used.per_mille, used.remainder));
+        let json = depot(&["use", list, "--json"], b"").text();
+        let [occupied, all] = ["occupied", "of"].map(|name| figure(&json, name));
+        let modules = u64::from(depot_host::read(&sheet).unwrap().modules);
+        let end = depot_host::earliest_end(&sheet, &mut vec![0; 1 << 20]).unwrap();
+        assert_eq!(all, modules * u64::from(end), "{list}");
+        assert_eq!(1000 * occupied, u64::from(used.per_mille) * all + u64::from(used.remainder), "{list}");
+        sums = [sums[0] + occupied, sums[1] + all];
+    }
+    golden("use-mixed-night.txt", &["use", &lists[1]], 0);
+    golden("use-mixed-night.json", &["use", &lists[1], "--json"], 0);
+    let [a, b, c, d] = lists.each_ref().map(String::as_str);
+    golden("use-several.txt", &["use", a, b, c, d], 0);
+    golden("use-several.json", &["use", a, b, c, d, "--json"], 0);
+    golden("use-several.raw", &["use", a, b, c, d, "--raw"], 0);
+    let total = depot(&["use", a, b, c, d, "--json"], b"").text();
+    let total = total.split("\"total\": ").nth(1).expect("a total");
+    assert_eq!(["occupied", "of"].map(|name| figure(total, name)), sums);
+    let [per_mille, remainder] = ["per_mille", "remainder"].map(|name| figure(total, name));
+    assert!(1000 * sums[0] == per_mille * sums[1] + remainder && remainder < sums[1]);
+}
+
+/// A list without jobs has no share, and counts for nothing in a total; a share below a thousandth is shown too.
+#[test]
+fn use_of_nothing_and_of_little() {
+    let none = file("none.csv", b"cabinet,64\nlabel,modules,minutes,after,departure\n");
+    let little = file("little.csv", b"cabinet,64\nlabel,modules,minutes,after,departure,arrival\nA,1,1,,0,1440\n");
+    let refused = depot(&["use", &none, "--json"], b"");
+    assert_eq!((refused.status, refused.text().as_str()), (1, "{\"refused\": 23, \"why\": \"there are no jobs\"}\n"));
+    assert!(depot(&["use", &none], b"").errors.contains(": refused 23: there are no jobs\n"));
+    assert_eq!(
+        depot(&["use", &little], b"").text(),
+        "0.0 % of the cabinet was charging (0 per mille, remainder 1,000): 1 of 92,224 module-minutes.\n"
+    );
+    let several = depot(&["use", &little, &none, &little], b"");
+    assert_eq!((several.status, several.text().lines().count()), (1, 5), "a head, three lists and a total");
+    assert!(several.text().contains("refused 23\n") && several.errors.contains("none.csv: refused 23"));
+    let total = several.text().lines().last().unwrap().split_whitespace().map(String::from).collect::<Vec<_>>();
+    assert_eq!(total, ["total", "0.0", "%", "0", "2,000", "2", "184,448"]);
+    assert_eq!(depot(&["use", &none, &little, "--raw"], b"").text(), "refused 23\n0 1000\n");
+    let all_refused = depot(&["use", &none, &none], b"");
+    assert_eq!((all_refused.status, all_refused.text().lines().count()), (1, 3), "no total of nothing");
+    assert_eq!(depot(&["use", "--raw"], b"").status, 2);
+}
+
 /// How large the search will be, in every form; refused as planning refuses, and with no start asked for.
 #[test]
 fn job_sets() {
@@ -153,7 +210,7 @@ fn job_sets() {
         assert_eq!(depot(&["sets", &list, "--raw"], b"").text(), format!("{counted}\n"));
     }
     let wide = [65, 1, 2, 1, 0, 0, 0, 0, 0, 0, 0, 0, 0, 1, 0, 0, 0, 1, 0, 1, 0, 0, 0];
-    for verb in ["sets", "end", "plan"] {
+    for verb in ["sets", "end", "use", "plan"] {
         let raw = depot(&[verb, "-", "--raw"], &wide);
         assert_eq!((raw.status, raw.text().as_str()), (1, "refused 8\n"));
         assert_eq!(depot(&[verb, "-", "--json"], &wide).status, 1);

@@ -185,6 +185,23 @@ fn ends() {
 }
 
 #[test]
+fn uses() {
+    for sheet in edge_sheets() {
+        let expected = reference::usage::used(&sheet);
+        let (per_mille, remainder) = expected.map_or((0, 0), |used| used.per_mille_and_remainder());
+        for work_length in [0, 1, 64] {
+            let (lent, work) = (Lent::of(&sheet), Lent::painted(work_length));
+            // SAFETY: two live buffers of these lengths.
+            let answer = unsafe { ffi::depot_use(lent.at(), lent.len(), work.at(), work_length) };
+            let figures = ffi::Usage { refusal: refusal(&expected), per_mille: per_mille as u32, remainder: remainder as u32 };
+            assert_eq!(answer, figures, "sheet {sheet:02x?}");
+            let cleared = if answer.refusal == 0 { vec![0; work_length] } else { Vec::new() };
+            assert!(work.has(&cleared) && lent.has(&sheet), "sheet {sheet:02x?}");
+        }
+    }
+}
+
+#[test]
 fn reading() {
     for sheet in edge_sheets() {
         let lent = Lent::of(&sheet);
@@ -430,6 +447,7 @@ fn empty_buffers_may_have_any_pointer() {
     unsafe {
         assert_eq!(ffi::depot_plan(null_mut(), 0, null_mut(), 0, null_mut(), 0), 1);
         assert_eq!(ffi::depot_end(null_mut(), 0, null_mut(), 0).refusal, 1);
+        assert_eq!(ffi::depot_use(null_mut(), 0, null_mut(), 0), ffi::Usage { refusal: 1, per_mille: 0, remainder: 0 });
         assert_eq!(ffi::depot_read(null_mut(), 0).refusal, 1);
         assert_eq!(ffi::depot_sets(null_mut(), 0), ffi::SetCount { refusal: 1, sets: 0 });
         assert_eq!(ffi::depot_label(null_mut(), 0, 0).refusal, 1);

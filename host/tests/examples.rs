@@ -1,6 +1,6 @@
 //! The examples E1 to E11 of docs/REQUIREMENTS.md, and the edges of a sheet, through the exported calls.
 use depot_host::raw_sheet::Sheet;
-use depot_host::{card_length, plan, sets, Desk, Job, Refusal, LONGEST_SHEET};
+use depot_host::{card_length, plan, sets, usage, Desk, Job, Refusal, Usage, LONGEST_SHEET};
 
 /// A job of so many modules and minutes that waits for the jobs of a set.
 fn job(modules: u8, minutes: u16, earlier: u32) -> Job {
@@ -58,6 +58,20 @@ fn job_sets() {
     assert_eq!(counted(1, vec![job(2, 1, 0)]), Err(Refusal::OverWide));
     assert_eq!(counted(1, vec![job(1, 1, 2), job(1, 1, 1)]), Err(Refusal::Circular));
     assert_eq!(counted(2, vec![job(1, 1, 0), job(1, 10, 0), job(2, 1, 1), job(1, 10, 4)]), Ok(8));
+}
+
+/// The use of the cabinet: all of it in E1, 60 of 70 module-minutes with a changeover of 5, 23 of 24 in E8.
+#[test]
+fn use_of_the_cabinet() {
+    let used = |modules, changeover, jobs| usage(&Sheet { changeover, ..Sheet::of(modules, jobs) }.bytes(), &mut [0; 4096]);
+    let e1 = || vec![job(1, 10, 0), job(2, 20, 0), job(1, 10, 0)];
+    assert_eq!(used(2, 0, e1()), Ok(Usage { per_mille: 1000, remainder: 0 }));
+    assert_eq!(used(2, 5, e1()), Ok(Usage { per_mille: 857, remainder: 10 }));
+    let e8 = vec![job(1, 1, 0), job(1, 10, 0), job(2, 1, 1), job(1, 10, 4)];
+    assert_eq!(used(2, 0, e8), Ok(Usage { per_mille: 958, remainder: 8 }));
+    assert_eq!(used(64, 0, vec![arriving(1440, job(1, 1, 0))]), Ok(Usage { per_mille: 0, remainder: 1000 }));
+    assert_eq!(used(1, 0, vec![]), Err(Refusal::NoJobs));
+    assert_eq!(used(1, 0, vec![job(1, 1, 2), job(1, 1, 1)]), Err(Refusal::Circular));
 }
 
 #[test]

@@ -88,6 +88,7 @@ fn in_c(name: &str) -> String {
         "Reading" => "struct depot_reading",
         "LabelPlace" => "struct depot_label_place",
         "Earliest" => "struct depot_earliest",
+        "Usage" => "struct depot_usage",
         "Written" => "struct depot_written",
         "Desk" => "struct depot_desk",
         "SetCount" => "struct depot_set_count",
@@ -152,7 +153,7 @@ fn constant(text: &str, name: &str) -> usize {
 #[test]
 fn calls_agree() {
     let declared = c_calls();
-    assert_eq!(declared.len(), 13);
+    assert_eq!(declared.len(), 14);
     assert_eq!(calls(&source("crates/depot/src/lib.rt")), declared);
     assert_eq!(calls(&source("host/src/ffi.rs")), declared);
 }
@@ -162,6 +163,7 @@ fn structs_agree() {
     let files = [
         ("Job", "crates/sheet_format/src/lib.rt", "host/src/sheet.rs"),
         ("Earliest", "crates/earliest/src/lib.rt", "host/src/ffi.rs"),
+        ("Usage", "crates/usage/src/lib.rt", "host/src/ffi.rs"),
         ("Reading", "crates/sheet/src/lib.rt", "host/src/ffi.rs"),
         ("LabelPlace", "crates/sheet/src/lib.rt", "host/src/ffi.rs"),
         ("Written", "crates/sheet/src/lib.rt", "host/src/ffi.rs"),
@@ -235,7 +237,7 @@ fn refusals_agree() {
         let name: String = format!("{refusal:?}").chars().map(in_capitals).collect();
         expected.push((format!("DEPOT{name}"), refusal.number().to_string()));
     }
-    assert_eq!(expected.len(), 22);
+    assert_eq!(expected.len(), 23);
     assert_eq!(declared, expected);
 }
 
@@ -275,7 +277,7 @@ fn stack_is_within_the_header_s_figures() {
     assert_eq!(measured.len(), c_calls().len());
     for (call, bytes) in measured {
         let figure = match call {
-            "depot_plan" | "depot_end" => "DEPOT_PLAN_STACK",
+            "depot_plan" | "depot_end" | "depot_use" => "DEPOT_PLAN_STACK",
             "depot_sets" => "DEPOT_SETS_STACK",
             _ => "DEPOT_CALL_STACK",
         };

@@ -1,5 +1,8 @@
 -- The demands R-1, R-2 and R-3, proved: each sentence is a theorem of the crate that it speaks of.
-use mathlib.Core.Path.{refl, sym, _∙_}
+use mathlib.Core.Path.{_≡_, refl, sym, subst, _∙_}
+use mathlib.Core.Logic.{_≢_}
+use mathlib.Core.List.{List}
+use Prim.Native.Nat.{ℕ}
 use lib.ListN.{length}
 use borrow.Author.Tests.{ne-eqb}
 use Rattle.checking.proofs.Order.{answered-exactly}
@@ -9,10 +12,15 @@ use Rattle.sheet.proofs.Refusals.{write-refused, write-answered, write-refused-
 use Rattle.sheet.proofs.WrittenReads.{written-reads, written-label}
 use Rattle.sheet.proofs.ReadIsWritten.{read-is-written, read-is-written-bytes}
 use Rattle.sheet.specs.Label.{labelPlace}
-use Rattle.planable.specs.Planable.{workAfter}
-use Rattle.planner.specs.Planning.{planChecks, planRefusal, cardAfter, memoryAfter}
+use Rattle.planable.specs.Planable.{planableChecks, planableRefusal, workAfter}
+use Rattle.planable.proofs.Planable.{planable-refused, planable-answered}
+use Rattle.planner.specs.Planning.{planChecks, planRefusal, cardAfter}
 use Rattle.planner.proofs.Planning.{plan-refused, plan-answered, no-plan-exactly}
 use Rattle.planner.proofs.Granted.{card-granted, card-all-granted}
+use Rattle.earliest.proofs.Promised.{end-number}
+use Rattle.usage.specs.Usage.{useChecks, useRefusal}
+use Rattle.usage.proofs.Promised.{use-number, use-refused, use-passed}
+use Rattle.job_sets.proofs.Answers.{sets-number}
 use Rattle.desk.specs.declared.Desk.{Desk}
 use Rattle.desk.specs.Calls.{opened, Call, claim, handBack, look, change, refusalOf}
 use Rattle.lent.specs.Lent.{openedOver}
@@ -23,6 +31,15 @@ use Rattle.desk.proofs.Holdings.{holdings-add-up, holdings-within}
 use Rattle.desk.proofs.Lists.{refused-leaves, reachable-by-calls}
 use Rattle.demands.specs.Demands.{FirstRefusal, checksOf, EveryCallAnswers, EveryAnswerIsRight, NoneEarlierAndGranted}
 
+-- the calls that check as planning does, but 10
+planable-refusal : (s : List ℕ) (n : ℕ) → n ≡ planableRefusal s → FirstRefusal n (planableChecks s)
+planable-refusal s n e = subst (λ (k : ℕ). FirstRefusal k (planableChecks s)) (sym e) (planable-refused s, planable-answered s)
+
+-- refused, the working memory is as before
+memory-kept : (n : ℕ) → n ≢ 0 → (work : List ℕ) → workAfter n work ≡ work
+unfolding workAfter
+memory-kept n e work = rw (ne-eqb n 0 e)
+
 -- a call on the desk gives the first of its checks that fails
 call-refusal : (d : Desk) (x : Call) → FirstRefusal (refusalOf d x) (checksOf d x)
 call-refusal d (claim c k) = (claim-refused d c k, claim-answered d c k)
@@ -32,16 +49,21 @@ call-refusal d (change l a t) = (change-refused d l a t, change-answered d l a t
 
 -- R-1: every call answers, and a refused one changes nothing.
 pub every-call-answers : EveryCallAnswers
-unfolding labelPlace planRefusal cardAfter workAfter openedOver
+unfolding labelPlace planRefusal cardAfter openedOver
 every-call-answers = record {
   reads = λ s. (read-refused s, read-answered s);
   labels = λ s job. (label-refused s job, label-answered s job);
   writes = λ jobs n labels C out. (write-refused jobs n labels C out, write-answered jobs n labels C out);
   plans = λ s room. (plan-refused s room, answered-exactly (planChecks s room) refl);
+  ends = λ s. planable-refusal s _ (end-number s);
+  uses = λ s. subst (λ (k : ℕ). FirstRefusal k (useChecks s)) (sym (use-number s)) (use-refused s, use-passed s);
+  sets = λ s. planable-refusal s _ (sets-number s);
   opens = λ limit assured ceilings. (open-refused limit assured ceilings, open-answered limit assured ceilings);
   calls = call-refusal;
   refused-write = λ jobs n labels C out e. write-refused-leaves jobs n labels C out e .0;
-  refused-plan = λ s card memory e. let z = ne-eqb (planRefusal s (length card)) 0 e in (rw z, rw z);
+  refused-plan = λ s card memory e. (rw (ne-eqb (planRefusal s (length card)) 0 e), memory-kept (planRefusal s (length card)) e memory);
+  refused-end = λ s work e. memory-kept (planableRefusal s) (λ z. e (end-number s ∙ z)) work;
+  refused-use = λ s work e. memory-kept (useRefusal s) (λ z. e (use-number s ∙ z)) work;
   refused-opening = λ d limit assured ceilings e. rw (ne-eqb (opened limit assured ceilings .refusal) 0 e);
   refused-call = refused-leaves;
 }

@@ -1,7 +1,8 @@
 -- The demands R-1, R-2 and R-3 (docs/REQUIREMENTS.md), a record each. A sentence is one field or a few; ../proofs/Demands.antt proves them.
 --
 -- They speak of definitions. That the calls answer by these definitions, for whatever bytes and numbers they are lent, is the contract of
--- each call in crates/depot/src/lib.rt: depot_plan answers `planRefusal` and leaves `cardAfter` and `memoryAfter`, depot_read answers
+-- each call in crates/depot/src/lib.rt: depot_plan answers `planRefusal` and leaves `cardAfter` and `memoryAfter`; depot_end answers
+-- `endAnswer`, depot_use `usage`, depot_sets `setsAnswer`, and all of these but the last leave `workAfter`; depot_read answers
 -- `reading`, depot_label `labelPlace`, depot_write `writeAnswer` and leaves `writeLeaves`; the desk's calls answer `opened`, `changed`,
 -- `claimed`, `handedBack` and `looked`, and opening where firmware keeps desk d leaves `openedOver d`.
 --
@@ -25,9 +26,12 @@ use Rattle.sheet.specs.RoundTrip.{writtenSheet, rewriteAnswer, rewriteLeaves}
 use Rattle.schedule.specs.Plan.{Plan, Valid, planEnd}
 use Rattle.schedule.specs.TieRule.{Best}
 use Rattle.card.specs.Card.{cardSize, cardOf}
-use Rattle.planable.specs.Planable.{sheetIn}
+use Rattle.planable.specs.Planable.{sheetIn, planableChecks, planableRefusal, workAfter}
 use Rattle.planner.specs.Planning.{planChecks, planRefusal, cardAfter, memoryAfter}
 use Rattle.planner.specs.Planned.{ourPlan}
+use Rattle.earliest.specs.Earliest.{endAnswer}
+use Rattle.usage.specs.Usage.{useChecks, useRefusal, usage}
+use Rattle.job_sets.specs.Results.{setsAnswer}
 use Rattle.desk.specs.declared.Desk.{Desk}
 use Rattle.desk.specs.Desk.{holding, assuredShare, ceilingOf, reservedForOthers}
 use Rattle.desk.specs.Checks.{openChecks, claimChecks, handBackChecks, lookChecks, changeChecks}
@@ -56,6 +60,9 @@ pub record EveryCallAnswers : Type 0 where
   pub writes : (jobs : ℕ → Job) (n : ℕ) (labels : List ℕ) (C : Cabinet) (out : List ℕ)
       → FirstRefusal (writeAnswer jobs n labels C out .refusal) (writeChecks jobs n labels C (length out))
   pub plans : (s : List ℕ) (room : ℕ) → FirstRefusal (planRefusal s room) (planChecks s room)
+  pub ends : (s : List ℕ) → FirstRefusal (endAnswer s .refusal) (planableChecks s)
+  pub uses : (s : List ℕ) → FirstRefusal (usage s .refusal) (useChecks s)
+  pub sets : (s : List ℕ) → FirstRefusal (setsAnswer s .refusal) (planableChecks s)
   pub opens : (limit : ℕ) (assured ceilings : List ℕ)
       → FirstRefusal (opened limit assured ceilings .refusal) (openChecks limit assured ceilings)
   pub calls : (d : Desk) (x : Call) → FirstRefusal (refusalOf d x) (checksOf d x)
@@ -64,6 +71,8 @@ pub record EveryCallAnswers : Type 0 where
       → writeLeaves jobs n labels C out ≡ out
   pub refused-plan : (s card memory : List ℕ) → planRefusal s (length card) ≢ 0
       → (cardAfter s card ≡ card) × (memoryAfter s (length card) memory ≡ memory)
+  pub refused-end : (s work : List ℕ) → endAnswer s .refusal ≢ 0 → workAfter (planableRefusal s) work ≡ work
+  pub refused-use : (s work : List ℕ) → usage s .refusal ≢ 0 → workAfter (useRefusal s) work ≡ work
   pub refused-opening : (d : Desk) (limit : ℕ) (assured ceilings : List ℕ) → opened limit assured ceilings .refusal ≢ 0
       → openedOver d limit assured ceilings .desk ≡ d
   pub refused-call : (d : Desk) (x : Call) → refusalOf d x ≢ 0 → deskAfter d x ≡ d

@@ -8,12 +8,14 @@ use sheet::LabelPlace;
 use sheet::Reading;
 use sheet::Written;
 use sheet_format::Job;
+use usage::Usage;
 ghost use mathlib.Core.Path.{_≡_};
 ghost use lib.ListN.{length};
 ghost use Rattle.planner.specs.Planning.{planRefusal, cardAfter, memoryAfter};
 ghost use Rattle.planable.specs.Planable.{planableRefusal, workAfter};
 ghost use Rattle.earliest.specs.Earliest.{endAnswer};
 ghost use Rattle.job_sets.specs.Results.{setsAnswer};
+ghost use Rattle.usage.specs.Usage.{useRefusal, usage};
 ghost use Rattle.sheet_format.specs.Format.{jobsIn, cabinet};
 ghost use Rattle.sheet.specs.Read.{reading};
 ghost use Rattle.sheet.specs.Label.{labelPlace, placeIn};
@@ -24,8 +26,8 @@ ghost use Rattle.depot.specs.Version.{version};
 
 // ---- the version
 
-// 0.9.0
-const VERSION: u32 = 9000;
+// 0.10.0
+const VERSION: u32 = 10000;
 
 // The number of this library's version; the header has the same.
 #[no_mangle]
@@ -56,6 +58,16 @@ pub extern "C" fn depot_end(sheet: &[u8], work: &mut [u8]) -> Earliest
     ensures work { λ _. ⌜ now (work .exit) ≡ workAfter (planableRefusal (now (sheet .entry))) (now (work .entry)) ⌝ }
 {
     earliest::earliest_end(sheet, work)
+}
+
+// The use of the cabinet in the plan that planning gives, or the first refusal of 1 to 9, 19 and 23. Answered, the working memory is all
+// zero; refused, it is as before.
+#[no_mangle]
+pub extern "C" fn depot_use(sheet: &[u8], work: &mut [u8]) -> Usage
+    ensures answer { λ r. ⌜ r ≡ usage (now (sheet .entry)) ⌝ }
+    ensures work { λ _. ⌜ now (work .exit) ≡ workAfter (useRefusal (now (sheet .entry))) (now (work .entry)) ⌝ }
+{
+    usage::used(sheet, work)
 }
 
 // How many sets of jobs a part-plan of the sheet can hold, or the first refusal of 1 to 9 and 19. Nothing is planned.

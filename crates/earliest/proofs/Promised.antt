@@ -1,18 +1,14 @@
 -- What is promised of the end alone: it is the end on planning's card, and the earliest of all valid plans' ends.
-use mathlib.Core.Path.{_≡_, refl, sym, ap, subst, _∙_}
-use mathlib.Core.Bool.{Bool, true, false, cond}
+use mathlib.Core.Path.{_≡_, refl, sym, subst, _∙_}
 use mathlib.Core.List.{List}
 use Prim.Native.Nat.{ℕ}
-use lib.Dec.{eqb}
 use lib.ListN.{length}
-use borrow.Author.Tests.{eqb-true, eqb-false}
 use Rattle.schedule.specs.Ends.{EarliestEnd}
 use Rattle.schedule.proofs.Theorems.{best-exists}
 use Rattle.planable.specs.Planable.{sheetIn, planableRefusal}
 use Rattle.planable.proofs.Circles.{ordered-when}
 use Rattle.planable.proofs.Tables.{lasting-read}
-use Rattle.planable.proofs.Planable.{passes}
-use Rattle.planner.specs.Planning.{planRefusal, cardAfter}
+use Rattle.planable.proofs.Planable.{number-of-answer, passes}
 use Rattle.planner.specs.Planned.{ourPlan}
 use Rattle.planner.proofs.Planning.{front-passes, plan-answered}
 use Rattle.earliest.specs.declared.Earliest.{Earliest}
@@ -22,13 +18,7 @@ use Rattle.earliest.proofs.Ends.{earliest-one, best-earliest-end, earli
 -- the number is 1 to 9 and 19's
 pub end-number : (s : List ℕ) → endAnswer s .refusal ≡ planableRefusal s
 unfolding endAnswer
-end-number s = go (eqb (planableRefusal s) 0) refl
-  where
-    go : (b : Bool) → eqb (planableRefusal s) 0 ≡ b
-        → cond {A = Earliest} b (record { refusal = 0; end = earliestEnd (sheetIn s) }) (record { refusal = planableRefusal s; end = 0 }) .refusal
-        ≡ planableRefusal s
-    go true e = sym (eqb-true (planableRefusal s) 0 e)
-    go false e = refl
+end-number s = number-of-answer (λ (a : Earliest). a .refusal) (planableRefusal s) _ _ refl refl
 
 end-of : (s : List ℕ) → planableRefusal s ≡ 0 → endAnswer s .end ≡ earliestEnd (sheetIn s)
 unfolding endAnswer

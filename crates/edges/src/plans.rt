@@ -17,7 +17,7 @@ const CARD_BYTE: u8 = 9;
 
 const WORK_BYTE: u8 = 7;
 
-fn job(modules: u8, minutes: u16, earlier: u32, arrival: u16) -> Job {
+pub fn job(modules: u8, minutes: u16, earlier: u32, arrival: u16) -> Job {
     Job {
         label_len: 1,
         modules,
@@ -53,7 +53,7 @@ fn wide(x: u8) -> u32 {
     x as u32
 }
 
-fn first(s: &[u8]) -> u32 {
+pub fn first(s: &[u8]) -> u32 {
     if 0 < s.len() { wide(s[0]) } else { 0 }
 }
 

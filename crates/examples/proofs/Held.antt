@@ -24,12 +24,13 @@ use Rattle.sheet_format.specs.Checks.{outside, faulty, wrongLabel}
 use Rattle.sheet.specs.Read.{reading}
 use Rattle.planable.specs.Planable.{noOrder}
 use Rattle.planner.specs.Planning.{planRefusal, bestCard, cardAfter}
+use Rattle.usage.specs.Usage.{occupiedMinutes, cabinetMinutes, useRefusal, usage}
 use Rattle.desk.specs.declared.Desk.{Desk}
 use Rattle.desk.specs.Checks.{wrongLengths, wrongFigures, sharesExceed, deskOk, notOfDesk}
 use Rattle.desk.specs.Calls.{Call, openRefusal, opened, claimRefusal, claimed, handBackRefusal, handedBack, lookRefusal, looked}
 use Rattle.desk.specs.Calls.{refusalOf, deskAfter}
 use Rattle.desk.specs.Rows.{figureOf}
-use Rattle.examples.specs.Rows.{Reply, Row, plan, call, desk, Answered, answered, Right, holds, noRow}
+use Rattle.examples.specs.Rows.{Reply, Row, plan, call, desk, uses, Answered, answered, Right, holds, noRow}
 use Rattle.examples.specs.Table.{table}
 
 -- ---- a row that passes the test is right
@@ -57,6 +58,17 @@ holds-right (desk limit assured ceilings n l) e =
     let number = eqb (o .refusal) n in
     let rest = answered (o .desk) l in
     (eqb-true _ _ (and-left number rest e), calls-answered (o .desk) l (and-right number rest e))
+holds-right (uses s u) e =
+    let number = eqb (usage s .refusal) (u .refusal) in
+    let share = eqb (usage s .«per_mille») (u .«per_mille») in
+    let rest = eqb (usage s .remainder) (u .remainder) in
+    let figures = and-right number (share && rest) e in
+    λ i.
+    record {
+      refusal = eqb-true (usage s .refusal) (u .refusal) (and-left number (share && rest) e) i;
+      «per_mille» = eqb-true (usage s .«per_mille») (u .«per_mille») (and-left share rest figures) i;
+      remainder = eqb-true (usage s .remainder) (u .remainder) (and-right share rest figures) i;
+    }
 
 -- ---- the table
 
@@ -65,7 +77,7 @@ unfolding table sum largest every any joined overWide ready firstMinute startOf 
     bit setOf numberAt recordAt recordBytes trailerBytes sheetBytes sheet-places outside faulty wrongLabel reading
     card.rowBytes card.trailerBytes card.cardBytes noOrder planRefusal bestCard cardAfter
     firstFailing wrongLengths wrongFigures sharesExceed deskOk notOfDesk openRefusal opened claimRefusal claimed handBackRefusal handedBack
-    lookRefusal looked
+    lookRefusal looked occupiedMinutes cabinetMinutes useRefusal usage
 table-holds = refl
 
 -- Each row of the table is right.

@@ -7,6 +7,8 @@ use lib.Dec.{eqb}
 use lib.ListN.{length}
 use Rattle.schedule.specs.Rows as plans
 use Rattle.planner.specs.Planning.{planRefusal, cardAfter}
+use Rattle.usage.specs.declared.Usage.{Usage}
+use Rattle.usage.specs.Usage.{usage}
 use Rattle.desk.specs.declared.Desk.{Desk}
 use Rattle.desk.specs.Calls.{Call, opened, refusalOf, deskAfter}
 use Rattle.desk.specs.Rows.{figureOf}
@@ -29,11 +31,12 @@ refused n = record { number = n; figure = 0 }
 
 -- `plan`: a row of sheets and plans. `call`: planning with this sheet's bytes and this lent card gives this number and leaves these
 -- bytes in the card. `desk`: opening with this limit, these assured shares and these ceilings gives this number,
--- and then the calls, one after another, answer so.
+-- and then the calls, one after another, answer so. `uses`: the use of the cabinet is this, of this sheet's bytes.
 pub data Row : Type 0 where
   plan : plans.Row → Row
   call : List ℕ → List ℕ → ℕ → List ℕ → Row
   desk : ℕ → List ℕ → List ℕ → ℕ → List (Call × Reply) → Row
+  uses : List ℕ → Usage → Row
 
 -- ---- what a row says
 
@@ -48,6 +51,7 @@ Right (plan r) = plans.Right r
 Right (call s card n after) = (planRefusal s (length card) ≡ n) × (cardAfter s card ≡ after)
 Right (desk limit assured ceilings n l) =
     (opened limit assured ceilings .refusal ≡ n) × Answered (opened limit assured ceilings .desk) l
+Right (uses s u) = usage s ≡ u
 
 -- ---- the same as a test
 
@@ -60,6 +64,8 @@ holds (plan r) = plans.holds r
 holds (call s card n after) = eqb (planRefusal s (length card)) n && plans.sameList (cardAfter s card) after
 holds (desk limit assured ceilings n l) =
     eqb (opened limit assured ceilings .refusal) n && answered (opened limit assured ceilings .desk) l
+holds (uses s u) =
+    eqb (usage s .refusal) (u .refusal) && (eqb (usage s .«per_mille») (u .«per_mille») && eqb (usage s .remainder) (u .remainder))
 
 -- what stands past a table's end
 abbrev pub noRow : Row

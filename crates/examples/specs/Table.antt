@@ -8,7 +8,9 @@ use Rattle.schedule.specs.Rows.{job, sheet, slot, answers, places}
 use Rattle.sheet_format.specs.declared.Job.{Job}
 use Rattle.sheet_format.specs.Format.{jobsIn, sheetBytes, cabinet}
 use Rattle.desk.specs.Calls.{Call, claim, handBack, look}
-use Rattle.examples.specs.Rows.{Reply, done, gives, refused, Row, plan, call, desk}
+use Rattle.usage.specs.declared.Usage.{Usage}
+use Rattle.usage.specs.Usage.{noUsage}
+use Rattle.examples.specs.Rows.{Reply, done, gives, refused, Row, plan, call, desk, uses}
 
 -- E1's sheet, and E4's: "Two jobs each before the other"
 abbrev pub e1 : Sheet
@@ -57,6 +59,10 @@ e9In30kW =
     ∷ (claim 1 900, done)
     ∷ (claim 1 300, refused 17)
     ∷ []
+
+-- F-8: so many per mille of the cabinet, and this remainder
+abbrev pub perMille : ℕ → ℕ → Usage
+perMille share rest = record { refusal = 0; «per_mille» = share; remainder = rest }
 
 unfoldable pub table : List Row
 table =
@@ -145,4 +151,11 @@ table =
     -- "19 when the changeover is above 30"
     ∷ call (restingWith (entry 1 1 0 0 ∷ []) 1 30) (7 ∷ []) 10 (7 ∷ [])
     ∷ call (restingWith (entry 1 1 0 0 ∷ []) 1 31) (7 ∷ []) 19 (7 ∷ [])
+    -- F-8: E1 uses the whole cabinet; with a changeover of 5, 60 of 70 module-minutes; E8 23 of 24
+    ∷ uses (sheetWith (entry 1 10 0 30 ∷ entry 2 20 0 25 ∷ entry 1 10 0 30 ∷ []) 2) (perMille 1000 0)
+    ∷ uses (restingWith (entry 1 10 0 30 ∷ entry 2 20 0 25 ∷ entry 1 10 0 30 ∷ []) 2 5) (perMille 857 10)
+    ∷ uses (sheetWith (entry 1 1 0 0 ∷ entry 1 10 0 0 ∷ entry 2 1 1 0 ∷ entry 1 10 4 0 ∷ []) 2) (perMille 958 8)
+    -- "23 when the plan has no jobs, checked after 9"
+    ∷ uses (sheetWith [] 1) (noUsage 23)
+    ∷ uses (sheetWith (entry 1 1 2 0 ∷ entry 1 1 1 0 ∷ []) 1) (noUsage 9)
     ∷ []

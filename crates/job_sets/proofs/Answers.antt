@@ -9,10 +9,16 @@ use Rattle.tables.specs.Tables.{sheetOf, countOf}
 use Rattle.planable.specs.declared.Checked.{Checked}
 use Rattle.planable.specs.Planable.{planableRefusal}
 use Rattle.planable.specs.Results.{CheckedOf}
-use Rattle.planable.proofs.Planable.{Ready, ready-table}
+use Rattle.planable.proofs.Planable.{number-of-answer, Ready, ready-table}
+use Rattle.job_sets.specs.declared.SetCount.{SetCount}
 use Rattle.job_sets.specs.Sets.{closedSets}
 use Rattle.job_sets.specs.Results.{setsAnswer}
 use Rattle.job_sets.proofs.Closed.{sets-same}
+
+-- the number is 1 to 9 and 19's
+pub sets-number : (s : List ℕ) → setsAnswer s .refusal ≡ planableRefusal s
+unfolding setsAnswer
+sets-number s = number-of-answer (λ (a : SetCount). a .refusal) (planableRefusal s) _ _ refl refl
 
 module _ (s : List ℕ) (r : Checked) (h : CheckedOf s r) where
   pub refused : (r .refusal ≡ 0 → ⊥) → record { refusal = r .refusal; sets = 0 } ≡ setsAnswer s

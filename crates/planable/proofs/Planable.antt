@@ -1,16 +1,18 @@
 -- What checks 1 to 9 say where they pass, and what the front of the planning calls gives.
 use mathlib.Core.Path.{_≡_, refl, sym, _∙_}
 use mathlib.Core.Logic.{_↔_}
-use mathlib.Core.Bool.{false}
+use mathlib.Core.Bool.{Bool, true, false, cond}
 use mathlib.Core.List.{List}
 use Prim.Native.Nat.{ℕ, _≤_, _<_}
 use native.Mathlib.Omega.{arith}
+use lib.Dec.{eqb}
+use borrow.Author.Tests.{eqb-true}
 use Rattle.figures.specs.Figures.{mostJobs}
 use Rattle.schedule.specs.Plan.{Plan, Valid, overWide, Circular}
 use Rattle.schedule.proofs.Existence.{has-plan}
 use Rattle.tables.specs.Tables.{sheetOf, countOf, Fit}
-use Rattle.checking.specs.Checking.{firstFailing, FirstFails}
-use Rattle.checking.proofs.Order.{all-passed, none-failing, both-passed, first-in-front, first-behind, refused-exactly}
+use Rattle.checking.specs.Checking.{firstFailing, FirstFails, NoneFails}
+use Rattle.checking.proofs.Order.{all-passed, none-failing, both-passed, first-in-front, first-behind, refused-exactly, answered-exactly}
 use Rattle.sheet.specs.Read.{readChecks, readRefusal, reading}
 use Rattle.sheet.proofs.Answers.{read-number}
 use Rattle.job_table.specs.Table.{TableOf}
@@ -24,6 +26,20 @@ use Rattle.planable.proofs.Tables.{few-read, lasting-read, same-jobs, f
 pub planable-refused : (s : List ℕ) (k : ℕ) → 0 < k → (planableRefusal s ≡ k) ↔ FirstFails (planableChecks s) k
 unfolding planableRefusal
 planable-refused s k h = refused-exactly (planableChecks s) k h
+
+-- And 0 exactly when none fails.
+pub planable-answered : (s : List ℕ) → (planableRefusal s ≡ 0) ↔ NoneFails (planableChecks s)
+unfolding planableRefusal
+planable-answered s = answered-exactly (planableChecks s) refl
+
+-- An answer that is chosen by its number has that number.
+pub number-of-answer : {A : Type 0} (number : A → ℕ) (k : ℕ) (answer refused : A) → number answer ≡ 0 → number refused ≡ k
+    → number (cond (eqb k 0) answer refused) ≡ k
+number-of-answer number k answer refused a r = go (eqb k 0) refl
+  where
+    go : (b : Bool) → eqb k 0 ≡ b → number (cond b answer refused) ≡ k
+    go true e = a ∙ sym (eqb-true k 0 e)
+    go false e = r
 
 -- ---- where all pass
 

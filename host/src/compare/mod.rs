@@ -8,3 +8,4 @@ pub mod sets;
 pub mod sheet_calls;
 pub mod sheets;
 pub mod two_passes;
+pub mod usage;

@@ -4,4 +4,5 @@ pub mod older;
 pub mod planning;
 pub mod reading;
 pub mod sets;
+pub mod usage;
 pub mod writing;

@@ -72,7 +72,7 @@ fn some_job_precedes_itself(sheet: &Sheet) -> bool {
 pub struct Finished {
     pub end: u32,
     pub order: Vec<usize>,
-    slots: Vec<Slot>,
+    pub slots: Vec<Slot>,
 }
 
 impl Finished {

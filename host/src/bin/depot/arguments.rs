@@ -12,6 +12,8 @@ pub struct Takes<'a> {
     pub plain: &'a [&'a str],
     /// How many of them must be there.
     pub needed: usize,
+    /// Whether the last of them may stand several times.
+    pub more: bool,
 }
 
 /// The words of a command line, sorted.
@@ -44,7 +46,7 @@ impl Arguments {
                 read.flags.push(name.into());
             } else if name.len() > 1 && name.starts_with('-') {
                 return wrong(format!("there is no option '{word}'"));
-            } else if read.plain.len() == takes.plain.len() {
+            } else if read.plain.len() == takes.plain.len() && !takes.more {
                 return wrong(format!("'{word}' is one word too many"));
             } else {
                 read.plain.push(word.clone());
@@ -66,6 +68,10 @@ impl Arguments {
 
     pub fn value(&self, option: &str) -> Option<&str> {
         self.values.iter().find(|(name, _)| name == option).map(|(_, value)| value.as_str())
+    }
+
+    pub fn all_plain(&self) -> &[String] {
+        &self.plain
     }
 
     pub fn plain(&self, place: usize) -> Option<&str> {

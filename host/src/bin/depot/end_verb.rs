@@ -1,11 +1,10 @@
 //! `depot end`: the earliest end of a list, in a sentence for a bid meeting.
 use crate::arguments::{Arguments, Takes};
-use crate::clock::{Clock, START_ALLOWED};
 use crate::outcome::{say, Outcome, Trouble};
-use crate::plan_verb::{form, refused, Form, MEMORY};
+use crate::plan_verb::{refused, Asked, Form};
 use crate::planned::{counted, Yard};
 use crate::{json, search};
-use depot_host::{read, units};
+use depot_host::read;
 
 const TAKES: Takes = Takes {
     verb: "end",
@@ -13,13 +12,12 @@ const TAKES: Takes = Takes {
     values: &["--start", "--memory"],
     plain: &["a list or a sheet"],
     needed: 1,
+    more: false,
 };
 
 pub fn run(words: &[String]) -> Result<Outcome, Trouble> {
     let arguments = Arguments::read(&TAKES, words)?;
-    let form = form(&arguments)?;
-    let start = arguments.read_value("--start", Clock::starting, START_ALLOWED)?;
-    let memory = arguments.read_value("--memory", units::bytes, "a number of bytes, or one with K or M")?.unwrap_or(MEMORY);
+    let Asked { form, start, memory } = Asked::by(&arguments)?;
     let yard = Yard::open(arguments.plain(0).expect("a file is needed"), start)?;
     let end = match search::end(&yard.sheet, memory) {
         Ok(end) => end,

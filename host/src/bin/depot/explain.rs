@@ -6,14 +6,15 @@ use crate::outcome::{say, Outcome, Trouble};
 use depot_host::Refusal;
 use std::fmt::Write;
 
-const TAKES: Takes = Takes { verb: "explain", flags: &["--json"], values: &[], plain: &["a refusal's number"], needed: 0 };
+const TAKES: Takes =
+    Takes { verb: "explain", flags: &["--json"], values: &[], plain: &["a refusal's number"], needed: 0, more: false };
 
-const PLANNING: &str = "planning, the end alone, job sets";
-const READING: &str = "reading, labels, planning, the end alone, job sets";
-const READING_AND_WRITING: &str = "reading, labels, planning, the end alone, job sets, writing";
+const PLANNING: &str = "planning, the end alone, the use of the cabinet, job sets";
+const READING: &str = "reading, labels, planning, the end alone, the use of the cabinet, job sets";
+const READING_AND_WRITING: &str = "reading, labels, planning, the end alone, the use of the cabinet, job sets, writing";
 
 /// Which calls refuse with each number, and what to do, in the order of the numbers.
-const TO_DO: [(Refusal, &str, &str); 21] = [
+const TO_DO: [(Refusal, &str, &str); 22] = [
     (Refusal::SheetLength, READING, "The file is no job sheet, or it was cut off or joined with another. Make it again: 'depot sheet LIST.csv -o FILE'."),
     (Refusal::TooManyJobs, READING_AND_WRITING, "Split the list: a cabinet plans up to 20 charges at a time."),
     (Refusal::CabinetSize, READING_AND_WRITING, "Put the number of the cabinet's modules, 1 to 64, into the line 'cabinet,N' of the list."),
@@ -63,6 +64,11 @@ const TO_DO: [(Refusal, &str, &str); 21] = [
         "changes",
         "Choose a larger limit or smaller shares, or have controllers hand back first: what is held, and what is newly assured beyond it, \
          must fit under the new limit at once.",
+    ),
+    (
+        Refusal::NoJobs,
+        "the use of the cabinet",
+        "Put a job into the list, or leave the list out: a plan without jobs ends at its start, and of no minutes there is no share.",
     ),
 ];
 

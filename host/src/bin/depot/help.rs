@@ -10,6 +10,7 @@ usage: depot VERB ..
   depot plan LIST.csv            the plan that ends first, as a table
   depot plan LIST.csv --svg OUT  and as a picture; --html OUT for a page
   depot end LIST.csv             the earliest end alone, in a sentence
+  depot use LIST.csv ..          how much of the cabinet is used, of one list or of several
   depot sets LIST.csv            how large the search will be, without planning
   depot sheet LIST.csv -o FILE   a list to a job sheet, the bytes that a cabinet takes
   depot list FILE                a job sheet back to a list
@@ -53,6 +54,21 @@ It takes less time than the plan. A name that ends in .csv is a list, every othe
 
   --start HH:MM    the plan's start as a time of day, in place of the list's
   --raw            the minute alone, counted from the start
+  --json           for programs
+  --memory BYTES   working memory of the search, with K or M (16M); 0 is allowed, and no length changes the answer
+";
+
+const USE: &str = "\
+usage: depot use LIST.csv|SHEET .. [OPTION..]
+
+Says how much of the cabinet the plan uses that 'depot plan' shows: the share of its module-minutes up to the plan's end in which jobs
+charge; modules that rest do not. The per mille is rounded down, and the remainder makes it exact: a thousand times the occupied
+module-minutes is the per mille times all of them plus the remainder. Of several lists a table, with a line a list and a total of their
+module-minutes; a list that is refused does not count in it. It takes as long as 'depot end'. A name that ends in .csv is a list, every
+other a job sheet; - is a sheet on standard input.
+
+  --start HH:MM    the plans' start as a time of day, in place of the lists'
+  --raw            the per mille and the remainder alone, a line a list
   --json           for programs
   --memory BYTES   working memory of the search, with K or M (16M); 0 is allowed, and no length changes the answer
 ";
@@ -128,7 +144,7 @@ Exit status: 0 every call was answered; 1 some call was refused; 2 some line is 
 const EXPLAIN: &str = "\
 usage: depot explain [N] [--json]
 
-What refusal N, 1 to 19, 21 or 22, means, which calls refuse with it, and what to do. Without N, all of them in a line each.
+What refusal N, 1 to 19 or 21 to 23, means, which calls refuse with it, and what to do. Without N, all of them in a line each.
 ";
 
 /// Whether help is asked for among these words.
@@ -141,6 +157,7 @@ pub fn of_verb(verb: &str) -> Option<String> {
     Some(match verb {
         "plan" => format!("{PLAN}{LIST_FORMAT}"),
         "end" => END.into(),
+        "use" => USE.into(),
         "sets" => format!("{SETS}{LIST_FORMAT}"),
         "sheet" => format!("{SHEET}{LIST_FORMAT}"),
         "list" => LIST.into(),

@@ -32,7 +32,11 @@ pub fn numbers<T: ToString>(values: &[T]) -> String {
 
 /// A refusal, in numbers and in words.
 pub fn refusal(refusal: depot_host::Refusal) -> String {
-    object(&[("refused", refusal.number().to_string()), ("why", text(&refusal.to_string()))])
+    object(&refusal_members(refusal))
+}
+
+pub fn refusal_members(refusal: depot_host::Refusal) -> [(&'static str, String); 2] {
+    [("refused", refusal.number().to_string()), ("why", text(&refusal.to_string()))]
 }
 
 #[test]

@@ -21,6 +21,7 @@ mod search;
 mod sets_verb;
 mod sheet_verbs;
 mod style;
+mod use_verb;
 
 use outcome::{Outcome, Trouble};
 use std::{env, process};
@@ -57,6 +58,7 @@ fn run(words: &[String]) -> Result<Outcome, Trouble> {
         "list" => sheet_verbs::list(rest),
         "plan" => plan_verb::run(rest),
         "end" => end_verb::run(rest),
+        "use" => use_verb::run(rest),
         "sets" => sets_verb::run(rest),
         "desk" => desk::run(rest),
         "explain" => explain::run(rest),

@@ -48,7 +48,7 @@ impl Outlook {
 }
 
 /// A number with commas between its thousands.
-fn in_groups(number: u32) -> String {
+pub fn in_groups(number: impl ToString) -> String {
     let digits = number.to_string();
     let mut grouped = String::new();
     for (place, digit) in digits.chars().enumerate() {

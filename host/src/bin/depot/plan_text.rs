@@ -59,6 +59,21 @@ pub struct Column {
     pub right: bool,
 }
 
+/// The lines of columns side by side, of which the first has the heads.
+pub fn lines(columns: &[Column]) -> Vec<String> {
+    let rows = columns.first().map_or(0, |column| column.cells.len());
+    let line = |place: usize| {
+        let mut line = String::new();
+        for Column { cells, right } in columns {
+            let (cell, width) = (&cells[place], cells.iter().map(|cell| cell.chars().count()).max().unwrap_or(0));
+            let padded = if *right { format!("{cell:>width$}") } else { format!("{cell:<width$}") };
+            write!(line, "  {padded}").unwrap();
+        }
+        line.trim_end().to_string()
+    };
+    (0..rows).map(line).collect()
+}
+
 /// The columns of the table; the last is the lateness. Arrivals have theirs where some bus is still on the road at the start, and the
 /// minutes from which on modules are free again where they rest.
 pub fn columns(plan: &Planned) -> Vec<Column> {
@@ -95,16 +110,8 @@ pub fn table(plan: &Planned, style: Style) -> String {
     if plan.jobs.is_empty() {
         return text;
     }
-    let columns = columns(plan);
     text.push('\n');
-    for place in 0..=plan.jobs.len() {
-        let mut line = String::new();
-        for Column { cells, right } in &columns {
-            let (cell, width) = (&cells[place], cells.iter().map(String::len).max().unwrap_or(0));
-            let padded = if *right { format!("{cell:>width$}") } else { format!("{cell:<width$}") };
-            write!(line, "  {padded}").unwrap();
-        }
-        let line = line.trim_end();
+    for (place, line) in lines(&columns(plan)).iter().enumerate() {
         let late = place > 0 && plan.jobs[place - 1].is_late();
         let line = if place == 0 {
             style.quiet(line)

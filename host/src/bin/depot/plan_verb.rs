@@ -13,9 +13,10 @@ const TAKES: Takes = Takes {
     values: &["--start", "--svg", "--html", "--card", "--memory"],
     plain: &["a list or a sheet"],
     needed: 1,
+    more: false,
 };
 
-pub const MEMORY: usize = 16 << 20;
+const MEMORY: usize = 16 << 20;
 
 /// What is printed on standard output.
 #[derive(Clone, Copy, PartialEq, Eq)]
@@ -27,9 +28,7 @@ pub enum Form {
 
 pub fn run(words: &[String]) -> Result<Outcome, Trouble> {
     let arguments = Arguments::read(&TAKES, words)?;
-    let form = form(&arguments)?;
-    let start = arguments.read_value("--start", Clock::starting, START_ALLOWED)?;
-    let memory = arguments.read_value("--memory", units::bytes, "a number of bytes, or one with K or M")?.unwrap_or(MEMORY);
+    let Asked { form, start, memory } = Asked::by(&arguments)?;
     let yard = Yard::open(arguments.plain(0).expect("a file is needed"), start)?;
     let search::Found { reading, bytes, card } = match search::run(&yard.sheet, memory) {
         Ok(found) => found,
@@ -45,6 +44,22 @@ pub fn run(words: &[String]) -> Result<Outcome, Trouble> {
         Form::Raw => plan_text::raw(&plan),
         Form::Json => plan_json::text(&plan),
     })
+}
+
+/// What is asked of a verb that searches: the form of its answer, a start in place of the list's, and the search's working memory.
+pub struct Asked {
+    pub form: Form,
+    pub start: Option<Clock>,
+    pub memory: usize,
+}
+
+impl Asked {
+    pub fn by(arguments: &Arguments) -> Result<Asked, Trouble> {
+        let form = form(arguments)?;
+        let start = arguments.read_value("--start", Clock::starting, START_ALLOWED)?;
+        let memory = arguments.read_value("--memory", units::bytes, "a number of bytes, or one with K or M")?;
+        Ok(Asked { form, start, memory: memory.unwrap_or(MEMORY) })
+    }
 }
 
 /// The form that is asked for on the verb's command line.

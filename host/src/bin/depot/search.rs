@@ -1,6 +1,6 @@
 //! A call that searches, on a thread of its own, and how long it has been searching on standard error.
 use crate::outlook::Outlook;
-use depot_host::{card_length, earliest_end, plan, read, Card, Reading, Refusal, MOST_JOBS};
+use depot_host::{card_length, earliest_end, plan, read, Card, Reading, Refusal, Usage, MOST_JOBS};
 use std::io::{self, IsTerminal, Write};
 use std::sync::mpsc::{self, RecvTimeoutError};
 use std::thread;
@@ -34,6 +34,12 @@ pub fn run(sheet: &[u8], memory: usize) -> Result<Found, Refusal> {
 pub fn end(sheet: &[u8], memory: usize) -> Result<u16, Refusal> {
     let lent = sheet.to_vec();
     searched(sheet, move || earliest_end(&lent, &mut vec![0; memory]))
+}
+
+/// The use of the cabinet.
+pub fn usage(sheet: &[u8], memory: usize) -> Result<Usage, Refusal> {
+    let lent = sheet.to_vec();
+    searched(sheet, move || depot_host::usage(&lent, &mut vec![0; memory]))
 }
 
 /// What the call for the sheet answers.

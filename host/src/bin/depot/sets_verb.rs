@@ -6,7 +6,8 @@ use crate::outlook::{Outlook, LISTS};
 use crate::plan_verb::{form, refused, Form};
 use crate::planned::Yard;
 
-const TAKES: Takes = Takes { verb: "sets", flags: &["--raw", "--json"], values: &[], plain: &["a list or a sheet"], needed: 1 };
+const TAKES: Takes =
+    Takes { verb: "sets", flags: &["--raw", "--json"], values: &[], plain: &["a list or a sheet"], needed: 1, more: false };
 
 pub fn run(words: &[String]) -> Result<Outcome, Trouble> {
     let arguments = Arguments::read(&TAKES, words)?;

@@ -6,8 +6,9 @@ use crate::planned::labels;
 use crate::{json, list, pointer};
 use depot_host::{read, Reading, Refusal};
 
-const SHEET: Takes = Takes { verb: "sheet", flags: &[], values: &["-o", "--start"], plain: &["a list"], needed: 1 };
-const LIST: Takes = Takes { verb: "list", flags: &["--json"], values: &["-o", "--start"], plain: &["a sheet"], needed: 1 };
+const SHEET: Takes = Takes { verb: "sheet", flags: &[], values: &["-o", "--start"], plain: &["a list"], needed: 1, more: false };
+const LIST: Takes =
+    Takes { verb: "list", flags: &["--json"], values: &["-o", "--start"], plain: &["a sheet"], needed: 1, more: false };
 
 pub fn sheet(words: &[String]) -> Result<Outcome, Trouble> {
     let arguments = Arguments::read(&SHEET, words)?;

@@ -1,6 +1,6 @@
 //! Compares the library with the other implementations as long as it is asked to; the tests do the same a fixed number of times.
 use depot_host::compare::sheet_calls::{Sheets, READING, WRITING};
-use depot_host::compare::{desk::Answers, older::Older, planning::Planning, search, sets::Sets, sheets::CHECKS};
+use depot_host::compare::{desk::Answers, older::Older, planning::Planning, search, sets::Sets, sheets::CHECKS, usage::Uses};
 use depot_host::plain_search::Rules;
 use depot_host::random::Random;
 use depot_host::raw_sheet::Layout;
@@ -111,6 +111,12 @@ fn round(seed: u64, compared: &mut Compared) {
     sets.good(12, SHEETS);
     CHECKS.iter().for_each(|check| sets.damaged(*check, FAULTS));
     compared.read += sets.compared;
+
+    let mut uses = Uses::new(seed);
+    uses.good(SHEETS);
+    uses.resting(SHEETS);
+    CHECKS.iter().for_each(|check| uses.damaged(*check, FAULTS));
+    compared.planned += uses.compared;
 
     let mut answers = Answers::default();
     let mut random = Random::new(seed);

@@ -10,7 +10,7 @@ use crate::{help, json};
 use session::{Answer, Session};
 use std::io::{self, BufRead, IsTerminal};
 
-const TAKES: Takes = Takes { verb: "desk", flags: &["--json"], values: &[], plain: &["a script"], needed: 0 };
+const TAKES: Takes = Takes { verb: "desk", flags: &["--json"], values: &[], plain: &["a script"], needed: 0, more: false };
 
 const WELCOME: &str = "\
 A share desk. 'open 500 yard=240/420 workshop=100/200' opens one for two controllers on a feeder of 500 kW; 'help' names the commands.

@@ -1,0 +1,2 @@
+-- What the call for the use of the cabinet answers.
+pub mod Usage
