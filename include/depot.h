@@ -15,8 +15,8 @@
  *             pointer must lead to as many elements as are said, aligned as C asks; this is the one thing that no call can check.
  * Overlaps.   What a call writes must not overlap anything else that it is lent. What it only reads may overlap.
  * Threads.    Calls may run at the same time as long as none writes what another is lent.
- * Stack.      Measured, not proved: depot_plan, depot_end and depot_use stay within DEPOT_PLAN_STACK bytes, depot_sets within
- *             DEPOT_SETS_STACK, every other call within DEPOT_CALL_STACK.
+ * Stack.      Measured, not proved: depot_plan, depot_end, depot_use and depot_slack stay within DEPOT_PLAN_STACK bytes, depot_sets
+ *             within DEPOT_SETS_STACK, every other call within DEPOT_CALL_STACK.
  *             The tests of the host package hold these figures.
  * Names       that begin with depot_ or DEPOT_ belong to the library. It calls memcpy, memmove and memset, and nothing else.
  *
@@ -35,8 +35,8 @@ extern "C" {
 /* ---- the version ------------------------------------------------------------------------------------------------------------- */
 
 /* Of this header, and as a number: major * 1000000 + minor * 1000 + patch. Bytes of sheets and cards may differ between minors. */
-#define DEPOT_VERSION "0.10.0"
-#define DEPOT_VERSION_NUMBER 10000
+#define DEPOT_VERSION "0.11.0"
+#define DEPOT_VERSION_NUMBER 11000
 
 /*
  * The number of the library that is linked. Compare it with DEPOT_VERSION_NUMBER at the start, so that header and library belong
@@ -156,6 +156,33 @@ struct depot_usage {
  * It takes the time of depot_end. Stack: DEPOT_PLAN_STACK.
  */
 struct depot_usage depot_use(const uint8_t *sheet, size_t sheet_len, uint8_t *work, size_t work_len);
+
+/* What slack says of a job, beside the plan that depot_plan gives. Minutes are counted from the plan's start. */
+struct depot_job_slack {
+    int32_t latest_start; /* the latest start by which it and all jobs that follow it can still meet their departures; may be below 0 */
+    int32_t slack;        /* the latest start minus the planned one: below 0 where it, or a job that follows it, is late */
+    uint32_t implied;     /* its earlier jobs for which it waits by another chain already: these marks could go; bit i for job i */
+};
+
+/* What slack answers. */
+struct depot_slacks {
+    uint32_t refusal; /* 0, or the refusal's number; then all else is 0 */
+    struct depot_job_slack jobs[DEPOT_MOST_JOBS]; /* places past the last job are 0 */
+    size_t count;     /* n */
+};
+
+/*
+ * Says of each job how long it may wait: its latest start, if modules were unlimited and arrivals and chains that do not begin at it are left
+ * aside, and the slack of its start in the plan that depot_plan gives. Beside it, the earlier-job marks that another chain of marks implies:
+ * without all of them every job follows the same jobs, and no further mark could go.
+ *
+ * sheet  Read. The sheet's bytes.
+ * work   Written. Working memory as for depot_plan: an answered call leaves it all zero.
+ *
+ * The two do not overlap. Answers an entry for each job, or a refusal: 1 to 3, 19, 4 to 9, in this order. Refused, work is as before.
+ * It takes the time of depot_plan. Stack: DEPOT_PLAN_STACK, and the answer in the caller's frame.
+ */
+struct depot_slacks depot_slack(const uint8_t *sheet, size_t sheet_len, uint8_t *work, size_t work_len);
 
 /* What counting the job sets answers. */
 struct depot_set_count {

@@ -125,6 +125,20 @@ static void use_of_e1(void)
     check(used.refusal == DEPOT_NO_JOBS && used.per_mille == 0 && used.remainder == 0, "without jobs there is no share");
 }
 
+/* How long E1's buses may wait. */
+static void slack_of_e1(void)
+{
+    uint8_t work[64];
+    struct depot_slacks slacks = depot_slack(e1, sizeof e1, work, sizeof work);
+
+    check(slacks.refusal == DEPOT_DONE && slacks.count == 3, "E1's three jobs have an entry each");
+    check(slacks.jobs[0].latest_start == 20 && slacks.jobs[0].slack == 20, "job 0 may wait 20 minutes");
+    check(slacks.jobs[1].latest_start == 5 && slacks.jobs[1].slack == -5, "job 1 starts 5 minutes too late");
+    check(slacks.jobs[1].implied == 0 && slacks.jobs[3].slack == 0, "no mark is implied, and places past the last job are 0");
+    slacks = depot_slack(e1, 0, NULL, 0);
+    check(slacks.refusal == DEPOT_SHEET_LENGTH && slacks.count == 0, "a refused call says nothing of any job");
+}
+
 /* ---- job sheets */
 
 static void read_and_write_e1(void)
@@ -261,6 +275,7 @@ int main(void)
     plan_e1();
     plan_e1_on_the_road();
     use_of_e1();
+    slack_of_e1();
     read_and_write_e1();
     follow_e1_with_a_changeover();
     claim_and_hand_back();

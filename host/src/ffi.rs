@@ -1,5 +1,5 @@
 //! The exported calls as C sees them, `include/depot.h`: a slice crosses as its pointer and its length.
-use crate::{Desk, Job, MOST_JOBS};
+use crate::{Desk, Job, JobSlack, MOST_JOBS};
 
 /// What reading answers: refusal 0 with the jobs, n, N and the changeover, or the number of the refusal with all else 0.
 #[repr(C)]
@@ -62,6 +62,15 @@ pub struct Usage {
     pub remainder: u32,
 }
 
+/// What slack answers: refusal 0 with an entry for each job, or the number of the refusal with all else 0.
+#[repr(C)]
+#[derive(Clone, Copy, Debug, PartialEq, Eq)]
+pub struct Slacks {
+    pub refusal: u32,
+    pub jobs: [JobSlack; MOST_JOBS],
+    pub count: usize,
+}
+
 extern "C" {
     pub fn depot_version() -> u32;
 
@@ -70,6 +79,8 @@ extern "C" {
     pub fn depot_end(sheet: *const u8, sheet_len: usize, work: *mut u8, work_len: usize) -> Earliest;
 
     pub fn depot_use(sheet: *const u8, sheet_len: usize, work: *mut u8, work_len: usize) -> Usage;
+
+    pub fn depot_slack(sheet: *const u8, sheet_len: usize, work: *mut u8, work_len: usize) -> Slacks;
 
     pub fn depot_sets(sheet: *const u8, sheet_len: usize) -> SetCount;
 

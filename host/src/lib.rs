@@ -1,13 +1,14 @@
 //! The depot's planner and share desk for Rust programs: a safe wrapper of the proved static library.
 //!
-//! [`version`], [`plan`], [`Card`], [`earliest_end`], [`usage`], [`sets`], [`read`], [`label`], [`label_of`], [`write()`], [`Desk`] and
-//! [`Refusal`] are the product. The other modules test it and measure it.
+//! [`version`], [`plan`], [`Card`], [`earliest_end`], [`usage`], [`slack()`], [`sets`], [`read`], [`label`], [`label_of`], [`write()`],
+//! [`Desk`] and [`Refusal`] are the product. The other modules test it and measure it.
 
 mod card;
 mod desk;
 pub mod ffi;
 mod refusal;
 mod sheet;
+mod slack;
 
 pub mod compare;
 pub mod drawing;
@@ -26,6 +27,7 @@ pub use card::{Card, Row};
 pub use desk::{Desk, MOST_CONTROLLERS, MOST_POWER};
 pub use refusal::Refusal;
 pub use sheet::{label, label_of, read, write, Job, Reading};
+pub use slack::{slack, JobSlack};
 
 /// The most jobs of a sheet.
 pub const MOST_JOBS: usize = 20;

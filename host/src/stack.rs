@@ -2,8 +2,8 @@
 use crate::guarded::{Against, Guarded};
 use crate::raw_sheet::Sheet;
 use crate::{
-    card_length, earliest_end, label, label_of, plan, read, sets, usage, version, write, Desk, Job, Refusal, LONGEST_LABEL,
-    LONGEST_SHEET, MOST_JOBS, MOST_POWER,
+    card_length, earliest_end, label, label_of, plan, read, sets, slack, usage, version, write, Desk, Job, Refusal,
+    LONGEST_LABEL, LONGEST_SHEET, MOST_JOBS, MOST_POWER,
 };
 use std::ffi::{c_int, c_void};
 use std::ptr;
@@ -80,6 +80,7 @@ pub fn of_every_call() -> Vec<(&'static str, usize)> {
     let planning = sheets.each_ref().map(|sheet| done(|| plan(sheet, &mut card, &mut work)));
     let ends = sheets.each_ref().map(|sheet| done(|| earliest_end(sheet, &mut work)));
     let uses = sheets.each_ref().map(|sheet| done(|| usage(sheet, &mut work)));
+    let slacks = sheets.each_ref().map(|sheet| done(|| slack(sheet, &mut work)));
     let counting = SHAPES.map(|marks| {
         let jobs = (0..MOST_JOBS).map(|j| Job { modules: 1, minutes: 1, earlier: marks(j), ..Job::default() });
         let sheet = Sheet::of(2, jobs.collect()).bytes();
@@ -98,6 +99,7 @@ pub fn of_every_call() -> Vec<(&'static str, usize)> {
         ("depot_plan", planning[0].max(planning[1])),
         ("depot_end", ends[0].max(ends[1])),
         ("depot_use", uses[0].max(uses[1])),
+        ("depot_slack", slacks[0].max(slacks[1])),
         ("depot_sets", counting),
         ("depot_read", done(|| read(&sheet))),
         ("depot_label", done(|| label(&sheet, MOST_JOBS - 1))),

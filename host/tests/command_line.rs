@@ -3,7 +3,7 @@
 //! With DEPOT_GOLDEN=write the golden outputs and the pictures are written instead; look at what changed before it is kept.
 mod command;
 
-use command::{depot, file, run, top};
+use command::{depot, file, run, top, Run};
 use depot_host::compare::sheets;
 use depot_host::random::Random;
 use depot_host::{card_length, plan, Card};
@@ -13,8 +13,6 @@ use std::process::{Command, Stdio};
 use std::{env, fs};
 
 const EXAMPLES: [&str; 5] = ["small-depot", "mixed-night", "hard-night", "on-the-road", "contactors"];
-/// The one whose search takes a while.
-const HARD: &str = "hard-night";
 const SCRIPT: &str = "examples/shared-feeder.desk";
 
 /// Holds bytes to a file of the repository.
@@ -27,10 +25,16 @@ fn same(path: &str, found: &[u8]) {
     assert!(kept == found, "{path} differs; it would be:\n{}", String::from_utf8_lossy(found));
 }
 
+/// What a run said on standard error, but for how long it has been searching: that depends on what else the machine does.
+fn faults(ran: &Run) -> Vec<&str> {
+    let progress = ["a long search: ", "searching for the earliest end: ", "searched for "];
+    ran.errors.lines().filter(|line| !progress.iter().any(|start| line.starts_with(start))).collect()
+}
+
 fn golden(name: &str, words: &[&str], status: i32) {
     let ran = depot(words, b"");
     assert_eq!(ran.status, status, "{words:?}: {}", ran.errors);
-    assert_eq!(ran.errors, "", "{words:?}");
+    assert!(faults(&ran).is_empty(), "{words:?}: {}", ran.errors);
     same(&format!("host/tests/golden/{name}"), &ran.output);
 }
 
@@ -59,7 +63,7 @@ fn end() {
 #[test]
 fn help() {
     golden("help.txt", &["--help"], 0);
-    for verb in ["plan", "end", "use", "sets", "sheet", "list", "desk", "explain"] {
+    for verb in ["plan", "end", "use", "slack", "sets", "sheet", "list", "desk", "explain"] {
         let name = format!("help-{verb}.txt");
         golden(&name, &[verb, "--help"], 0);
         golden(&name, &["help", verb], 0);
@@ -88,10 +92,7 @@ fn plans_and_pictures() {
         let picture = format!("examples/{name}.svg");
         let [svg, html, card] = ["svg", "html", "card"].map(|kind| file(&format!("{name}.{kind}"), b""));
         let ran = depot(&["plan", &list, "--svg", &svg, "--html", &html, "--card", &card], b"");
-        assert_eq!(ran.status, 0, "{}", ran.errors);
-        let starts = ["a long search: ", "searching for the earliest end: ", "searched for "];
-        let progress = |line: &str| starts.iter().any(|start| line.starts_with(start));
-        assert!(ran.errors.lines().all(|line| name == HARD && progress(line)), "{}", ran.errors);
+        assert!(ran.status == 0 && faults(&ran).is_empty(), "{}", ran.errors);
         same(&format!("host/tests/golden/plan-{name}.txt"), &ran.output);
         let drawn = fs::read(&svg).unwrap();
         same(&picture, &drawn);
@@ -197,6 +198,57 @@ fn use_of_nothing_and_of_little() {
     assert_eq!(depot(&["use", "--raw"], b"").status, 2);
 }
 
+/// A list with waits that others imply, and a departure for which the plan's start is too late already.
+const WAITS: &str = "cabinet,8
+start,21:00
+label,modules,minutes,after,departure
+A301,4,120,,23:30
+A302,4,90,A301,00:10
+C133,2,60,A301 A302,23:20
+N 417 B,2,45,A301 A302 #2,05:30
+C133,2,30,#2 A302,05:30
+";
+
+/// Which bus may wait, in every form: as the library answers, and beside the plan's starts.
+#[test]
+fn slack() {
+    for name in ["small-depot", "mixed-night", "on-the-road", "contactors"] {
+        let list = format!("examples/{name}.csv");
+        golden(&format!("slack-{name}.txt"), &["slack", &list], 0);
+        let raw = depot(&["slack", &list, "--raw"], b"").text();
+        let planned = depot(&["plan", &list, "--raw"], b"").text();
+        let start = |line: &str| line.split(' ').next().map(str::to_string);
+        let starts: Vec<_> = planned.lines().skip(1).map(start).collect();
+        assert_eq!(raw.lines().map(start).collect::<Vec<_>>(), starts, "the starts of the plan's lines");
+    }
+    golden("slack-mixed-night.json", &["slack", "examples/mixed-night.csv", "--json"], 0);
+    let list = file("waits.csv", WAITS.as_bytes());
+    golden("slack-waits.txt", &["slack", &list], 0);
+    golden("slack-waits.json", &["slack", &list, "--json"], 0);
+    golden("slack-waits.raw", &["slack", &list, "--raw", "--memory", "0"], 0);
+    let sheet = depot(&["sheet", &list, "-o", "-"], b"").output;
+    same("host/tests/golden/slack-no-start.txt", &depot(&["slack", "-"], &sheet).output);
+    let none = depot(&["slack", "-"], &[0, 0, 0, 0, 0, 0, 1, 0, 0, 0]).text();
+    assert_eq!(none, "-: 0 jobs on 1 module: no bus is waiting.\n");
+    assert_eq!(depot(&["slack", &list, "--raw", "--json"], b"").status, 2);
+}
+
+/// The cells that 'depot slack' shortens leave the same plan and the same slack, and nothing is left to shorten.
+#[test]
+fn shorter_cells_change_nothing() {
+    let shorter =
+        WAITS.replace("A301 A302 #2,05:30", "#2,05:30").replace("A301 A302,23:20", "A302,23:20").replace("#2 A302", "#2");
+    let (long, short) = (file("long-cells.csv", WAITS.as_bytes()), file("short-cells.csv", shorter.as_bytes()));
+    let plan = |list: &str| depot(&["plan", list, "--raw"], b"").text();
+    assert_eq!(plan(&long), plan(&short));
+    let raw = |list: &str| depot(&["slack", list, "--raw"], b"").text();
+    let figures = |line: &str| line.split(' ').take(3).map(str::to_string).collect::<Vec<_>>();
+    assert_eq!(raw(&long).lines().map(figures).collect::<Vec<_>>(), raw(&short).lines().map(figures).collect::<Vec<_>>());
+    let implied = |text: String| text.lines().filter(|line| line.split(' ').nth(3) != Some("00000000")).count();
+    assert_eq!((implied(raw(&long)), implied(raw(&short))), (3, 0));
+    assert!(!depot(&["slack", &short], b"").text().contains("Not needed"));
+}
+
 /// How large the search will be, in every form; refused as planning refuses, and with no start asked for.
 #[test]
 fn job_sets() {
@@ -210,7 +262,7 @@ fn job_sets() {
         assert_eq!(depot(&["sets", &list, "--raw"], b"").text(), format!("{counted}\n"));
     }
     let wide = [65, 1, 2, 1, 0, 0, 0, 0, 0, 0, 0, 0, 0, 1, 0, 0, 0, 1, 0, 1, 0, 0, 0];
-    for verb in ["sets", "end", "use", "plan"] {
+    for verb in ["sets", "slack", "end", "use", "plan"] {
         let raw = depot(&[verb, "-", "--raw"], &wide);
         assert_eq!((raw.status, raw.text().as_str()), (1, "refused 8\n"));
         assert_eq!(depot(&[verb, "-", "--json"], &wide).status, 1);
@@ -281,7 +333,7 @@ fn pictures_of_edges() {
         let list = file(&format!("{name}.csv"), format!("{header}{rows}").as_bytes());
         let [svg, html] = ["svg", "html"].map(|kind| file(&format!("{name}.{kind}"), b""));
         let ran = depot(&["plan", &list, "--svg", &svg, "--html", &html], b"");
-        assert_eq!((ran.status, ran.errors.as_str()), (0, ""));
+        assert!(ran.status == 0 && faults(&ran).is_empty(), "{name}: {}", ran.errors);
         for drawn in [svg, html] {
             let text = fs::read_to_string(drawn).unwrap();
             assert!(text.contains("</svg>") && !text.contains("<b>") && !text.contains("NaN") && !text.contains("inf"));
@@ -301,7 +353,8 @@ fn raw_is_what_the_printing_program_prints() {
         let bytes: Vec<u8> = (0..sheet.len()).step_by(2).map(|i| u8::from_str_radix(&sheet[i..i + 2], 16).unwrap()).collect();
         let ran = depot(&["plan", "-", "--raw"], &bytes);
         assert_eq!(ran.text(), expected, "{name}");
-        assert_eq!((ran.status, ran.errors.as_str()), (i32::from(expected.starts_with("refused")), ""), "{name}");
+        assert_eq!(ran.status, i32::from(expected.starts_with("refused")), "{name}");
+        assert!(faults(&ran).is_empty(), "{name}: {}", ran.errors);
         cases += 1;
     }
     assert!(cases >= 25, "{cases} cases");

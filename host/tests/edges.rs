@@ -1,5 +1,6 @@
 //! Every exported call with every argument at its edges, at the least, at the most and just past them: the answer and all lent
 //! memory are what a reading of the requirements says.
+use depot_host::compare::slack::expected as expected_slack;
 use depot_host::guarded::{Against, Guarded};
 use depot_host::plain_search::{mislead, GROUP};
 use depot_host::raw_sheet::Sheet;
@@ -195,6 +196,21 @@ fn uses() {
             let answer = unsafe { ffi::depot_use(lent.at(), lent.len(), work.at(), work_length) };
             let figures = ffi::Usage { refusal: refusal(&expected), per_mille: per_mille as u32, remainder: remainder as u32 };
             assert_eq!(answer, figures, "sheet {sheet:02x?}");
+            let cleared = if answer.refusal == 0 { vec![0; work_length] } else { Vec::new() };
+            assert!(work.has(&cleared) && lent.has(&sheet), "sheet {sheet:02x?}");
+        }
+    }
+}
+
+#[test]
+fn slacks() {
+    for sheet in edge_sheets() {
+        let expected = expected_slack(&sheet);
+        for work_length in [0, 1, 64] {
+            let (lent, work) = (Lent::of(&sheet), Lent::painted(work_length));
+            // SAFETY: two live buffers of these lengths.
+            let answer = unsafe { ffi::depot_slack(lent.at(), lent.len(), work.at(), work_length) };
+            assert_eq!(answer, expected, "sheet {sheet:02x?}");
             let cleared = if answer.refusal == 0 { vec![0; work_length] } else { Vec::new() };
             assert!(work.has(&cleared) && lent.has(&sheet), "sheet {sheet:02x?}");
         }
@@ -448,6 +464,7 @@ fn empty_buffers_may_have_any_pointer() {
         assert_eq!(ffi::depot_plan(null_mut(), 0, null_mut(), 0, null_mut(), 0), 1);
         assert_eq!(ffi::depot_end(null_mut(), 0, null_mut(), 0).refusal, 1);
         assert_eq!(ffi::depot_use(null_mut(), 0, null_mut(), 0), ffi::Usage { refusal: 1, per_mille: 0, remainder: 0 });
+        assert_eq!(ffi::depot_slack(null_mut(), 0, null_mut(), 0).refusal, 1);
         assert_eq!(ffi::depot_read(null_mut(), 0).refusal, 1);
         assert_eq!(ffi::depot_sets(null_mut(), 0), ffi::SetCount { refusal: 1, sets: 0 });
         assert_eq!(ffi::depot_label(null_mut(), 0, 0).refusal, 1);

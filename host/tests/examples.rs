@@ -1,6 +1,6 @@
 //! The examples E1 to E11 of docs/REQUIREMENTS.md, and the edges of a sheet, through the exported calls.
 use depot_host::raw_sheet::Sheet;
-use depot_host::{card_length, plan, sets, usage, Desk, Job, Refusal, Usage, LONGEST_SHEET};
+use depot_host::{card_length, plan, sets, slack, usage, Desk, Job, JobSlack, Refusal, Usage, LONGEST_SHEET};
 
 /// A job of so many modules and minutes that waits for the jobs of a set.
 fn job(modules: u8, minutes: u16, earlier: u32) -> Job {
@@ -72,6 +72,19 @@ fn use_of_the_cabinet() {
     assert_eq!(used(64, 0, vec![arriving(1440, job(1, 1, 0))]), Ok(Usage { per_mille: 0, remainder: 1000 }));
     assert_eq!(used(1, 0, vec![]), Err(Refusal::NoJobs));
     assert_eq!(used(1, 0, vec![job(1, 1, 2), job(1, 1, 1)]), Err(Refusal::Circular));
+}
+
+/// The slack of E1 to E4: E1's departures are 30, 25 and 30.
+#[test]
+fn slacks() {
+    let given = |modules, jobs| slack(&Sheet::of(modules, jobs).bytes(), &mut []);
+    let by = |departure, job| Job { departure, ..job };
+    let free = |latest_start, slack| JobSlack { latest_start, slack, implied: 0 };
+    let e1 = vec![by(30, job(1, 10, 0)), by(25, job(2, 20, 0)), by(30, job(1, 10, 0))];
+    assert_eq!(given(2, e1), Ok(vec![free(20, 20), free(5, -5), free(20, 20)]));
+    assert_eq!(given(1, vec![]), Ok(vec![]));
+    assert_eq!(given(1, vec![job(2, 1, 0)]), Err(Refusal::OverWide));
+    assert_eq!(given(1, vec![job(1, 1, 2), job(1, 1, 1)]), Err(Refusal::Circular));
 }
 
 #[test]

@@ -83,6 +83,7 @@ fn in_c(name: &str) -> String {
         "u8" => "uint8_t",
         "u16" => "uint16_t",
         "u32" => "uint32_t",
+        "i32" => "int32_t",
         "usize" => "size_t",
         "Job" => "struct depot_job",
         "Reading" => "struct depot_reading",
@@ -92,6 +93,8 @@ fn in_c(name: &str) -> String {
         "Written" => "struct depot_written",
         "Desk" => "struct depot_desk",
         "SetCount" => "struct depot_set_count",
+        "JobSlack" => "struct depot_job_slack",
+        "Slacks" => "struct depot_slacks",
         "Looked" => "struct depot_looked",
         other => panic!("{other} has no type in C"),
     };
@@ -153,7 +156,7 @@ fn constant(text: &str, name: &str) -> usize {
 #[test]
 fn calls_agree() {
     let declared = c_calls();
-    assert_eq!(declared.len(), 14);
+    assert_eq!(declared.len(), 15);
     assert_eq!(calls(&source("crates/depot/src/lib.rt")), declared);
     assert_eq!(calls(&source("host/src/ffi.rs")), declared);
 }
@@ -168,6 +171,8 @@ fn structs_agree() {
         ("LabelPlace", "crates/sheet/src/lib.rt", "host/src/ffi.rs"),
         ("Written", "crates/sheet/src/lib.rt", "host/src/ffi.rs"),
         ("SetCount", "crates/job_sets/src/lib.rt", "host/src/ffi.rs"),
+        ("JobSlack", "crates/slack/src/lib.rt", "host/src/slack.rs"),
+        ("Slacks", "crates/slack/src/lib.rt", "host/src/ffi.rs"),
         ("Desk", "crates/desk/src/lib.rt", "host/src/desk.rs"),
         ("Looked", "crates/lent/src/lib.rt", "host/src/ffi.rs"),
     ];
@@ -277,7 +282,7 @@ fn stack_is_within_the_header_s_figures() {
     assert_eq!(measured.len(), c_calls().len());
     for (call, bytes) in measured {
         let figure = match call {
-            "depot_plan" | "depot_end" | "depot_use" => "DEPOT_PLAN_STACK",
+            "depot_plan" | "depot_end" | "depot_use" | "depot_slack" => "DEPOT_PLAN_STACK",
             "depot_sets" => "DEPOT_SETS_STACK",
             _ => "DEPOT_CALL_STACK",
         };

@@ -21,6 +21,8 @@ use Rattle.earliest.proofs.Promised.{end-number}
 use Rattle.usage.specs.Usage.{useChecks, useRefusal}
 use Rattle.usage.proofs.Promised.{use-number, use-refused, use-passed}
 use Rattle.job_sets.proofs.Answers.{sets-number}
+use Rattle.slack.specs.Slack.{slacks}
+use Rattle.slack.proofs.Promised.{slack-number}
 use Rattle.desk.specs.declared.Desk.{Desk}
 use Rattle.desk.specs.Calls.{opened, Call, claim, handBack, look, change, refusalOf}
 use Rattle.lent.specs.Lent.{openedOver}
@@ -58,12 +60,14 @@ every-call-answers = record {
   ends = λ s. planable-refusal s _ (end-number s);
   uses = λ s. subst (λ (k : ℕ). FirstRefusal k (useChecks s)) (sym (use-number s)) (use-refused s, use-passed s);
   sets = λ s. planable-refusal s _ (sets-number s);
+  slack = λ s. planable-refusal s _ (slack-number s);
   opens = λ limit assured ceilings. (open-refused limit assured ceilings, open-answered limit assured ceilings);
   calls = call-refusal;
   refused-write = λ jobs n labels C out e. write-refused-leaves jobs n labels C out e .0;
   refused-plan = λ s card memory e. (rw (ne-eqb (planRefusal s (length card)) 0 e), memory-kept (planRefusal s (length card)) e memory);
   refused-end = λ s work e. memory-kept (planableRefusal s) (λ z. e (end-number s ∙ z)) work;
   refused-use = λ s work e. memory-kept (useRefusal s) (λ z. e (use-number s ∙ z)) work;
+  refused-slack = λ s work e. memory-kept (planableRefusal s) (λ z. e (slack-number s ∙ z)) work;
   refused-opening = λ d limit assured ceilings e. rw (ne-eqb (opened limit assured ceilings .refusal) 0 e);
   refused-call = refused-leaves;
 }

@@ -2,9 +2,9 @@
 --
 -- They speak of definitions. That the calls answer by these definitions, for whatever bytes and numbers they are lent, is the contract of
 -- each call in crates/depot/src/lib.rt: depot_plan answers `planRefusal` and leaves `cardAfter` and `memoryAfter`; depot_end answers
--- `endAnswer`, depot_use `usage`, depot_sets `setsAnswer`, and all of these but the last leave `workAfter`; depot_read answers
--- `reading`, depot_label `labelPlace`, depot_write `writeAnswer` and leaves `writeLeaves`; the desk's calls answer `opened`, `changed`,
--- `claimed`, `handedBack` and `looked`, and opening where firmware keeps desk d leaves `openedOver d`.
+-- `endAnswer`, depot_use `usage`, depot_slack `slacks`, depot_sets `setsAnswer`, and all of these but the last leave `workAfter`;
+-- depot_read answers `reading`, depot_label `labelPlace`, depot_write `writeAnswer` and leaves `writeLeaves`; the desk's calls answer
+-- `opened`, `changed`, `claimed`, `handedBack` and `looked`, and opening where firmware keeps desk d leaves `openedOver d`.
 --
 -- R-1.2 to R-1.4 have no field: that a call touches nothing else, that no sum overflows and that it ends is what the checker proves of
 -- every function.
@@ -32,6 +32,7 @@ use Rattle.planner.specs.Planned.{ourPlan}
 use Rattle.earliest.specs.Earliest.{endAnswer}
 use Rattle.usage.specs.Usage.{useChecks, useRefusal, usage}
 use Rattle.job_sets.specs.Results.{setsAnswer}
+use Rattle.slack.specs.Slack.{slacks}
 use Rattle.desk.specs.declared.Desk.{Desk}
 use Rattle.desk.specs.Desk.{holding, assuredShare, ceilingOf, reservedForOthers}
 use Rattle.desk.specs.Checks.{openChecks, claimChecks, handBackChecks, lookChecks, changeChecks}
@@ -63,6 +64,7 @@ pub record EveryCallAnswers : Type 0 where
   pub ends : (s : List ℕ) → FirstRefusal (endAnswer s .refusal) (planableChecks s)
   pub uses : (s : List ℕ) → FirstRefusal (usage s .refusal) (useChecks s)
   pub sets : (s : List ℕ) → FirstRefusal (setsAnswer s .refusal) (planableChecks s)
+  pub slack : (s : List ℕ) → FirstRefusal (slacks s .refusal) (planableChecks s)
   pub opens : (limit : ℕ) (assured ceilings : List ℕ)
       → FirstRefusal (opened limit assured ceilings .refusal) (openChecks limit assured ceilings)
   pub calls : (d : Desk) (x : Call) → FirstRefusal (refusalOf d x) (checksOf d x)
@@ -73,6 +75,7 @@ pub record EveryCallAnswers : Type 0 where
       → (cardAfter s card ≡ card) × (memoryAfter s (length card) memory ≡ memory)
   pub refused-end : (s work : List ℕ) → endAnswer s .refusal ≢ 0 → workAfter (planableRefusal s) work ≡ work
   pub refused-use : (s work : List ℕ) → usage s .refusal ≢ 0 → workAfter (useRefusal s) work ≡ work
+  pub refused-slack : (s work : List ℕ) → slacks s .refusal ≢ 0 → workAfter (planableRefusal s) work ≡ work
   pub refused-opening : (d : Desk) (limit : ℕ) (assured ceilings : List ℕ) → opened limit assured ceilings .refusal ≢ 0
       → openedOver d limit assured ceilings .desk ≡ d
   pub refused-call : (d : Desk) (x : Call) → refusalOf d x ≢ 0 → deskAfter d x ≡ d

@@ -8,6 +8,7 @@ use sheet::LabelPlace;
 use sheet::Reading;
 use sheet::Written;
 use sheet_format::Job;
+use slack::Slacks;
 use usage::Usage;
 ghost use mathlib.Core.Path.{_≡_};
 ghost use lib.ListN.{length};
@@ -16,6 +17,7 @@ ghost use Rattle.planable.specs.Planable.{planableRefusal, workAfter};
 ghost use Rattle.earliest.specs.Earliest.{endAnswer};
 ghost use Rattle.job_sets.specs.Results.{setsAnswer};
 ghost use Rattle.usage.specs.Usage.{useRefusal, usage};
+ghost use Rattle.slack.specs.Slack.{slacks};
 ghost use Rattle.sheet_format.specs.Format.{jobsIn, cabinet};
 ghost use Rattle.sheet.specs.Read.{reading};
 ghost use Rattle.sheet.specs.Label.{labelPlace, placeIn};
@@ -26,8 +28,8 @@ ghost use Rattle.depot.specs.Version.{version};
 
 // ---- the version
 
-// 0.10.0
-const VERSION: u32 = 10000;
+// 0.11.0
+const VERSION: u32 = 11000;
 
 // The number of this library's version; the header has the same.
 #[no_mangle]
@@ -68,6 +70,16 @@ pub extern "C" fn depot_use(sheet: &[u8], work: &mut [u8]) -> Usage
     ensures work { λ _. ⌜ now (work .exit) ≡ workAfter (useRefusal (now (sheet .entry))) (now (work .entry)) ⌝ }
 {
     usage::used(sheet, work)
+}
+
+// For each job its latest start, the slack of its planned start and the marks that others imply, or the first refusal of 1 to 9 and 19.
+// Answered, the working memory is all zero; refused, it is as before.
+#[no_mangle]
+pub extern "C" fn depot_slack(sheet: &[u8], work: &mut [u8]) -> Slacks
+    ensures answer { λ r. ⌜ r ≡ slacks (now (sheet .entry)) ⌝ }
+    ensures work { λ _. ⌜ now (work .exit) ≡ workAfter (planableRefusal (now (sheet .entry))) (now (work .entry)) ⌝ }
+{
+    slack::slack(sheet, work)
 }
 
 // How many sets of jobs a part-plan of the sheet can hold, or the first refusal of 1 to 9 and 19. Nothing is planned.

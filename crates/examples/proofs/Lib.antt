@@ -1,3 +1,4 @@
 -- That the examples hold.
 pub mod Held
 pub mod Instances
+pub mod Slacks

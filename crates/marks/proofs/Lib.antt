@@ -1,3 +1,5 @@
--- Laws of which jobs follow which.
+-- Laws of which jobs follow which, and of the marks that others imply.
 pub mod Levels
 pub mod Steps
+pub mod Listed
+pub mod Same

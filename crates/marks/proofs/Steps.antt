@@ -7,44 +7,40 @@ use Prim.Native.Nat.{ℕ, _+_, _<_}
 use native.Mathlib.Omega.{arith}
 use native.Mathlib.Nat.{not-suc-le-zero}
 use native.Mathlib.Numerals.{add-one}
-use lib.Bits.{bitOr}
+use lib.Bits.{bitOr, bitAnd}
 use lib.ListN.{length, getD, set, length-set}
 use lib.Seq.{getD-set-same, getD-set-other}
 use Rattle.counting.specs.Counting.{any}
-use Rattle.counting.proofs.Tests.{or-false, or-assoc, same-or-not}
+use Rattle.counting.proofs.Tests.{or-false, same-or-not}
 use Rattle.counting.proofs.Ranges.{any-same}
-use Rattle.bits.specs.Bits.{bit}
-use Rattle.bits.proofs.Digits.{bit-or}
-use Rattle.bits.proofs.Sets.{bit-setOf}
+use Rattle.bits.specs.Bits.{bit, setOf}
+use Rattle.bits.proofs.Digits.{bit-none, bit-or, bit-and}
+use Rattle.bits.proofs.Sets.{bit-setOf, setOf-same}
 use Rattle.tables.specs.Tables.{sheetOf, earlierAt, countOf}
-use Rattle.marks.specs.Following.{followsWithin}
-use Rattle.marks.specs.Marks.{Further, FollowedTo, LaterTo, Marked}
+use Rattle.marks.specs.Following.{followsWithin, follows}
+use Rattle.marks.specs.Marks.{Reached, Further, FollowedBy, FollowedTo, LaterTo, Marked}
+use Rattle.marks.specs.Implied.{implied, impliedMarks}
 
 -- ---- a step further
 
--- with the earlier jobs of those of the set that are below a
-abbrev pub FurtherTo : List ℕ → ℕ → ℕ → ℕ → ℕ → Type 0
-FurtherTo t j from a r = (i : ℕ) → bit r i ≡ (bit (earlierAt t j) i || any a (λ x. bit (earlierAt t x) i && bit from x))
-
-module _ (t : List ℕ) (j from : ℕ) where
-  pub further-none : FurtherTo t j from 0 (earlierAt t j)
+module _ (t : List ℕ) (from : ℕ) where
+  pub reached-none : Reached t from 0 0
   unfolding any
-  further-none i = or-false (bit (earlierAt t j) i)
+  reached-none i = bit-none i
 
-  pub further-more : (a all : ℕ) → FurtherTo t j from a all → FurtherTo t j from (a + 1) (cond (bit from a) (bitOr all (earlierAt t a)) all)
+  pub reached-more : (a all : ℕ) → Reached t from a all → Reached t from (a + 1) (cond (bit from a) (bitOr all (earlierAt t a)) all)
   unfolding any
-  further-more a all h i = rw (add-one a) (go (bit from a) refl)
+  reached-more a all h i = rw (add-one a) (go (bit from a) refl)
     where
-      E : Bool
-      E = bit (earlierAt t j) i
-
       A : Bool
       A = any a (λ x. bit (earlierAt t x) i && bit from x)
 
-      go : (b : Bool) → bit from a ≡ b → bit (cond b (bitOr all (earlierAt t a)) all) i ≡ (E || (A || (bit (earlierAt t a) i && bit from a)))
-      go true e = rw (e, and-true (bit (earlierAt t a) i)) (bit-or all (earlierAt t a) i ∙ ap (λ b. b || bit (earlierAt t a) i) (h i)
-          ∙ or-assoc E A (bit (earlierAt t a) i))
-      go false e = rw (e, and-false (bit (earlierAt t a) i)) (h i ∙ ap (λ b. E || b) (or-false A))
+      go : (b : Bool) → bit from a ≡ b → bit (cond b (bitOr all (earlierAt t a)) all) i ≡ (A || (bit (earlierAt t a) i && bit from a))
+      go true e = rw (e, and-true (bit (earlierAt t a) i)) (bit-or all (earlierAt t a) i ∙ ap (λ b. b || bit (earlierAt t a) i) (h i))
+      go false e = rw (e, and-false (bit (earlierAt t a) i)) (h i ∙ or-false A)
+
+  pub further-is : (j r : ℕ) → Reached t from (countOf t) r → Further t j from (bitOr (earlierAt t j) r)
+  further-is j r h i = bit-or (earlierAt t j) r i ∙ ap (λ b. bit (earlierAt t j) i || b) (h i)
 
 -- ---- as many steps as there are jobs
 
@@ -79,6 +75,19 @@ filled-more {P} {n} {xs} x h l f = record { size = length-set xs n x ∙ h .size
     go : (j : ℕ) → j < n + 1 → (j ≡ n) ⊎ (¬ (j ≡ n)) → P j (getD (set xs n x) j 0)
     go j m (inl z) = rw (z, getD-set-same xs n x 0 (omega (arith, h .size))) f
     go j m (inr z) = rw (getD-set-other xs n j x 0 z) (h .each j (omega arith))
+
+-- ---- the marks that others imply
+
+pub implied-is : (t : List ℕ) (j before reached : ℕ) → FollowedBy t j before → Reached t before (countOf t) reached
+    → setOf (countOf t) (bit (bitAnd (earlierAt t j) reached)) ≡ impliedMarks (sheetOf t) j
+unfolding impliedMarks implied
+implied-is t j before reached f h =
+    setOf-same (countOf t) (bit (bitAnd (earlierAt t j) reached)) (λ i. implied (sheetOf t) i j) one
+  where
+    one : (i : ℕ) → i < countOf t → bit (bitAnd (earlierAt t j) reached) i ≡ implied (sheetOf t) i j
+    one i l = bit-and (earlierAt t j) reached i ∙ ap (λ b. bit (earlierAt t j) i && b) (h i
+        ∙ any-same (countOf t) (λ a. bit (earlierAt t a) i && bit before a) (λ a. bit (earlierAt t a) i && follows (sheetOf t) a j)
+        (λ a m. ap (λ b. bit (earlierAt t a) i && b) (f a)))
 
 -- ---- both ways
 

@@ -10,6 +10,10 @@ use Rattle.schedule.specs.Plan.{Sheet}
 use Rattle.tables.specs.Tables.{sheetOf, earlierAt, countOf}
 use Rattle.marks.specs.Following.{follows}
 
+-- r has the earlier jobs of each job of `set` that is below n
+abbrev pub Reached : List ℕ → ℕ → ℕ → ℕ → Type 0
+Reached t set n r = (i : ℕ) → bit r i ≡ any n (λ a. bit (earlierAt t a) i && bit set a)
+
 -- r has job j's earlier jobs, and those of each job of `set`
 abbrev pub Further : List ℕ → ℕ → ℕ → ℕ → Type 0
 Further t j set r = (i : ℕ) → bit r i ≡ (bit (earlierAt t j) i || any (countOf t) (λ a. bit (earlierAt t a) i && bit set a))

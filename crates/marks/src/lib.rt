@@ -6,7 +6,8 @@ ghost use lib.Bits.{bitOr};
 ghost use Rattle.figures.specs.Figures.{mostJobs};
 ghost use Rattle.bits.specs.Bits.{bit};
 ghost use Rattle.tables.specs.Tables.{sheetOf, countOf};
-ghost use Rattle.marks.specs.Marks.{Further, FollowedBy, FollowedTo, LaterThan, LaterTo, Marked};
+ghost use Rattle.marks.specs.Marks.{Reached, Further, FollowedBy, FollowedTo, LaterThan, LaterTo, Marked};
+ghost use Rattle.marks.specs.Implied.{impliedMarks, ImpliedTo};
 use figures::MOST_JOBS;
 use tables::Jobs;
 
@@ -21,19 +22,27 @@ fn with_earlier(set: u32, from: u32, a: usize, earlier: u32) -> u32
     set
 }
 
-// The earlier jobs of job j and of each job of the set.
-fn further(jobs: &Jobs, j: usize, set: u32) -> u32
-    requires { ⌜ (countOf (now jobs) ≤ mostJobs) × (j < mostJobs) ⌝ }
-    ensures { λ r. ⌜ Further (now (jobs .entry)) j set r ⌝ }
+// The earlier jobs of each job of the set.
+fn reached(jobs: &Jobs, set: u32) -> u32
+    requires { ⌜ countOf (now jobs) ≤ mostJobs ⌝ }
+    ensures { λ r. ⌜ Reached (now (jobs .entry)) set (countOf (now (jobs .entry))) r ⌝ }
 {
     let n = tables::count(jobs);
-    let mut all = tables::earlier(jobs, j);
+    let mut all: u32 = 0;
     let mut a: usize = 0;
     while a < n {
         all = with_earlier(all, set, a, tables::earlier(jobs, a));
         a += 1;
     }
     all
+}
+
+// The earlier jobs of job j and of each job of the set.
+fn further(jobs: &Jobs, j: usize, set: u32) -> u32
+    requires { ⌜ (countOf (now jobs) ≤ mostJobs) × (j < mostJobs) ⌝ }
+    ensures { λ r. ⌜ Further (now (jobs .entry)) j set r ⌝ }
+{
+    tables::earlier(jobs, j) | reached(jobs, set)
 }
 
 // The jobs that job j follows: its earlier jobs, and from there as many steps as there are jobs.
@@ -115,4 +124,30 @@ pub fn marks_of(jobs: &Jobs) -> Marks
     let later = all_later(&before, tables::count(jobs));
     let behind = later.of;
     Marks { before, behind }
+}
+
+// ---- marks that others imply
+
+// The earlier jobs of job j that some job that it follows waits for.
+fn implied_of(jobs: &Jobs, j: usize) -> u32
+    requires { ⌜ (countOf (now jobs) ≤ mostJobs) × (j < mostJobs) ⌝ }
+    ensures { λ r. ⌜ r ≡ impliedMarks (sheetOf (now (jobs .entry))) j ⌝ }
+{
+    let others = reached(jobs, followed_by(jobs, j));
+    bits::below32(tables::earlier(jobs, j) & others, tables::count(jobs))
+}
+
+// For each job the earlier-job marks that another chain of marks already implies.
+pub fn implied_marks(jobs: &Jobs) -> JobSets
+    requires { ⌜ countOf (now jobs) ≤ mostJobs ⌝ }
+    ensures { λ r. ⌜ ImpliedTo (sheetOf (now (jobs .entry))) (countOf (now (jobs .entry))) (r .of) ⌝ }
+{
+    let n = tables::count(jobs);
+    let mut of = [0u32; MOST_JOBS];
+    let mut j: usize = 0;
+    while j < n {
+        of[j] = implied_of(jobs, j);
+        j += 1;
+    }
+    JobSets { of }
 }

@@ -174,3 +174,8 @@ module _ (s card : List ℕ) (e : planRefusal s (length card) ≡ 0) where
       earliest = λ Q v. subst (λ (x : ℕ). x ≤ planEnd S Q) (sym last) (best-earliest S (lasting-read s (p .reads)) o best Q v);
     },
   )
+
+  -- the list plan of that order can be read back from the card
+  pub plan-decodes : Decodes S (plan-answered .0) (cardAfter s card)
+  unfolding plan-answered
+  plan-decodes = decodes

@@ -7,5 +7,6 @@ pub mod search;
 pub mod sets;
 pub mod sheet_calls;
 pub mod sheets;
+pub mod slack;
 pub mod two_passes;
 pub mod usage;

@@ -4,5 +4,6 @@ pub mod older;
 pub mod planning;
 pub mod reading;
 pub mod sets;
+pub mod slack;
 pub mod usage;
 pub mod writing;

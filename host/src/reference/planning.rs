@@ -76,6 +76,11 @@ pub struct Finished {
 }
 
 impl Finished {
+    /// When a job starts.
+    pub fn start_of(&self, job: usize) -> u32 {
+        self.slots.iter().find(|slot| slot.job == job).expect("every job is placed").start
+    }
+
     /// The bytes of its card.
     pub fn card(&self) -> Vec<u8> {
         card(&self.slots)

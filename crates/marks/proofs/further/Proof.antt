@@ -1,67 +1,19 @@
 -- `marks::further` meets its contract.
-use mathlib.Core.Path.{_≡_}
-use Prim.Native.Nat.{_-_, _≤_}
-use native.Mathlib.Omega.{arith}
 use borrow.Author.Needs.{needs}
-use Rattle.tables.specs.Tables.{countOf}
-use Rattle.marks.proofs.Steps.{FurtherTo, further-none, further-more}
+use Rattle.marks.proofs.Steps.{further-is}
 use Rattle.marks.proofs.further.Statement.{statement}
 use Rattle.marks.proofs.further.Tie as tie
 
-abbrev Inv-loop : tie.InvT-loop
-Inv-loop jobs j set n all₀ a₀ all a = (a ≤ n) × FurtherTo jobs j set a all
-
-abbrev μ-loop : tie.MeasureT-loop
-μ-loop jobs j set n all₀ a₀ all a = n - a
-
-count-requires : tie.Need-count-requires Inv-loop μ-loop
-count-requires c κs = search needs
-
-earlier-requires : tie.Need-earlier-requires Inv-loop μ-loop
+earlier-requires : tie.Need-earlier-requires
 earlier-requires c κs = search needs
 
-loop-holds : tie.Need-loop-holds Inv-loop μ-loop
-loop-holds c =
-    let a = c .before .before .args in
-    (omega arith, rw (c .earlier .ensures) (further-none (a .jobs .now) (a .j) (a .set)))
+reached-requires : tie.Need-reached-requires
+reached-requires c κs = search needs
 
-earlier-requires-2 : tie.Need-earlier-requires-2 Inv-loop μ-loop
-earlier-requires-2 c κs = search needs
-
-with-earlier-requires : tie.Need-with-earlier-requires Inv-loop μ-loop
-with-earlier-requires c κs = search needs
-
-add-a : tie.Need-add-a Inv-loop μ-loop
-add-a c = search needs
-
-loop-less : tie.Need-loop-less Inv-loop μ-loop
-loop-less c = search needs
-
-loop-again : tie.Need-loop-again Inv-loop μ-loop
-loop-again c =
-    let loop = c .before .before .before .loop in
-    let a = c .before .before .before .before .before .before .args in
-    (omega arith, rw (c .with-earlier .ensures, c .before .earlier2 .ensures) (further-more (a .jobs .now) (a .j) (a .set) (loop .a) (loop .all) (loop .inv .1)))
-
-returns : tie.Need-returns Inv-loop μ-loop
+returns : tie.Need-returns
 returns c =
-    let loop = c .before .loop in
-    let at = c .before .before .before in
-    let e : loop .a ≡ countOf (at .before .args .jobs .now) = omega (arith, loop .inv .0, c .loop-test .left, at .count .ensures) in
-    rw e at (loop .inv .1)
+    let a = c .before .before .args in
+    rw (c .before .earlier .ensures) (further-is (a .jobs .now) (a .set) (a .j) (c .reached .result) (c .reached .ensures))
 
 pub further-spec : {M : Type 1} → statement M
-further-spec =
-    tie.close
-    (tie.spec
-    Inv-loop
-    μ-loop
-    count-requires
-    earlier-requires
-    loop-holds
-    earlier-requires-2
-    with-earlier-requires
-    add-a
-    loop-less
-    loop-again
-    returns)
+further-spec = tie.close (tie.spec earlier-requires reached-requires returns)

@@ -32,6 +32,17 @@ impl Clock {
         format!("{}{marked}", hours(all % DAY))
     }
 
+    /// A minute that may lie before the start: `20:50`, or `22:10-1` on the day before the start's; without a start `-0:40`.
+    pub fn moment(self, minute: i32) -> String {
+        let Ok(before) = u32::try_from(-i64::from(minute)) else { return self.time(minute.unsigned_abs()) };
+        let Some(start) = self.start else {
+            return if before == 0 { self.time(0) } else { format!("-{}", self.time(before)) };
+        };
+        let days = before.saturating_sub(start).div_ceil(DAY);
+        let marked = if days == 0 { String::new() } else { format!("-{days}") };
+        format!("{}{marked}", hours(start + days * DAY - before))
+    }
+
     /// The minute of a time: of `05:20` the first from the start on; of `05:20+1` the one on the day after the start's.
     pub fn minute(self, word: &str) -> Option<u32> {
         let start = self.start?;
@@ -77,6 +88,17 @@ mod tests {
         assert_eq!(clock.minute("21:29"), Some(1439));
         assert_eq!(clock.minute("9:05"), Some(695));
         assert_eq!([0, 90, 1590].map(|minute| Clock::FROM_ZERO.time(minute)), ["0:00", "1:30", "26:30"]);
+    }
+
+    #[test]
+    fn moments_before_the_start() {
+        let clock = Clock::starting("21:30").unwrap();
+        let shown = [(60, "22:30"), (0, "21:30"), (-1290, "00:00"), (-1291, "23:59-1"), (-2730, "00:00-1"), (-2731, "23:59-2")];
+        for (minute, time) in shown {
+            assert_eq!(clock.moment(minute), time);
+        }
+        assert_eq!(Clock::starting("00:00").unwrap().moment(-1), "23:59-1");
+        assert_eq!([90, 0, -40].map(|minute| Clock::FROM_ZERO.moment(minute)), ["1:30", "0:00", "-0:40"]);
     }
 
     #[test]

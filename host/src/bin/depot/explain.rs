@@ -9,9 +9,9 @@ use std::fmt::Write;
 const TAKES: Takes =
     Takes { verb: "explain", flags: &["--json"], values: &[], plain: &["a refusal's number"], needed: 0, more: false };
 
-const PLANNING: &str = "planning, the end alone, the use of the cabinet, job sets";
-const READING: &str = "reading, labels, planning, the end alone, the use of the cabinet, job sets";
-const READING_AND_WRITING: &str = "reading, labels, planning, the end alone, the use of the cabinet, job sets, writing";
+const PLANNING: &str = "planning, the end alone, the use of the cabinet, slack, job sets";
+const READING: &str = "reading, labels, planning, the end alone, the use of the cabinet, slack, job sets";
+const READING_AND_WRITING: &str = "reading, labels, planning, the end alone, the use of the cabinet, slack, job sets, writing";
 
 /// Which calls refuse with each number, and what to do, in the order of the numbers.
 const TO_DO: [(Refusal, &str, &str); 22] = [

@@ -11,6 +11,7 @@ usage: depot VERB ..
   depot plan LIST.csv --svg OUT  and as a picture; --html OUT for a page
   depot end LIST.csv             the earliest end alone, in a sentence
   depot use LIST.csv ..          how much of the cabinet is used, of one list or of several
+  depot slack LIST.csv           which bus may wait, which holds up a departure, and which waits are not needed
   depot sets LIST.csv            how large the search will be, without planning
   depot sheet LIST.csv -o FILE   a list to a job sheet, the bytes that a cabinet takes
   depot list FILE                a job sheet back to a list
@@ -89,6 +90,21 @@ decides: put buses that are there first, and those that are on the road behind t
   --memory BYTES   working memory of the search, with K or M (16M); 0 is allowed, and no length changes the answer
 ";
 
+const SLACK: &str = "\
+usage: depot slack LIST.csv|SHEET [OPTION..]
+
+Shows which bus may wait, and which holds up a departure, least slack first: its start in the plan that 'depot plan' shows, and the latest
+start by which it and all buses that wait for it, directly or through others, would still be full by their departures if there were
+modules enough. Below it stand the waits in the list that others imply, with the shorter cells of the column 'after': every bus then
+waits for the same ones, and no further wait could go. A name that ends in .csv is a list, every other a job sheet; - is a sheet on
+standard input.
+
+  --start HH:MM    the plan's start as a time of day, in place of the list's
+  --raw            a line for each job in the list's order: start, latest start, slack, implied waits as a set of jobs, label
+  --json           for programs
+  --memory BYTES   working memory of the search, with K or M (16M); 0 is allowed, and no length changes the answer
+";
+
 const SETS: &str = "\
 usage: depot sets LIST.csv|SHEET [OPTION]
 
@@ -158,6 +174,7 @@ pub fn of_verb(verb: &str) -> Option<String> {
         "plan" => format!("{PLAN}{LIST_FORMAT}"),
         "end" => END.into(),
         "use" => USE.into(),
+        "slack" => SLACK.into(),
         "sets" => format!("{SETS}{LIST_FORMAT}"),
         "sheet" => format!("{SHEET}{LIST_FORMAT}"),
         "list" => LIST.into(),

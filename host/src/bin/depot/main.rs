@@ -20,6 +20,7 @@ mod road;
 mod search;
 mod sets_verb;
 mod sheet_verbs;
+mod slack_verb;
 mod style;
 mod use_verb;
 
@@ -59,6 +60,7 @@ fn run(words: &[String]) -> Result<Outcome, Trouble> {
         "plan" => plan_verb::run(rest),
         "end" => end_verb::run(rest),
         "use" => use_verb::run(rest),
+        "slack" => slack_verb::run(rest),
         "sets" => sets_verb::run(rest),
         "desk" => desk::run(rest),
         "explain" => explain::run(rest),

@@ -1,7 +1,7 @@
 //! The plan as a page in one file: the picture and the table, for a screen, light or dark, and for paper.
 use crate::chart;
 use crate::plan_text::{columns, summary, Column};
-use crate::planned::Planned;
+use crate::planned::{Planned, OF_SLACK};
 use crate::road;
 use depot_host::drawing::markup::escaped;
 
@@ -17,7 +17,8 @@ th{font-weight:normal}\
 .right{text-align:right}\
 tr.late td:last-child{font-weight:bold}\
 footer{font-size:13px;margin-top:14px}\
-@media print{body{padding:0;max-width:none}svg{max-height:185mm}.table{break-before:page}}";
+@media print{body{padding:0;max-width:none}svg{max-height:185mm}.table{break-before:page}\
+table{font-size:12px}th,td{padding:2px 6px}}";
 
 pub fn text(plan: &Planned) -> String {
     let title = escaped(&format!("{}: charging plan", plan.name));
@@ -31,7 +32,7 @@ pub fn text(plan: &Planned) -> String {
          <title>{title}</title>\n<style>{RULES}{light}@media screen and (prefers-color-scheme:dark){{{dark}}}</style>\n</head>\n<body>\n\
          <main>\n{}<section class=\"table\">\n<h2>{title}</h2>\n<p>{}</p>\n{}</section>\n</main>\n\
          <footer>{}{}<p>No valid plan of this sheet ends earlier: start, end and modules of every job are those \
-         of the proved planner's card.</p></footer>\n</body>\n</html>\n",
+         of the proved planner's card. {OF_SLACK}</p></footer>\n</body>\n</html>\n",
         chart::part(plan),
         escaped(&summary(plan).join(" ")),
         table(plan),

@@ -25,7 +25,7 @@ fn time(plan: &Planned, minute: u16) -> String {
 }
 
 fn job(plan: &Planned, number: usize, planned: &PlannedJob) -> String {
-    let PlannedJob { label, job, row } = planned;
+    let PlannedJob { label, job, row, slack } = planned;
     let mut members = vec![
         ("job", number.to_string()),
         ("label", json::text(label)),
@@ -36,6 +36,9 @@ fn job(plan: &Planned, number: usize, planned: &PlannedJob) -> String {
         ("arrival", job.arrival.to_string()),
         ("lateness", planned.lateness().to_string()),
     ];
+    if let Some(slack) = slack {
+        members.extend([("latest_start", slack.latest_start.to_string()), ("slack", slack.slack.to_string())]);
+    }
     if plan.has_rests() {
         members.insert(5, ("hand_back", plan.free_from(planned).to_string()));
     }

@@ -1,5 +1,5 @@
 //! The plan for eyes, and the printing program's lines.
-use crate::planned::{lateness_in_words, ranges, Planned, PlannedJob};
+use crate::planned::{lateness_in_words, ranges, slack_in_words, Planned, PlannedJob, OF_SLACK};
 use crate::road;
 use crate::style::Style;
 use std::fmt::Write;
@@ -100,6 +100,9 @@ pub fn columns(plan: &Planned) -> Vec<Column> {
         columns.extend(moment("free", &|job| plan.free_from(job)));
     }
     columns.extend(moment("departs", &|job| job.job.departure));
+    if plan.jobs.iter().any(|job| job.slack.is_some()) {
+        columns.push(column("slack", true, &|_, job| job.slack.map_or(String::new(), |slack| slack_in_words(slack.slack))));
+    }
     columns.push(column("lateness", true, &|_, job| lateness_in_words(job.lateness())));
     columns
 }
@@ -123,7 +126,7 @@ pub fn table(plan: &Planned, style: Style) -> String {
         writeln!(text, "{line}").unwrap();
     }
     let order: Vec<&str> = plan.order.iter().map(|job| plan.jobs[usize::from(*job)].label.as_str()).collect();
-    writeln!(text, "\nStarting order: {}.\nNo valid plan of this sheet ends earlier.", order.join(", ")).unwrap();
+    writeln!(text, "\nStarting order: {}.\nNo valid plan of this sheet ends earlier. {OF_SLACK}", order.join(", ")).unwrap();
     for note in road::notes(plan) {
         writeln!(text, "{note}").unwrap();
     }

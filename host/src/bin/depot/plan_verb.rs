@@ -30,11 +30,12 @@ pub fn run(words: &[String]) -> Result<Outcome, Trouble> {
     let arguments = Arguments::read(&TAKES, words)?;
     let Asked { form, start, memory } = Asked::by(&arguments)?;
     let yard = Yard::open(arguments.plain(0).expect("a file is needed"), start)?;
-    let search::Found { reading, bytes, card } = match search::run(&yard.sheet, memory) {
+    let with_slack = form != Form::Raw || arguments.value("--html").is_some();
+    let search::Found { reading, bytes, card, slacks } = match search::run(&yard.sheet, memory, with_slack) {
         Ok(found) => found,
         Err(refusal) => return refused(&yard, refusal, form),
     };
-    let plan = Planned::new(&yard, reading, card);
+    let plan = Planned::new(&yard, reading, card, slacks);
     let file = |option, bytes: &dyn Fn() -> Vec<u8>| arguments.value(option).map_or(Ok(()), |file| put(file, &bytes()));
     file("--card", &|| bytes.clone())?;
     file("--svg", &|| chart::file(&plan).into_bytes())?;

@@ -2,7 +2,7 @@
 use crate::clock::Clock;
 use crate::list;
 use crate::outcome::{bytes_of, Trouble};
-use depot_host::{label_of, Card, Job, Reading, Refusal, Row};
+use depot_host::{label_of, Card, Job, JobSlack, Reading, Refusal, Row};
 
 /// A job sheet, and what is known of it beside its bytes.
 pub struct Yard {
@@ -43,6 +43,8 @@ pub struct PlannedJob {
     pub label: String,
     pub job: Job,
     pub row: Row,
+    /// Where it was asked for.
+    pub slack: Option<JobSlack>,
 }
 
 impl PlannedJob {
@@ -75,14 +77,15 @@ pub struct Planned {
 }
 
 impl Planned {
-    pub fn new(yard: &Yard, reading: Reading, card: Card) -> Planned {
+    pub fn new(yard: &Yard, reading: Reading, card: Card, slacks: Option<Vec<JobSlack>>) -> Planned {
         let labels = labels(&yard.sheet, &reading);
         let parts = labels.into_iter().zip(reading.jobs).zip(card.rows);
+        let mut slacks = slacks.into_iter().flatten();
         Planned {
             name: yard.name.rsplit('/').next().unwrap_or(&yard.name).into(),
             modules: reading.modules,
             changeover: reading.changeover,
-            jobs: parts.map(|((label, job), row)| PlannedJob { label, job, row }).collect(),
+            jobs: parts.map(|((label, job), row)| PlannedJob { label, job, row, slack: slacks.next() }).collect(),
             order: card.order,
             end: card.end,
             clock: yard.clock.unwrap_or(Clock::FROM_ZERO),
@@ -158,6 +161,18 @@ pub fn lateness_in_words(lateness: i32) -> String {
     }
 }
 
+/// What is said below every slack.
+pub const OF_SLACK: &str = "Slack is by departures and waits alone, as if there were modules enough.";
+
+/// A slack in words.
+pub fn slack_in_words(slack: i32) -> String {
+    match slack {
+        0 => "cannot wait".into(),
+        minutes if minutes > 0 => format!("may wait {minutes} min"),
+        minutes => format!("{} min too late", -minutes),
+    }
+}
+
 /// Modules as ranges: `0-3 8`.
 pub fn ranges(numbers: &[u32]) -> String {
     let words: Vec<String> = runs(numbers)
@@ -182,6 +197,7 @@ pub fn runs(numbers: &[u32]) -> Vec<(u32, u32)> {
 #[test]
 fn words_of_figures() {
     assert_eq!([-20, 0, 5].map(lateness_in_words), ["20 min early", "on time", "5 min late"]);
+    assert_eq!([12, 0, -3].map(slack_in_words), ["may wait 12 min", "cannot wait", "3 min too late"]);
     assert_eq!(ranges(&[0, 1, 2, 5, 7, 8]), "0-2 5 7-8");
     assert_eq!(ranges(&[]), "");
 }

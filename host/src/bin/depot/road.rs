@@ -85,6 +85,7 @@ mod tests {
             label: char::from(b'A' + place as u8).to_string(),
             job: Job { modules: *modules, minutes: *minutes, arrival: *arrival, departure: 30, ..Job::default() },
             row: Row { start: *start, end: start + minutes, modules: *set },
+            slack: None,
         };
         Planned {
             name: String::new(),

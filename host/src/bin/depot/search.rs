@@ -1,6 +1,6 @@
 //! A call that searches, on a thread of its own, and how long it has been searching on standard error.
 use crate::outlook::Outlook;
-use depot_host::{card_length, earliest_end, plan, read, Card, Reading, Refusal, Usage, MOST_JOBS};
+use depot_host::{card_length, earliest_end, plan, read, slack, Card, JobSlack, Reading, Refusal, Usage, MOST_JOBS};
 use std::io::{self, IsTerminal, Write};
 use std::sync::mpsc::{self, RecvTimeoutError};
 use std::thread;
@@ -11,23 +11,36 @@ const SILENT: Duration = Duration::from_secs(1);
 const ON_TERMINAL: Duration = Duration::from_millis(200);
 const ELSEWHERE: Duration = Duration::from_secs(10);
 
-/// What the sheet says, the card's bytes that the library leaves for it, and the card.
+/// What the sheet says, the card's bytes that the library leaves for it, the card, and the slack of each job where it was asked for.
 pub struct Found {
     pub reading: Reading,
     pub bytes: Vec<u8>,
     pub card: Card,
+    pub slacks: Option<Vec<JobSlack>>,
 }
 
-pub fn run(sheet: &[u8], memory: usize) -> Result<Found, Refusal> {
+impl Found {
+    /// What an answered call left at the front of the lent card, and the slack beside it where it was asked for.
+    fn of(sheet: &[u8], mut bytes: Vec<u8>, slacks: Option<Vec<JobSlack>>) -> Result<Found, Refusal> {
+        let reading = read(sheet)?;
+        bytes.truncate(card_length(reading.jobs.len()));
+        let card = Card::of(&bytes).expect("an answered call leaves a card");
+        Ok(Found { reading, bytes, card, slacks })
+    }
+}
+
+/// The plan; and where it is asked for the slack, by a search of its own, at the same time.
+pub fn run(sheet: &[u8], memory: usize, with_slack: bool) -> Result<Found, Refusal> {
     let lent = sheet.to_vec();
-    let mut bytes = searched(sheet, move || {
+    let (planned, slacks) = searched(sheet, move || {
         let mut card = vec![0; card_length(MOST_JOBS)];
-        plan(&lent, &mut card, &mut vec![0; memory]).map(|()| card)
-    })?;
-    let reading = read(sheet)?;
-    bytes.truncate(card_length(reading.jobs.len()));
-    let card = Card::of(&bytes).expect("an answered call leaves a card");
-    Ok(Found { reading, bytes, card })
+        thread::scope(|scope| {
+            let slacks = with_slack.then(|| scope.spawn(|| slack(&lent, &mut vec![0; memory])));
+            let planned = plan(&lent, &mut card, &mut vec![0; memory]);
+            (planned.map(|()| card), slacks.map(|slacks| slacks.join().expect("the search ends")))
+        })
+    });
+    Found::of(sheet, planned?, slacks.transpose()?)
 }
 
 /// The earliest end alone.
@@ -40,6 +53,12 @@ pub fn end(sheet: &[u8], memory: usize) -> Result<u16, Refusal> {
 pub fn usage(sheet: &[u8], memory: usize) -> Result<Usage, Refusal> {
     let lent = sheet.to_vec();
     searched(sheet, move || depot_host::usage(&lent, &mut vec![0; memory]))
+}
+
+/// The slack of each job alone.
+pub fn slacks(sheet: &[u8], memory: usize) -> Result<Vec<JobSlack>, Refusal> {
+    let lent = sheet.to_vec();
+    searched(sheet, move || slack(&lent, &mut vec![0; memory]))
 }
 
 /// What the call for the sheet answers.

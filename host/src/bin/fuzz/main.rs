@@ -1,6 +1,8 @@
 //! Compares the library with the other implementations as long as it is asked to; the tests do the same a fixed number of times.
 use depot_host::compare::sheet_calls::{Sheets, READING, WRITING};
-use depot_host::compare::{desk::Answers, older::Older, planning::Planning, search, sets::Sets, sheets::CHECKS, usage::Uses};
+use depot_host::compare::{
+    desk::Answers, older::Older, planning::Planning, search, sets::Sets, sheets::CHECKS, slack::Slack, usage::Uses,
+};
 use depot_host::plain_search::Rules;
 use depot_host::random::Random;
 use depot_host::raw_sheet::Layout;
@@ -117,6 +119,11 @@ fn round(seed: u64, compared: &mut Compared) {
     uses.resting(SHEETS);
     CHECKS.iter().for_each(|check| uses.damaged(*check, FAULTS));
     compared.planned += uses.compared;
+
+    let mut slack = Slack::new(seed);
+    slack.good(6, SHEETS);
+    CHECKS.iter().for_each(|check| slack.damaged(*check, FAULTS));
+    compared.planned += slack.compared;
 
     let mut answers = Answers::default();
     let mut random = Random::new(seed);

@@ -47,7 +47,7 @@ pub fn draw(plan: &Planned, frame: &Frame) -> String {
 }
 
 fn row(plan: &Planned, frame: &Frame, number: usize, planned: &PlannedJob, class: &str) -> String {
-    let PlannedJob { label, job, row } = planned;
+    let PlannedJob { label, job, row, .. } = planned;
     let y = frame.key_top() + 10.0 + KEY_ROW * (number as f64 + 1.0);
     let left = frame.key_left;
     let mut svg = swatch(left, y - 9.5, class);

@@ -7,6 +7,7 @@ mod words;
 mod writer;
 
 use crate::clock::Clock;
+pub use after::cell as after_cell;
 use depot_host::{write, Job, Refusal, LONGEST_SHEET};
 pub use reader::read;
 pub use writer::text;

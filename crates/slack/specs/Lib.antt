@@ -1,0 +1,3 @@
+-- What slack answers.
+pub mod Slack
+pub mod Parts
