@@ -15,8 +15,8 @@
  *             pointer must lead to as many elements as are said, aligned as C asks; this is the one thing that no call can check.
  * Overlaps.   What a call writes must not overlap anything else that it is lent. What it only reads may overlap.
  * Threads.    Calls may run at the same time as long as none writes what another is lent.
- * Stack.      Measured, not proved: depot_plan, depot_end, depot_use and depot_slack stay within DEPOT_PLAN_STACK bytes, depot_sets
- *             within DEPOT_SETS_STACK, every other call within DEPOT_CALL_STACK.
+ * Stack.      Measured, not proved: depot_plan, depot_end, depot_use and depot_slack stay within DEPOT_PLAN_STACK bytes, depot_size within
+ *             DEPOT_SIZE_STACK, depot_sets within DEPOT_SETS_STACK, every other call within DEPOT_CALL_STACK.
  *             The tests of the host package hold these figures.
  * Names       that begin with depot_ or DEPOT_ belong to the library. It calls memcpy, memmove and memset, and nothing else.
  *
@@ -35,8 +35,8 @@ extern "C" {
 /* ---- the version ------------------------------------------------------------------------------------------------------------- */
 
 /* Of this header, and as a number: major * 1000000 + minor * 1000 + patch. Bytes of sheets and cards may differ between minors. */
-#define DEPOT_VERSION "0.11.0"
-#define DEPOT_VERSION_NUMBER 11000
+#define DEPOT_VERSION "0.12.0"
+#define DEPOT_VERSION_NUMBER 12000
 
 /*
  * The number of the library that is linked. Compare it with DEPOT_VERSION_NUMBER at the start, so that header and library belong
@@ -71,6 +71,7 @@ enum depot_refusal {
     DEPOT_DOES_NOT_FIT = 17,          /* the claim does not fit beside what the others hold or have reserved */
     DEPOT_EXCEEDS_HOLDING = 18,       /* the hand-back exceeds the holding */
     DEPOT_CHANGEOVER = 19,            /* the changeover is longer than 30 minutes */
+    DEPOT_NO_COUNT_SERVES = 20,       /* no cabinet of 1 to 64 modules has a plan that ends by that minute */
     DEPOT_HOLDING_ABOVE_CEILING = 21, /* some holding exceeds its new ceiling */
     DEPOT_HOLDINGS_EXCEED_LIMIT = 22, /* the holdings, each raised to its new share where that is larger, exceed the new limit */
     DEPOT_NO_JOBS = 23                /* the plan has no jobs */
@@ -96,6 +97,7 @@ enum depot_refusal {
 #define DEPOT_MOST_POWER 400000 /* the largest limit of a feeder, in hundreds of watts: 40 MW */
 
 #define DEPOT_PLAN_STACK 40960
+#define DEPOT_SIZE_STACK 57344
 #define DEPOT_SETS_STACK 4096
 #define DEPOT_CALL_STACK 2048
 
@@ -136,6 +138,28 @@ struct depot_earliest {
  * Stack: DEPOT_PLAN_STACK.
  */
 struct depot_earliest depot_end(const uint8_t *sheet, size_t sheet_len, uint8_t *work, size_t work_len);
+
+/* What the call for the least module count answers. */
+struct depot_sized {
+    uint32_t refusal; /* 0, or the refusal's number; then the count is 0 */
+    uint16_t modules; /* the least count, 1 to 64, with which some valid plan ends by that minute */
+};
+
+/*
+ * Finds how large a cabinet a job sheet asks for: the least module count with which some valid plan ends by a minute, and the card that
+ * depot_plan gives for that count. No smaller count has a valid plan that ends by then. The sheet's own count is checked and otherwise
+ * unused; a job may need more modules than that.
+ *
+ * sheet  Read. The sheet's bytes.
+ * by     The minute by which the plan is to end, any number.
+ * card   Written. As for depot_plan, for the count that is answered, which the card itself does not name.
+ * work   Written. Working memory as for depot_plan: an answered call leaves it all zero.
+ *
+ * The three do not overlap. Answers the count, or a refusal: 1 to 3, 19, 4 to 7, 9, 20, 10, in this order. Refused, card and work are as
+ * before. It plans for one count and decides for up to seven others: docs/FIRMWARE.md, 'Time'. Stack: DEPOT_SIZE_STACK.
+ */
+struct depot_sized depot_size(const uint8_t *sheet, size_t sheet_len, uint16_t by, uint8_t *card, size_t card_len, uint8_t *work,
+                              size_t work_len);
 
 /* What the call for the use of the cabinet answers. */
 struct depot_usage {

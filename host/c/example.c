@@ -107,6 +107,19 @@ static void plan_e1_on_the_road(void)
     check(depot_plan(sheet, sizeof sheet, card, sizeof card, NULL, 0) == DEPOT_RECORD_FIELD, "an arrival of 1441 is refused");
 }
 
+/* How large a cabinet E1 asks for. */
+static void size_e1(void)
+{
+    uint8_t card[DEPOT_CARD_BYTES(3)];
+    struct depot_sized sized = depot_size(e1, sizeof e1, 20, card, sizeof card, NULL, 0);
+
+    check(sized.refusal == DEPOT_DONE && sized.modules == 3, "by minute 20 E1 takes 3 modules");
+    check(number(card + 43, 2) == 20, "the card is that of a plan on 3 modules, which ends at 20");
+    check(depot_size(e1, sizeof e1, 30, card, sizeof card, NULL, 0).modules == 2, "by minute 30 the 2 of its cabinet are enough");
+    sized = depot_size(e1, sizeof e1, 19, card, sizeof card, NULL, 0);
+    check(sized.refusal == DEPOT_NO_COUNT_SERVES && sized.modules == 0, "no cabinet ends it by minute 19");
+}
+
 /* The use of the cabinet by E1: all of it; with a changeover of 5 minutes 60 of 70 module-minutes; and by no jobs none. */
 static void use_of_e1(void)
 {
@@ -274,6 +287,7 @@ int main(void)
     check(sizeof(struct depot_desk) == 104, "a desk has the library's size");
     plan_e1();
     plan_e1_on_the_road();
+    size_e1();
     use_of_e1();
     slack_of_e1();
     read_and_write_e1();

@@ -53,6 +53,14 @@ pub struct Earliest {
     pub end: u16,
 }
 
+/// What the call for the least module count answers: refusal 0 with the count, or the number of the refusal with 0.
+#[repr(C)]
+#[derive(Clone, Copy, Debug, PartialEq, Eq)]
+pub struct Sized {
+    pub refusal: u32,
+    pub modules: u16,
+}
+
 /// What the call for the use of the cabinet answers: refusal 0 with the per mille and the remainder, or the number of the refusal with 0.
 #[repr(C)]
 #[derive(Clone, Copy, Debug, PartialEq, Eq)]
@@ -77,6 +85,16 @@ extern "C" {
     pub fn depot_plan(sheet: *const u8, sheet_len: usize, card: *mut u8, card_len: usize, work: *mut u8, work_len: usize) -> u32;
 
     pub fn depot_end(sheet: *const u8, sheet_len: usize, work: *mut u8, work_len: usize) -> Earliest;
+
+    pub fn depot_size(
+        sheet: *const u8,
+        sheet_len: usize,
+        by: u16,
+        card: *mut u8,
+        card_len: usize,
+        work: *mut u8,
+        work_len: usize,
+    ) -> Sized;
 
     pub fn depot_use(sheet: *const u8, sheet_len: usize, work: *mut u8, work_len: usize) -> Usage;
 

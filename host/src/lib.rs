@@ -1,6 +1,6 @@
 //! The depot's planner and share desk for Rust programs: a safe wrapper of the proved static library.
 //!
-//! [`version`], [`plan`], [`Card`], [`earliest_end`], [`usage`], [`slack()`], [`sets`], [`read`], [`label`], [`label_of`], [`write()`],
+//! [`version`], [`plan`], [`Card`], [`earliest_end`], [`size`], [`usage`], [`slack()`], [`sets`], [`read`], [`label`], [`label_of`], [`write()`],
 //! [`Desk`] and [`Refusal`] are the product. The other modules test it and measure it.
 
 mod card;
@@ -28,6 +28,9 @@ pub use desk::{Desk, MOST_CONTROLLERS, MOST_POWER};
 pub use refusal::Refusal;
 pub use sheet::{label, label_of, read, write, Job, Reading};
 pub use slack::{slack, JobSlack};
+
+/// The most modules of a cabinet.
+pub const MOST_MODULES: u16 = 64;
 
 /// The most jobs of a sheet.
 pub const MOST_JOBS: usize = 20;
@@ -68,6 +71,17 @@ pub fn earliest_end(sheet: &[u8], work: &mut [u8]) -> Result<u16, Refusal> {
     // SAFETY: two live slices that do not overlap; the library keeps no pointer.
     let answer = unsafe { ffi::depot_end(sheet.as_ptr(), sheet.len(), work.as_mut_ptr(), work.len()) };
     Refusal::or_done(answer.refusal).map(|()| answer.end)
+}
+
+/// The least module count, 1 to 64, with which some valid plan of the sheet ends by minute `by`. The sheet's own count is not asked for.
+///
+/// The card that [`plan`] gives for that count is written to the front of `card`; the bytes behind it stay. `work` is working memory as
+/// for [`plan`]. A refused call writes no byte.
+pub fn size(sheet: &[u8], by: u16, card: &mut [u8], work: &mut [u8]) -> Result<u16, Refusal> {
+    let lent = (card.as_mut_ptr(), card.len(), work.as_mut_ptr(), work.len());
+    // SAFETY: three live slices, of which none overlaps another; the library keeps no pointer.
+    let answer = unsafe { ffi::depot_size(sheet.as_ptr(), sheet.len(), by, lent.0, lent.1, lent.2, lent.3) };
+    Refusal::or_done(answer.refusal).map(|()| answer.modules)
 }
 
 /// How much of the cabinet a plan uses: a thousand times the module-minutes that jobs occupy is `per_mille` times the product of the

@@ -25,7 +25,8 @@ pub enum Refusal {
     DoesNotFit,
     ExceedsHolding,
     Changeover,
-    HoldingAboveCeiling = 21,
+    NoCountServes,
+    HoldingAboveCeiling,
     HoldingsExceedLimit,
     NoJobs,
 }
@@ -33,7 +34,7 @@ pub enum Refusal {
 use Refusal::*;
 
 /// Every refusal in the order of the numbers, in plain words.
-const IN_WORDS: [(Refusal, &str); 22] = [
+const IN_WORDS: [(Refusal, &str); 23] = [
     (SheetLength, "the sheet has fewer than 10 or more than 570 bytes"),
     (TooManyJobs, "there are more than 20 jobs"),
     (CabinetSize, "the cabinet has no modules or more than 64"),
@@ -53,6 +54,7 @@ const IN_WORDS: [(Refusal, &str); 22] = [
     (DoesNotFit, "the claim does not fit beside what others hold or have reserved"),
     (ExceedsHolding, "the hand-back exceeds the holding"),
     (Changeover, "the changeover is longer than 30 minutes"),
+    (NoCountServes, "no cabinet of up to 64 modules is enough: none has a plan that ends by that minute"),
     (HoldingAboveCeiling, "some holding exceeds its new ceiling"),
     (HoldingsExceedLimit, "the holdings, each raised to its new share where that is larger, exceed the new limit"),
     (NoJobs, "there are no jobs"),
@@ -60,7 +62,7 @@ const IN_WORDS: [(Refusal, &str); 22] = [
 
 impl Refusal {
     /// The numbers that there are, for people.
-    pub const NUMBERS: &'static str = "1 to 19 and 21 to 23";
+    pub const NUMBERS: &'static str = "1 to 23";
 
     /// Every refusal, in the order of the numbers.
     pub fn all() -> impl Iterator<Item = Refusal> {
@@ -99,10 +101,10 @@ impl Error for Refusal {}
 #[test]
 fn each_number_has_its_own_words() {
     let numbers: Vec<u32> = Refusal::all().map(Refusal::number).collect();
-    assert_eq!(numbers, (1..=19).chain(21..=23).collect::<Vec<u32>>());
+    assert_eq!(numbers, (1..=23).collect::<Vec<u32>>());
     for (refusal, words) in IN_WORDS {
         assert_eq!(Refusal::of_number(refusal.number()), Some(refusal));
         assert_eq!(refusal.to_string(), words);
     }
-    assert_eq!([0, 20, 24].map(Refusal::of_number), [None; 3]);
+    assert_eq!([0, 24].map(Refusal::of_number), [None; 2]);
 }

@@ -2,7 +2,7 @@
 use crate::guarded::{Against, Guarded};
 use crate::raw_sheet::Sheet;
 use crate::{
-    card_length, earliest_end, label, label_of, plan, read, sets, slack, usage, version, write, Desk, Job, Refusal,
+    card_length, earliest_end, label, label_of, plan, read, sets, size, slack, usage, version, write, Desk, Job, Refusal,
     LONGEST_LABEL, LONGEST_SHEET, MOST_JOBS, MOST_POWER,
 };
 use std::ffi::{c_int, c_void};
@@ -62,6 +62,11 @@ fn ends_earlier(j: usize) -> Job {
     }
 }
 
+/// The same for jobs of which two fill the largest cabinet: no list plan ends by minute 21 there, and the search finds a plan that does.
+fn fills_the_largest(j: usize) -> Job {
+    Job { modules: 32, ..ends_earlier(j) }
+}
+
 /// The list plans begin with the longest, and the tie rule with job 0.
 fn longer_and_longer(j: usize) -> Job {
     Job { modules: 2, minutes: j as u16 + 1, ..Job::default() }
@@ -71,7 +76,7 @@ fn longer_and_longer(j: usize) -> Job {
 const SHAPES: [fn(usize) -> u32; 3] = [|_| 0, |j| (1 << j) >> 1, |j| if j % 2 == 1 { 1 << (j - 1) } else { 0 }];
 
 /// What each exported call needs, by its name. Planning goes as deep as there are jobs, once for an earlier end and once for a lower job
-/// in an order's first place: the larger of two lists.
+/// in an order's first place: the larger of two lists. The call for the least count does the first with working memory of its own.
 pub fn of_every_call() -> Vec<(&'static str, usize)> {
     let lists: [Vec<Job>; 2] = [(0..MOST_JOBS).map(ends_earlier).collect(), (0..MOST_JOBS).map(longer_and_longer).collect()];
     let mut work = vec![0; 1 << 20];
@@ -81,6 +86,8 @@ pub fn of_every_call() -> Vec<(&'static str, usize)> {
     let ends = sheets.each_ref().map(|sheet| done(|| earliest_end(sheet, &mut work)));
     let uses = sheets.each_ref().map(|sheet| done(|| usage(sheet, &mut work)));
     let slacks = sheets.each_ref().map(|sheet| done(|| slack(sheet, &mut work)));
+    let wide = Sheet::of(2, (0..MOST_JOBS).map(fills_the_largest).collect()).bytes();
+    let sizing = done(|| size(&wide, 21, &mut card, &mut work));
     let counting = SHAPES.map(|marks| {
         let jobs = (0..MOST_JOBS).map(|j| Job { modules: 1, minutes: 1, earlier: marks(j), ..Job::default() });
         let sheet = Sheet::of(2, jobs.collect()).bytes();
@@ -100,6 +107,7 @@ pub fn of_every_call() -> Vec<(&'static str, usize)> {
         ("depot_end", ends[0].max(ends[1])),
         ("depot_use", uses[0].max(uses[1])),
         ("depot_slack", slacks[0].max(slacks[1])),
+        ("depot_size", sizing),
         ("depot_sets", counting),
         ("depot_read", done(|| read(&sheet))),
         ("depot_label", done(|| label(&sheet, MOST_JOBS - 1))),

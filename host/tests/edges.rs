@@ -218,6 +218,32 @@ fn slacks() {
 }
 
 #[test]
+fn sizes() {
+    let zeros = [0; 64];
+    for sheet in edge_sheets() {
+        let n = reference::reading::read(&sheet).map_or(0, |sheet| sheet.jobs.len());
+        for by in [0, 10, 28_800, 65_535] {
+            for room in [card_length(n) - 1, card_length(n)] {
+                let expected = reference::size::size(&sheet, by.into(), room);
+                for work_length in [0, 1, 64] {
+                    let (lent, card, work) = (Lent::of(&sheet), Lent::painted(room), Lent::painted(work_length));
+                    // SAFETY: three buffers of their own.
+                    let answer = unsafe { ffi::depot_size(lent.at(), lent.len(), by, card.at(), room, work.at(), work_length) };
+                    let (modules, bytes) = expected.clone().unwrap_or_default();
+                    let figures = ffi::Sized { refusal: refusal(&expected), modules: modules as u16 };
+                    assert_eq!(answer, figures, "sheet {sheet:02x?}, by {by}, room {room}");
+                    let cleared = if answer.refusal == 0 { &zeros[..work_length] } else { &[] };
+                    assert!(
+                        card.has(&bytes) && work.has(cleared) && lent.has(&sheet),
+                        "sheet {sheet:02x?}, by {by}, room {room}"
+                    );
+                }
+            }
+        }
+    }
+}
+
+#[test]
 fn reading() {
     for sheet in edge_sheets() {
         let lent = Lent::of(&sheet);
@@ -463,6 +489,7 @@ fn empty_buffers_may_have_any_pointer() {
     unsafe {
         assert_eq!(ffi::depot_plan(null_mut(), 0, null_mut(), 0, null_mut(), 0), 1);
         assert_eq!(ffi::depot_end(null_mut(), 0, null_mut(), 0).refusal, 1);
+        assert_eq!(ffi::depot_size(null_mut(), 0, 0, null_mut(), 0, null_mut(), 0), ffi::Sized { refusal: 1, modules: 0 });
         assert_eq!(ffi::depot_use(null_mut(), 0, null_mut(), 0), ffi::Usage { refusal: 1, per_mille: 0, remainder: 0 });
         assert_eq!(ffi::depot_slack(null_mut(), 0, null_mut(), 0).refusal, 1);
         assert_eq!(ffi::depot_read(null_mut(), 0).refusal, 1);

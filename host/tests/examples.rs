@@ -1,6 +1,6 @@
 //! The examples E1 to E11 of docs/REQUIREMENTS.md, and the edges of a sheet, through the exported calls.
 use depot_host::raw_sheet::Sheet;
-use depot_host::{card_length, plan, sets, slack, usage, Desk, Job, JobSlack, Refusal, Usage, LONGEST_SHEET};
+use depot_host::{card_length, plan, sets, size, slack, usage, Card, Desk, Job, JobSlack, Refusal, Usage, LONGEST_SHEET};
 
 /// A job of so many modules and minutes that waits for the jobs of a set.
 fn job(modules: u8, minutes: u16, earlier: u32) -> Job {
@@ -47,6 +47,30 @@ fn e2_to_e8() {
     assert_eq!(planned(2, vec![job(1, 10, 0), job(1, 10, 0), job(1, 20, 0)]), Ok((20, vec![0, 2, 1])));
     let e8 = vec![job(1, 1, 0), job(1, 10, 0), job(2, 1, 1), job(1, 10, 4)];
     assert_eq!(planned(2, e8), Ok((12, vec![0, 2, 1, 3])));
+}
+
+/// The least counts of F-5's table: E1 by each minute, no jobs, a job that is wider than its cabinet, E6, and a job that no cabinet has room for.
+#[test]
+fn least_counts() {
+    let sized = |modules, jobs: Vec<Job>, by| {
+        let mut card = vec![0; card_length(jobs.len())];
+        size(&Sheet::of(modules, jobs).bytes(), by, &mut card, &mut []).map(|count| (count, Card::of(&card).expect("a card")))
+    };
+    let e1 = || vec![job(1, 10, 0), job(2, 20, 0), job(1, 10, 0)];
+    let count_and_end = |by| sized(2, e1(), by).map(|(count, card)| (count, card.end, card.order));
+    for by in [0, 19] {
+        assert_eq!(count_and_end(by), Err(Refusal::NoCountServes));
+    }
+    for by in [20, 29] {
+        assert_eq!(count_and_end(by), Ok((3, 20, vec![0, 1, 2])));
+    }
+    for by in [30, 65_535] {
+        assert_eq!(count_and_end(by), Ok((2, 30, vec![0, 2, 1])));
+    }
+    assert_eq!(sized(1, vec![], 0).map(|(count, card)| (count, card.end)), Ok((1, 0)));
+    assert_eq!(sized(1, vec![job(3, 5, 0)], 5).map(|(count, card)| (count, card.end)), Ok((3, 5)));
+    assert_eq!(sized(1, vec![job(2, 1, 2), job(1, 1, 1)], 65_535).map(|(count, _)| count), Err(Refusal::Circular));
+    assert_eq!(sized(64, vec![job(65, 5, 0)], 65_535).map(|(count, _)| count), Err(Refusal::NoCountServes));
 }
 
 /// The job sets of E1 to E4 and E8: a chain of three beside a free job has 4 times 2.

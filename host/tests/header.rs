@@ -93,6 +93,7 @@ fn in_c(name: &str) -> String {
         "Written" => "struct depot_written",
         "Desk" => "struct depot_desk",
         "SetCount" => "struct depot_set_count",
+        "Sized" => "struct depot_sized",
         "JobSlack" => "struct depot_job_slack",
         "Slacks" => "struct depot_slacks",
         "Looked" => "struct depot_looked",
@@ -156,7 +157,7 @@ fn constant(text: &str, name: &str) -> usize {
 #[test]
 fn calls_agree() {
     let declared = c_calls();
-    assert_eq!(declared.len(), 15);
+    assert_eq!(declared.len(), 16);
     assert_eq!(calls(&source("crates/depot/src/lib.rt")), declared);
     assert_eq!(calls(&source("host/src/ffi.rs")), declared);
 }
@@ -171,6 +172,7 @@ fn structs_agree() {
         ("LabelPlace", "crates/sheet/src/lib.rt", "host/src/ffi.rs"),
         ("Written", "crates/sheet/src/lib.rt", "host/src/ffi.rs"),
         ("SetCount", "crates/job_sets/src/lib.rt", "host/src/ffi.rs"),
+        ("Sized", "crates/sizing/src/lib.rt", "host/src/ffi.rs"),
         ("JobSlack", "crates/slack/src/lib.rt", "host/src/slack.rs"),
         ("Slacks", "crates/slack/src/lib.rt", "host/src/ffi.rs"),
         ("Desk", "crates/desk/src/lib.rt", "host/src/desk.rs"),
@@ -242,7 +244,7 @@ fn refusals_agree() {
         let name: String = format!("{refusal:?}").chars().map(in_capitals).collect();
         expected.push((format!("DEPOT{name}"), refusal.number().to_string()));
     }
-    assert_eq!(expected.len(), 23);
+    assert_eq!(expected.len(), 24);
     assert_eq!(declared, expected);
 }
 
@@ -283,6 +285,7 @@ fn stack_is_within_the_header_s_figures() {
     for (call, bytes) in measured {
         let figure = match call {
             "depot_plan" | "depot_end" | "depot_use" | "depot_slack" => "DEPOT_PLAN_STACK",
+            "depot_size" => "DEPOT_SIZE_STACK",
             "depot_sets" => "DEPOT_SETS_STACK",
             _ => "DEPOT_CALL_STACK",
         };

@@ -23,6 +23,8 @@ use Rattle.usage.proofs.Promised.{use-number, use-refused, use-passed}
 use Rattle.job_sets.proofs.Answers.{sets-number}
 use Rattle.slack.specs.Slack.{slacks}
 use Rattle.slack.proofs.Promised.{slack-number}
+use Rattle.sizing.specs.Sizing.{sizeChecks, sizeRefusal, sizeCardAfter, sizeWorkAfter}
+use Rattle.sizing.proofs.Refusals.{size-refused}
 use Rattle.desk.specs.declared.Desk.{Desk}
 use Rattle.desk.specs.Calls.{opened, Call, claim, handBack, look, change, refusalOf}
 use Rattle.lent.specs.Lent.{openedOver}
@@ -51,12 +53,13 @@ call-refusal d (change l a t) = (change-refused d l a t, change-answered d l a t
 
 -- R-1: every call answers, and a refused one changes nothing.
 pub every-call-answers : EveryCallAnswers
-unfolding labelPlace planRefusal cardAfter openedOver
+unfolding labelPlace planRefusal cardAfter sizeRefusal sizeCardAfter openedOver
 every-call-answers = record {
   reads = λ s. (read-refused s, read-answered s);
   labels = λ s job. (label-refused s job, label-answered s job);
   writes = λ jobs n labels C out. (write-refused jobs n labels C out, write-answered jobs n labels C out);
   plans = λ s room. (plan-refused s room, answered-exactly (planChecks s room) refl);
+  sizes = λ s t room. (size-refused s t room, answered-exactly (sizeChecks s t room) refl);
   ends = λ s. planable-refusal s _ (end-number s);
   uses = λ s. subst (λ (k : ℕ). FirstRefusal k (useChecks s)) (sym (use-number s)) (use-refused s, use-passed s);
   sets = λ s. planable-refusal s _ (sets-number s);
@@ -65,6 +68,8 @@ every-call-answers = record {
   calls = call-refusal;
   refused-write = λ jobs n labels C out e. write-refused-leaves jobs n labels C out e .0;
   refused-plan = λ s card memory e. (rw (ne-eqb (planRefusal s (length card)) 0 e), memory-kept (planRefusal s (length card)) e memory);
+  refused-size = λ s card memory t e.
+      (rw (ne-eqb (sizeRefusal s t (length card)) 0 e), memory-kept (sizeRefusal s t (length card)) e memory);
   refused-end = λ s work e. memory-kept (planableRefusal s) (λ z. e (end-number s ∙ z)) work;
   refused-use = λ s work e. memory-kept (useRefusal s) (λ z. e (use-number s ∙ z)) work;
   refused-slack = λ s work e. memory-kept (planableRefusal s) (λ z. e (slack-number s ∙ z)) work;

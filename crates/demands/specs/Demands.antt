@@ -1,10 +1,11 @@
 -- The demands R-1, R-2 and R-3 (docs/REQUIREMENTS.md), a record each. A sentence is one field or a few; ../proofs/Demands.antt proves them.
 --
 -- They speak of definitions. That the calls answer by these definitions, for whatever bytes and numbers they are lent, is the contract of
--- each call in crates/depot/src/lib.rt: depot_plan answers `planRefusal` and leaves `cardAfter` and `memoryAfter`; depot_end answers
--- `endAnswer`, depot_use `usage`, depot_slack `slacks`, depot_sets `setsAnswer`, and all of these but the last leave `workAfter`;
--- depot_read answers `reading`, depot_label `labelPlace`, depot_write `writeAnswer` and leaves `writeLeaves`; the desk's calls answer
--- `opened`, `changed`, `claimed`, `handedBack` and `looked`, and opening where firmware keeps desk d leaves `openedOver d`.
+-- each call in crates/depot/src/lib.rt: depot_plan answers `planRefusal` and leaves `cardAfter` and `memoryAfter`, depot_size answers
+-- `sizeAnswer`, with `sizeRefusal`, and leaves `sizeCardAfter` and `sizeWorkAfter`; depot_end answers `endAnswer`, depot_use `usage`,
+-- depot_slack `slacks`, depot_sets `setsAnswer`, and all of these but the last leave `workAfter`; depot_read answers `reading`, depot_label
+-- `labelPlace`, depot_write `writeAnswer` and leaves `writeLeaves`; the desk's calls answer `opened`, `changed`, `claimed`, `handedBack` and
+-- `looked`, and opening where firmware keeps desk d leaves `openedOver d`.
 --
 -- R-1.2 to R-1.4 have no field: that a call touches nothing else, that no sum overflows and that it ends is what the checker proves of
 -- every function.
@@ -29,6 +30,7 @@ use Rattle.card.specs.Card.{cardSize, cardOf}
 use Rattle.planable.specs.Planable.{sheetIn, planableChecks, planableRefusal, workAfter}
 use Rattle.planner.specs.Planning.{planChecks, planRefusal, cardAfter, memoryAfter}
 use Rattle.planner.specs.Planned.{ourPlan}
+use Rattle.sizing.specs.Sizing.{sizeChecks, sizeRefusal, sizeCardAfter, sizeWorkAfter}
 use Rattle.earliest.specs.Earliest.{endAnswer}
 use Rattle.usage.specs.Usage.{useChecks, useRefusal, usage}
 use Rattle.job_sets.specs.Results.{setsAnswer}
@@ -61,6 +63,7 @@ pub record EveryCallAnswers : Type 0 where
   pub writes : (jobs : ℕ → Job) (n : ℕ) (labels : List ℕ) (C : Cabinet) (out : List ℕ)
       → FirstRefusal (writeAnswer jobs n labels C out .refusal) (writeChecks jobs n labels C (length out))
   pub plans : (s : List ℕ) (room : ℕ) → FirstRefusal (planRefusal s room) (planChecks s room)
+  pub sizes : (s : List ℕ) (t room : ℕ) → FirstRefusal (sizeRefusal s t room) (sizeChecks s t room)
   pub ends : (s : List ℕ) → FirstRefusal (endAnswer s .refusal) (planableChecks s)
   pub uses : (s : List ℕ) → FirstRefusal (usage s .refusal) (useChecks s)
   pub sets : (s : List ℕ) → FirstRefusal (setsAnswer s .refusal) (planableChecks s)
@@ -73,6 +76,8 @@ pub record EveryCallAnswers : Type 0 where
       → writeLeaves jobs n labels C out ≡ out
   pub refused-plan : (s card memory : List ℕ) → planRefusal s (length card) ≢ 0
       → (cardAfter s card ≡ card) × (memoryAfter s (length card) memory ≡ memory)
+  pub refused-size : (s card memory : List ℕ) (t : ℕ) → sizeRefusal s t (length card) ≢ 0
+      → (sizeCardAfter s t card ≡ card) × (sizeWorkAfter s t (length card) memory ≡ memory)
   pub refused-end : (s work : List ℕ) → endAnswer s .refusal ≢ 0 → workAfter (planableRefusal s) work ≡ work
   pub refused-use : (s work : List ℕ) → usage s .refusal ≢ 0 → workAfter (useRefusal s) work ≡ work
   pub refused-slack : (s work : List ℕ) → slacks s .refusal ≢ 0 → workAfter (planableRefusal s) work ≡ work

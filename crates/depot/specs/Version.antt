@@ -1,6 +1,6 @@
 -- The library's version as one number: major * 1000000 + minor * 1000 + patch. include/depot.h has it as DEPOT_VERSION_NUMBER.
 use Prim.Native.Nat.{ℕ}
 
--- 0.11.0
+-- 0.12.0
 abbrev pub version : ℕ
-version = 11000
+version = 12000

@@ -8,6 +8,7 @@ use sheet::LabelPlace;
 use sheet::Reading;
 use sheet::Written;
 use sheet_format::Job;
+use sizing::Sized;
 use slack::Slacks;
 use usage::Usage;
 ghost use mathlib.Core.Path.{_≡_};
@@ -16,6 +17,7 @@ ghost use Rattle.planner.specs.Planning.{planRefusal, cardAfter, memoryAfter};
 ghost use Rattle.planable.specs.Planable.{planableRefusal, workAfter};
 ghost use Rattle.earliest.specs.Earliest.{endAnswer};
 ghost use Rattle.job_sets.specs.Results.{setsAnswer};
+ghost use Rattle.sizing.specs.Sizing.{sizeAnswer, sizeCardAfter, sizeWorkAfter};
 ghost use Rattle.usage.specs.Usage.{useRefusal, usage};
 ghost use Rattle.slack.specs.Slack.{slacks};
 ghost use Rattle.sheet_format.specs.Format.{jobsIn, cabinet};
@@ -28,8 +30,8 @@ ghost use Rattle.depot.specs.Version.{version};
 
 // ---- the version
 
-// 0.11.0
-const VERSION: u32 = 11000;
+// 0.12.0
+const VERSION: u32 = 12000;
 
 // The number of this library's version; the header has the same.
 #[no_mangle]
@@ -60,6 +62,18 @@ pub extern "C" fn depot_end(sheet: &[u8], work: &mut [u8]) -> Earliest
     ensures work { λ _. ⌜ now (work .exit) ≡ workAfter (planableRefusal (now (sheet .entry))) (now (work .entry)) ⌝ }
 {
     earliest::earliest_end(sheet, work)
+}
+
+// How large a cabinet: the least module count with which some valid plan ends by minute `by`, or the first refusal of 1 to 3, 19, 4 to 7, 9,
+// 20 and 10. Answered, planning's card for that count is at the front of the lent card and the working memory is all zero; refused, every
+// lent byte is as before. The three buffers do not overlap.
+#[no_mangle]
+pub extern "C" fn depot_size(sheet: &[u8], by: u16, card: &mut [u8], work: &mut [u8]) -> Sized
+    ensures answer { λ r. ⌜ r ≡ sizeAnswer (now (sheet .entry)) by (length (now (card .entry))) ⌝ }
+    ensures card { λ _. ⌜ now (card .exit) ≡ sizeCardAfter (now (sheet .entry)) by (now (card .entry)) ⌝ }
+    ensures work { λ _. ⌜ now (work .exit) ≡ sizeWorkAfter (now (sheet .entry)) by (length (now (card .entry))) (now (work .entry)) ⌝ }
+{
+    sizing::size(sheet, by, card, work)
 }
 
 // The use of the cabinet in the plan that planning gives, or the first refusal of 1 to 9, 19 and 23. Answered, the working memory is all

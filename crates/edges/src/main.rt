@@ -1,16 +1,18 @@
-// Runs the edges of job sheets, of planning, of slack, of job sets, of the use of the cabinet and of the desk, and prints a line a case:
-// what was tried, and the number that the call gave.
+// Runs the edges of job sheets, of planning, of the least count, of slack, of job sets, of the use of the cabinet and of the desk, and
+// prints a line a case: what was tried, and the number that the call gave.
 mod desks;
 mod lines;
 mod plans;
 mod sets;
 mod sheets;
+mod sizes;
 mod slacks;
 mod uses;
 
 fn main() {
     sheets::run();
     plans::run();
+    sizes::run();
     slacks::run();
     sets::run();
     uses::run();

@@ -3,19 +3,19 @@ use super::lines::print_case;
 use sheet_format::Job;
 
 // The lengths of the sheets of one job and of twenty jobs with labels of one byte.
-const ONE: usize = 23;
+pub const ONE: usize = 23;
 
-const TWENTY: usize = 270;
+pub const TWENTY: usize = 270;
 
 // The lengths of their cards.
-const ONE_CARD: usize = 21;
+pub const ONE_CARD: usize = 21;
 
-const TWENTY_CARD: usize = 268;
+pub const TWENTY_CARD: usize = 268;
 
 // What the lent bytes hold before a call.
-const CARD_BYTE: u8 = 9;
+pub const CARD_BYTE: u8 = 9;
 
-const WORK_BYTE: u8 = 7;
+pub const WORK_BYTE: u8 = 7;
 
 pub fn job(modules: u8, minutes: u16, earlier: u32, arrival: u16) -> Job {
     Job {
@@ -29,14 +29,14 @@ pub fn job(modules: u8, minutes: u16, earlier: u32, arrival: u16) -> Job {
 }
 
 // The sheet of one job of 10 minutes, for a cabinet of 64 modules.
-fn one(modules: u8, earlier: u32) -> [u8; ONE] {
+pub fn one(modules: u8, earlier: u32) -> [u8; ONE] {
     let mut s = [0u8; ONE];
     sheet::write([job(modules, 10, earlier, 0); 20], 1, b"A", 64, 0, &mut s);
     s
 }
 
 // The sheet of twenty jobs that are alike, for a cabinet of 64 modules.
-fn twenty(modules: u8, minutes: u16, arrival: u16, changeover: u16) -> [u8; TWENTY] {
+pub fn twenty(modules: u8, minutes: u16, arrival: u16, changeover: u16) -> [u8; TWENTY] {
     let mut s = [0u8; TWENTY];
     sheet::write(
         [job(modules, minutes, 0, arrival); 20],

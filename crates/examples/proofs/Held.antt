@@ -13,6 +13,7 @@ use Rattle.checking.specs.Checking.{firstFailing}
 use Rattle.schedule.specs.Plan.{overWide}
 use Rattle.schedule.specs.ListPlan.{ready, firstMinute, startOf, placeAll}
 use Rattle.schedule.specs.TieRule.{ordersAfter, earliestOf, answerOf}
+use Rattle.schedule.specs.Cabinets.{endsBy}
 use Rattle.schedule.specs.Rows.{sameList}
 use Rattle.schedule.proofs.RowLaws as plans
 use Rattle.bits.specs.Bits.{bit, setOf}
@@ -25,12 +26,14 @@ use Rattle.sheet.specs.Read.{reading}
 use Rattle.planable.specs.Planable.{noOrder}
 use Rattle.planner.specs.Planning.{planRefusal, bestCard, cardAfter}
 use Rattle.usage.specs.Usage.{occupiedMinutes, cabinetMinutes, useRefusal, usage}
+use Rattle.cabinets.specs.Counts.{leastCount}
+use Rattle.sizing.specs.Sizing.{sizeRefusal, sizeAnswer, sizeCardAfter}
 use Rattle.desk.specs.declared.Desk.{Desk}
 use Rattle.desk.specs.Checks.{wrongLengths, wrongFigures, sharesExceed, deskOk, notOfDesk}
 use Rattle.desk.specs.Calls.{Call, openRefusal, opened, claimRefusal, claimed, handBackRefusal, handedBack, lookRefusal, looked}
 use Rattle.desk.specs.Calls.{refusalOf, deskAfter}
 use Rattle.desk.specs.Rows.{figureOf}
-use Rattle.examples.specs.Rows.{Reply, Row, plan, call, desk, uses, Answered, answered, Right, holds, noRow}
+use Rattle.examples.specs.Rows.{Reply, Row, plan, call, size, desk, uses, Answered, answered, Right, holds, noRow}
 use Rattle.examples.specs.Table.{table}
 
 -- ---- a row that passes the test is right
@@ -53,6 +56,15 @@ holds-right (call s card n after) e =
     let number = eqb (planRefusal s (length card)) n in
     let bytes = sameList (cardAfter s card) after in
     (eqb-true _ _ (and-left number bytes e), plans.list-same (cardAfter s card) after (and-right number bytes e))
+holds-right (size s t card n k after) e =
+    let number = eqb (sizeAnswer s t (length card) .refusal) n in
+    let count = eqb (sizeAnswer s t (length card) .modules) k in
+    let bytes = sameList (sizeCardAfter s t card) after in
+    let r = and-right number (count && bytes) e in (
+      eqb-true _ _ (and-left number (count && bytes) e),
+      eqb-true _ _ (and-left count bytes r),
+      plans.list-same (sizeCardAfter s t card) after (and-right count bytes r),
+    )
 holds-right (desk limit assured ceilings n l) e =
     let o = opened limit assured ceilings in
     let number = eqb (o .refusal) n in
@@ -77,7 +89,7 @@ unfolding table sum largest every any joined overWide ready firstMinute startOf 
     bit setOf numberAt recordAt recordBytes trailerBytes sheetBytes sheet-places outside faulty wrongLabel reading
     card.rowBytes card.trailerBytes card.cardBytes noOrder planRefusal bestCard cardAfter
     firstFailing wrongLengths wrongFigures sharesExceed deskOk notOfDesk openRefusal opened claimRefusal claimed handBackRefusal handedBack
-    lookRefusal looked occupiedMinutes cabinetMinutes useRefusal usage
+    lookRefusal looked endsBy leastCount sizeRefusal sizeAnswer sizeCardAfter occupiedMinutes cabinetMinutes useRefusal usage
 table-holds = refl
 
 -- Each row of the table is right.

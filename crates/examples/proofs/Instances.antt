@@ -1,17 +1,30 @@
--- The theorems of plans at two examples: their hypotheses are met, so they say something.
+-- The theorems of plans, and one of cabinets, at two examples: their hypotheses are met, so they say something.
 use mathlib.Core.Path.{_≡_, refl}
 use mathlib.Core.Logic.{inr}
 use mathlib.Core.Bool.{true}
 use mathlib.Core.List.{[], _∷_}
+use Prim.Native.Nat.{ℕ, _<_}
 use native.Mathlib.Omega.{arith}
 use lib.Dec.{ltb}
 use borrow.Author.Tests.{ltb-true}
-use Rattle.counting.specs.Counting.{every}
-use Rattle.counting.proofs.Ranges.{every-at}
-use Rattle.schedule.specs.Plan.{Sheet, Plan, Valid, Lasting}
-use Rattle.schedule.specs.TieRule.{Planned}
+use Rattle.counting.specs.Counting.{sum, largest, every, any, joined}
+use Rattle.counting.proofs.Ranges.{every-at, le-largest}
+use Rattle.checking.specs.Checking.{firstFailing}
+use Rattle.bits.specs.Bits.{bit}
+use Rattle.words.specs.Words.{numberAt}
+use Rattle.schedule.specs.Plan.{Sheet, Plan, Valid, Lasting, finish}
+use Rattle.schedule.specs.ListPlan.{ready, firstMinute, startOf, placeAll}
+use Rattle.schedule.specs.TieRule.{Planned, ordersAfter, earliestOf}
+use Rattle.schedule.specs.Cabinets.{withModules}
+use Rattle.sheet_format.specs.Format.{recordAt, recordBytes, trailerBytes, sheetBytes}
+use Rattle.sheet_format.specs.Format.{places as sheet-places}
+use Rattle.sheet_format.specs.Checks.{outside, faulty, wrongLabel}
+use Rattle.sheet.specs.Read.{reading}
+use Rattle.planable.specs.Planable.{sheetIn, noOrder}
+use Rattle.sizing.specs.Sizing.{sizeRefusal}
+use Rattle.sizing.proofs.Promised.{no-count-exactly}
 use Rattle.schedule.proofs.Theorems.{planned-says, refused-exactly}
-use Rattle.examples.specs.Table.{e1, e4, table}
+use Rattle.examples.specs.Table.{e1, e4, e1Bytes, table}
 use Rattle.examples.proofs.Held.{examples-hold}
 
 -- every job lasts a minute or more, as a computed test
@@ -27,3 +40,11 @@ e1-planned = planned-says e1 (lasting e1 refl) (0 ∷ 2 ∷ 1 ∷ []) 30 (exampl
 pub e4-no-plan : ¬ ((P : Plan) × Valid e4 P)
 unfolding table every
 e4-no-plan = refused-exactly e4 (lasting e4 refl) .0 (inr (examples-hold 4 (omega arith)))
+
+-- F-5: by no minute before 20 does a cabinet of 1 to 64 modules end E1, whatever card is lent: its job 1 takes 20 minutes.
+pub e1-no-count : (t room : ℕ) → t < 20 → sizeRefusal e1Bytes t room ≡ 20
+unfolding sum any joined bit numberAt recordAt recordBytes trailerBytes sheetBytes sheet-places outside faulty wrongLabel reading firstFailing
+    every ready firstMinute startOf placeAll ordersAfter earliestOf largest noOrder
+e1-no-count t room l =
+    no-count-exactly e1Bytes t room refl refl .1
+    (λ k one most P v. omega (arith, le-largest 3 (finish (withModules (sheetIn e1Bytes) k) P) 1 (omega arith)))

@@ -10,7 +10,7 @@ use Rattle.sheet_format.specs.Format.{jobsIn, sheetBytes, cabinet}
 use Rattle.desk.specs.Calls.{Call, claim, handBack, look}
 use Rattle.usage.specs.declared.Usage.{Usage}
 use Rattle.usage.specs.Usage.{noUsage}
-use Rattle.examples.specs.Rows.{Reply, done, gives, refused, Row, plan, call, desk, uses}
+use Rattle.examples.specs.Rows.{Reply, done, gives, refused, Row, plan, call, size, desk, uses}
 
 -- E1's sheet, and E4's: "Two jobs each before the other"
 abbrev pub e1 : Sheet
@@ -37,6 +37,10 @@ arriving modules minutes earlier departure arrival =
 abbrev pub entry : ℕ → ℕ → ℕ → ℕ → Job
 entry modules minutes earlier departure =
     arriving modules minutes earlier departure 0
+
+-- E1's bytes
+abbrev pub e1Bytes : List ℕ
+e1Bytes = sheetWith (entry 1 10 0 30 ∷ entry 2 20 0 25 ∷ entry 1 10 0 30 ∷ []) 2
 
 -- E9's calls: "looks give 7 and 6; controller 0 claims 7, granted; 1 more, 17; controller 1 claims 3, granted; 1 more, 17"
 abbrev pub e9 : List (Call × Reply)
@@ -151,6 +155,43 @@ table =
     -- "19 when the changeover is above 30"
     ∷ call (restingWith (entry 1 1 0 0 ∷ []) 1 30) (7 ∷ []) 10 (7 ∷ [])
     ∷ call (restingWith (entry 1 1 0 0 ∷ []) 1 31) (7 ∷ []) 19 (7 ∷ [])
+    -- F-5: E1 has no plan that ends by minute 19, whatever the cabinet (`e1-no-count`);
+    -- by minutes 20 and 29 it takes 3 modules, with the order 0, 1, 2 and the end 20; by minute 30, and by any later one, the 2 of its cabinet
+    ∷ size e1Bytes 20 (replicate 48 7) 0 3
+    (0 ∷ 0 ∷ 10 ∷ 0 ∷ 1 ∷ 0 ∷ 0 ∷ 0 ∷ 0 ∷ 0 ∷ 0 ∷ 0
+    ∷ 0 ∷ 0 ∷ 20 ∷ 0 ∷ 6 ∷ 0 ∷ 0 ∷ 0 ∷ 0 ∷ 0 ∷ 0 ∷ 0
+    ∷ 10 ∷ 0 ∷ 20 ∷ 0 ∷ 1 ∷ 0 ∷ 0 ∷ 0 ∷ 0 ∷ 0 ∷ 0 ∷ 0
+    ∷ 0 ∷ 1 ∷ 2
+    ∷ 36 ∷ 0 ∷ 0 ∷ 0 ∷ 20 ∷ 0 ∷ 3 ∷ 0
+    ∷ 7 ∷ [])
+    ∷ size e1Bytes 29 (replicate 47 7) 0 3
+    (0 ∷ 0 ∷ 10 ∷ 0 ∷ 1 ∷ 0 ∷ 0 ∷ 0 ∷ 0 ∷ 0 ∷ 0 ∷ 0
+    ∷ 0 ∷ 0 ∷ 20 ∷ 0 ∷ 6 ∷ 0 ∷ 0 ∷ 0 ∷ 0 ∷ 0 ∷ 0 ∷ 0
+    ∷ 10 ∷ 0 ∷ 20 ∷ 0 ∷ 1 ∷ 0 ∷ 0 ∷ 0 ∷ 0 ∷ 0 ∷ 0 ∷ 0
+    ∷ 0 ∷ 1 ∷ 2
+    ∷ 36 ∷ 0 ∷ 0 ∷ 0 ∷ 20 ∷ 0 ∷ 3 ∷ 0 ∷ [])
+    ∷ size e1Bytes 30 (replicate 47 7) 0 2
+    (0 ∷ 0 ∷ 10 ∷ 0 ∷ 1 ∷ 0 ∷ 0 ∷ 0 ∷ 0 ∷ 0 ∷ 0 ∷ 0
+    ∷ 10 ∷ 0 ∷ 30 ∷ 0 ∷ 3 ∷ 0 ∷ 0 ∷ 0 ∷ 0 ∷ 0 ∷ 0 ∷ 0
+    ∷ 0 ∷ 0 ∷ 10 ∷ 0 ∷ 2 ∷ 0 ∷ 0 ∷ 0 ∷ 0 ∷ 0 ∷ 0 ∷ 0
+    ∷ 0 ∷ 2 ∷ 1
+    ∷ 36 ∷ 0 ∷ 0 ∷ 0 ∷ 30 ∷ 0 ∷ 3 ∷ 0 ∷ [])
+    ∷ size e1Bytes 65535 (replicate 47 7) 0 2
+    (0 ∷ 0 ∷ 10 ∷ 0 ∷ 1 ∷ 0 ∷ 0 ∷ 0 ∷ 0 ∷ 0 ∷ 0 ∷ 0
+    ∷ 10 ∷ 0 ∷ 30 ∷ 0 ∷ 3 ∷ 0 ∷ 0 ∷ 0 ∷ 0 ∷ 0 ∷ 0 ∷ 0
+    ∷ 0 ∷ 0 ∷ 10 ∷ 0 ∷ 2 ∷ 0 ∷ 0 ∷ 0 ∷ 0 ∷ 0 ∷ 0 ∷ 0
+    ∷ 0 ∷ 2 ∷ 1
+    ∷ 36 ∷ 0 ∷ 0 ∷ 0 ∷ 30 ∷ 0 ∷ 3 ∷ 0 ∷ [])
+    ∷ size e1Bytes 65535 (replicate 46 7) 10 0 (replicate 46 7)
+    -- E2, by minute 0: 1 module
+    ∷ size (sheetWith [] 1) 0 (replicate 8 7) 0 1 (replicate 8 0)
+    -- "8 is not checked here": a job of 3 modules on 1; E6, too wide and circular, is 9; and no cabinet has 65 modules
+    ∷ size (sheetWith (entry 3 5 0 0 ∷ []) 1) 5 (replicate 21 7) 0 3
+    (0 ∷ 0 ∷ 5 ∷ 0 ∷ 7 ∷ 0 ∷ 0 ∷ 0 ∷ 0 ∷ 0 ∷ 0 ∷ 0
+    ∷ 0
+    ∷ 12 ∷ 0 ∷ 0 ∷ 0 ∷ 5 ∷ 0 ∷ 1 ∷ 0 ∷ [])
+    ∷ size (sheetWith (entry 2 1 2 0 ∷ entry 1 1 1 0 ∷ []) 1) 65535 (7 ∷ []) 9 0 (7 ∷ [])
+    ∷ size (sheetWith (entry 65 5 0 0 ∷ []) 64) 65535 (replicate 21 7) 20 0 (replicate 21 7)
     -- F-8: E1 uses the whole cabinet; with a changeover of 5, 60 of 70 module-minutes; E8 23 of 24
     ∷ uses (sheetWith (entry 1 10 0 30 ∷ entry 2 20 0 25 ∷ entry 1 10 0 30 ∷ []) 2) (perMille 1000 0)
     ∷ uses (restingWith (entry 1 10 0 30 ∷ entry 2 20 0 25 ∷ entry 1 10 0 30 ∷ []) 2 5) (perMille 857 10)

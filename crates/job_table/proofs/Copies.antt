@@ -183,6 +183,7 @@ module _ (r : Reading) (k : ℕ) (l : k < mostJobs) (t : List ℕ) (h : Copied r
 
 pub all-copied : (r : Reading) (t : List ℕ) → Copied r (r .count) t → TableOf r t
 all-copied r t h = record {
+  size = h .size;
   count = h .count;
   modules = h .modules;
   changeover = h .changeover;

@@ -1,2 +1,3 @@
 -- Laws of the job table of a reading.
 pub mod Copies
+pub mod Cabinets

@@ -5,7 +5,7 @@ ghost use lib.ListN.{length};
 ghost use Rattle.figures.specs.Figures.{mostJobs};
 ghost use Rattle.schedule.specs.Plan.{overWide};
 ghost use Rattle.tables.specs.Tables.{sheetOf, countOf};
-ghost use Rattle.job_table.specs.Table.{withJob, SumsFit, TableOf};
+ghost use Rattle.job_table.specs.Table.{withJob, forCabinet, SumsFit, TableOf};
 use sheet::Reading;
 use tables::JOB_PLACES;
 use tables::Jobs;
@@ -54,6 +54,15 @@ pub fn table_of(found: Reading) -> Jobs
         );
         j += 1;
     }
+    table
+}
+
+// The same jobs in a table for a cabinet of this many modules.
+pub fn for_cabinet(jobs: &Jobs, modules: u16) -> Jobs
+    ensures { λ r. ⌜ r ≡ forCabinet (now (jobs .entry)) modules ⌝ }
+{
+    let mut table = *jobs;
+    table[tables::MODULES] = modules;
     table
 }
 

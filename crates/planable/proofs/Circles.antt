@@ -12,7 +12,7 @@ use Rattle.schedule.proofs.Orders.{best-order}
 use Rattle.schedule.proofs.Theorems.{none-circular, best-not-circular}
 use Rattle.checking.specs.Checking.{firstFailing}
 use Rattle.planable.specs.Planable.{noOrder, orderRefusal}
-use Rattle.schedule.proofs.Same.{SameJobs, same-back, circular-same, wide-same}
+use Rattle.schedule.proofs.Same.{SameJobs, SameMarks, marks-of, marks-back, circular-same, wide-same}
 
 -- Check 9 fails exactly where some job would have to end before itself.
 pub circular-when : (S : Sheet) → (noOrder S ≡ true) ↔ Circular S
@@ -34,15 +34,16 @@ ordered-when S = ((λ e c. clash (noOrder S) (circular-when S .1 c) e), λ h. go
     go (inl t) h = absurd (h (circular-when S .0 t))
     go (inr f) h = f
 
--- two sheets that say the same of every job have the same number
-none-same : {S T : Sheet} → SameJobs S T → noOrder S ≡ noOrder T
+-- the marks alone decide it, whatever the cabinet
+pub none-same : {S T : Sheet} → SameMarks S T → noOrder S ≡ noOrder T
 none-same {S} {T} h =
     same-test (noOrder S) (noOrder T) (λ e. circular-when T .1 (circular-same h (circular-when S .0 e)))
-    (λ e. circular-when S .1 (circular-same (same-back h) (circular-when T .0 e)))
+    (λ e. circular-when S .1 (circular-same (marks-back h) (circular-when T .0 e)))
 
+-- two sheets that say the same of every job have the same number
 pub refusal-same : {S T : Sheet} → SameJobs S T → orderRefusal S ≡ orderRefusal T
 unfolding orderRefusal firstFailing
-refusal-same h = rw (wide-same h, none-same h) refl
+refusal-same h = rw (wide-same h, none-same (marks-of h)) refl
 
 -- ---- the number of a sheet that reads
 

@@ -3,24 +3,23 @@ use mathlib.Core.Path.{_≡_, refl, sym, _∙_}
 use mathlib.Core.Logic.{_↔_}
 use mathlib.Core.Bool.{Bool, true, false, cond}
 use mathlib.Core.List.{List}
-use Prim.Native.Nat.{ℕ, _≤_, _<_}
-use native.Mathlib.Omega.{arith}
+use Prim.Native.Nat.{ℕ, _<_}
 use lib.Dec.{eqb}
 use borrow.Author.Tests.{eqb-true}
-use Rattle.figures.specs.Figures.{mostJobs}
 use Rattle.schedule.specs.Plan.{Plan, Valid, overWide, Circular}
 use Rattle.schedule.proofs.Existence.{has-plan}
-use Rattle.tables.specs.Tables.{sheetOf, countOf, Fit}
+use Rattle.tables.specs.Tables.{sheetOf, Fit}
 use Rattle.checking.specs.Checking.{firstFailing, FirstFails, NoneFails}
 use Rattle.checking.proofs.Order.{all-passed, none-failing, both-passed, first-in-front, first-behind, refused-exactly, answered-exactly}
 use Rattle.sheet.specs.Read.{readChecks, readRefusal, reading}
 use Rattle.sheet.proofs.Answers.{read-number}
-use Rattle.job_table.specs.Table.{TableOf}
+use Rattle.job_table.specs.Table.{FitJobs, TableOf}
 use Rattle.planable.specs.Planable.{sheetIn, noOrder, orderChecks, orderRefusal, planableChecks, planableRefusal}
-use Rattle.planable.specs.Results.{CheckedOf}
-use Rattle.schedule.proofs.Same.{SameJobs, circular-same}
+use Rattle.planable.specs.declared.Checked.{Checked}
+use Rattle.planable.specs.Results.{ReadOf, CheckedOf}
+use Rattle.schedule.proofs.Same.{SameJobs, marks-of, circular-same}
 use Rattle.planable.proofs.Circles.{ordered-when, refusal-same}
-use Rattle.planable.proofs.Tables.{few-read, lasting-read, same-jobs, fit-table}
+use Rattle.planable.proofs.Tables.{lasting-read, same-jobs, jobs-fit, fit-table}
 
 -- The number is k exactly when check k fails and no earlier one of 1 to 9 does.
 pub planable-refused : (s : List ℕ) (k : ℕ) → 0 < k → (planableRefusal s ≡ k) ↔ FirstFails (planableChecks s) k
@@ -90,7 +89,7 @@ ready-table s t e h =
     record {
       reads = p .reads;
       fit = fit-table s (p .reads) t h (p .narrow);
-      free = λ c. ordered-when (sheetIn s) .0 (p .ordered) (circular-same same c);
+      free = λ c. ordered-when (sheetIn s) .0 (p .ordered) (circular-same (marks-of same) c);
       same = same;
     }
 
@@ -98,23 +97,35 @@ ready-table s t e h =
 
 module _ (s : List ℕ) where
   -- a sheet that does not read
-  pub turned-away : (t : List ℕ) → (reading s .refusal ≡ 0 → ⊥) → CheckedOf s (record { refusal = reading s .refusal; jobs = t })
-  unfolding planableRefusal
-  turned-away t h = record {
-    refusal = read-number s ∙ sym (first-in-front (readChecks s) (orderChecks (sheetIn s)) (λ z. h (read-number s ∙ z)));
-    table = λ z. absurd (h z);
-  }
+  pub not-read : (t : List ℕ) → (reading s .refusal ≡ 0 → ⊥) → ReadOf s (record { refusal = reading s .refusal; jobs = t })
+  not-read t h = record { refusal = read-number s; table = λ z. absurd (h z) }
 
-  module _ (z : reading s .refusal ≡ 0) where
-    pub reads-well : readRefusal s ≡ 0
-    reads-well = sym (read-number s) ∙ z
+  pub reads-well : reading s .refusal ≡ 0 → readRefusal s ≡ 0
+  reads-well z = sym (read-number s) ∙ z
 
-    module _ (t : List ℕ) (h : TableOf (reading s) t) where
-      pub few-table : countOf t ≤ mostJobs
-      few-table = omega (arith, few-read s reads-well, h .count)
+  pub is-read : reading s .refusal ≡ 0 → (t : List ℕ) → TableOf (reading s) t → ReadOf s (record { refusal = 0; jobs = t })
+  is-read z t h = record { refusal = sym (reads-well z); table = λ y. h }
 
-      pub checked : (k : ℕ) → k ≡ orderRefusal (sheetOf t) → CheckedOf s (record { refusal = k; jobs = t })
+  module _ (r : Checked) (f : ReadOf s r) where
+    pub turned-away : (r .refusal ≡ 0 → ⊥) → CheckedOf s r
+    unfolding planableRefusal
+    turned-away h = record {
+      refusal = f .refusal ∙ sym (first-in-front (readChecks s) (orderChecks (sheetIn s)) (λ z. h (f .refusal ∙ z)));
+      table = f .table;
+    }
+
+    module _ (z : r .refusal ≡ 0) where
+      pub was-read : readRefusal s ≡ 0
+      was-read = sym (f .refusal) ∙ z
+
+      pub same-read : SameJobs (sheetOf (r .jobs)) (sheetIn s)
+      same-read = same-jobs s was-read (r .jobs) (f .table z)
+
+      pub jobs-read : FitJobs (r .jobs)
+      jobs-read = jobs-fit s was-read (r .jobs) (f .table z)
+
+      pub checked : (k : ℕ) → k ≡ orderRefusal (sheetOf (r .jobs)) → CheckedOf s (record { refusal = k; jobs = r .jobs })
       checked k e = record {
-        refusal = e ∙ refusal-same (same-jobs s reads-well t h) ∙ sym (behind-reading s reads-well);
-        table = λ y. h;
+        refusal = e ∙ refusal-same same-read ∙ sym (behind-reading s was-read);
+        table = λ y. f .table z;
       }

@@ -1,5 +1,5 @@
 -- The figures of a sheet that reads: within their ranges, and in a table.
-use mathlib.Core.Path.{_≡_, sym, ap, subst}
+use mathlib.Core.Path.{_≡_, sym, ap, subst, _∙_}
 use mathlib.Core.Bool.{false}
 use mathlib.Core.List.{List}
 use Prim.Native.Nat.{ℕ, _≤_, _<_}
@@ -9,6 +9,7 @@ use Rattle.figures.specs.Figures.{mostJobs, mostModules, longestChangeover}
 use Rattle.bits.specs.Bits.{bit}
 use Rattle.schedule.specs.Plan.{overWide, Lasting, Needing}
 use Rattle.schedule.proofs.Existence.{narrow-says}
+use Rattle.tables.specs.Tables as tables
 use Rattle.tables.specs.Tables.{sheetOf, Fit}
 use Rattle.sheet_format.specs.Format.{jobsIn, countOf, jobOf}
 use Rattle.sheet_format.proofs.Bounds.{Legal, legal}
@@ -16,9 +17,10 @@ use Rattle.sheet_format.proofs.Lists.{length-places, job-in-place}
 use Rattle.sheet.specs.declared.Reading.{Reading}
 use Rattle.sheet.specs.Read.{readRefusal, reading}
 use Rattle.sheet.proofs.Answers.{read-answer, reads}
-use Rattle.job_table.specs.Table.{SumsFit, TableOf}
+use Rattle.job_table.specs.Table.{SumsFit, FitJobs, TableOf}
+use Rattle.job_table.proofs.Cabinets.{fit-of}
 use Rattle.planable.specs.Planable.{sheetIn}
-use Rattle.schedule.proofs.Same.{SameJobs}
+use Rattle.schedule.proofs.Same.{SameJobs, wide-same}
 
 module _ (s : List ℕ) (e : readRefusal s ≡ 0) where
   abbrev r : Reading
@@ -68,25 +70,21 @@ module _ (s : List ℕ) (e : readRefusal s ≡ 0) where
       arrival = λ j l. h .arrival j (omega (arith, h .count));
     }
 
-    pub fit-table : overWide (sheetIn s) ≡ false → Fit t
-    fit-table w = record {
+    pub jobs-fit : FitJobs t
+    jobs-fit = record {
+      size = h .size;
       few = omega (arith, few-read, h .count);
-      some = omega (arith, some-read, h .modules);
-      most = omega (arith, most-read, h .modules);
-      narrow = λ j l.
-          let k : j < r .count = omega (arith, h .count) in
-          omega (arith, same-jobs .need j l, h .modules, narrow-says (sheetIn s) w j k);
-      lasting = λ j l.
-          let k : j < r .count = omega (arith, h .count) in
-          omega (arith, same-jobs .minutes j l, job-read j k .minutes-some);
-      short = λ j l.
-          let k : j < r .count = omega (arith, h .count) in
-          omega (arith, same-jobs .minutes j l, job-read j k .minutes-most);
-      arrived = λ j l.
-          let k : j < r .count = omega (arith, h .count) in
-          omega (arith, same-jobs .arrival j l, job-read j k .arrival);
+      lasting = λ j l. omega (arith, same-jobs .minutes j l, job-read j (low l) .minutes-some);
+      short = λ j l. omega (arith, same-jobs .minutes j l, job-read j (low l) .minutes-most);
+      arrived = λ j l. omega (arith, same-jobs .arrival j l, job-read j (low l) .arrival);
       rests = omega (arith, rests-read, h .changeover);
-      keeps = λ j l.
-          let k : j < r .count = omega (arith, h .count) in
-          omega (arith, same-jobs .minutes j l, h .kept j k, h .changeover);
+      keeps = λ j l. omega (arith, same-jobs .minutes j l, h .kept j (low l), h .changeover);
     }
+      where
+        low : {j : ℕ} → j < tables.countOf t → j < r .count
+        low l = omega (arith, l, h .count)
+
+    pub fit-table : overWide (sheetIn s) ≡ false → Fit t
+    fit-table w =
+        fit-of t jobs-fit (omega (arith, some-read, h .modules)) (omega (arith, most-read, h .modules))
+        (narrow-says (sheetOf t) (wide-same same-jobs ∙ w))

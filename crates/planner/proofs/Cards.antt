@@ -3,7 +3,7 @@ use mathlib.Core.Path.{_≡_, refl, sym, ap, ap₂, _∙_}
 use mathlib.Core.List.{List, _++_}
 use Prim.Native.Nat.{ℕ, _+_, _<_}
 use native.Mathlib.Omega.{arith}
-use lib.ListN.{getD}
+use lib.ListN.{length, getD}
 use Rattle.counting.proofs.Joins.{joined-same}
 use Rattle.bits.specs.Bits.{setOf}
 use Rattle.schedule.specs.Plan.{Sheet, Plan, Circular}
@@ -11,9 +11,10 @@ use Rattle.schedule.specs.ListPlan.{Order, listPlan}
 use Rattle.schedule.specs.TieRule.{Best, endOf}
 use Rattle.schedule.proofs.Orders.{best-is}
 use Rattle.schedule.proofs.Theorems.{best-exists}
-use Rattle.card.specs.Card.{trailerEnd, trailerCount, orderAt, trailerAt, rowBytes, rowOf, trailerBytes, cardBytes, cardOf}
+use Rattle.card.specs.Card.{cardSize, trailerEnd, trailerCount, orderAt, trailerAt, rowBytes, rowOf, trailerBytes, cardBytes, cardOf}
 use Rattle.words.specs.Words.{numberAt}
 use Rattle.card.specs.Decoding.{Decodes}
+use Rattle.card.proofs.Decoding.{card-length}
 use Rattle.schedule.proofs.Same.{SameJobs, plan-same, finish-same, end-same, best-same}
 use Rattle.planner.specs.Planning.{bestCard}
 
@@ -49,6 +50,9 @@ module _ {S T : Sheet} (h : SameJobs S T) (o : List ℕ) (w : Order S o) where
 pub best-card : (S : Sheet) (o : List ℕ) → Best S o → bestCard S ≡ cardOf S o
 unfolding bestCard
 best-card S o b = rw (best-is S o b, bestCard) refl
+
+pub best-size : (S : Sheet) → ¬ Circular S → length (bestCard S) ≡ cardSize (S .jobs)
+best-size S c = let f = best-exists S c in ap length (best-card S (f .0) (f .2)) ∙ card-length S (f .0) (f .2 .order)
 
 pub best-card-same : {S T : Sheet} → SameJobs S T → ¬ Circular S → bestCard S ≡ bestCard T
 best-card-same {S} {T} h c =

@@ -20,7 +20,7 @@ use Rattle.schedule.proofs.Theorems.{best-earliest}
 use Rattle.tables.specs.Tables.{sheetOf}
 use Rattle.card.specs.Card.{cardSize, cardOf}
 use Rattle.card.specs.Decoding.{planOn, Decodes}
-use Rattle.card.proofs.Decoding.{card-length, end-short, card-decodes}
+use Rattle.card.proofs.Decoding.{end-short, card-decodes}
 use Rattle.card.proofs.OnCard.{card-valid, card-end}
 use Rattle.checking.specs.Checking.{firstFailing, FirstFails}
 use Rattle.checking.proofs.Order.{all-passed, both-passed, none-failing, first-behind, refused-exactly}
@@ -34,7 +34,7 @@ use Rattle.planable.proofs.Tables.{few-read, lasting-read}
 use Rattle.planable.proofs.Planable.{Passes, passes, Ready, ready-table}
 use Rattle.planner.specs.Planning.{roomChecks, planChecks, planRefusal, bestCard, cardAfter}
 use Rattle.planner.specs.Planned.{Answered}
-use Rattle.planner.proofs.Cards.{card-same, decodes-same, best-card}
+use Rattle.planner.proofs.Cards.{card-same, decodes-same, best-card, best-size}
 
 -- ---- the checks
 
@@ -125,12 +125,9 @@ module _ (s card : List ℕ) (e : planRefusal s (length card) ≡ 0) where
   best : Best S o
   best = best-order S o (found .1)
 
-  size : length (bestCard S) ≡ cardSize (S .jobs)
-  size = ap length (best-card S o best) ∙ card-length S o (best .order)
-
   pub plan-written : cardAfter s card ≡ bestCard S ++ drop (cardSize (S .jobs)) card
   unfolding cardAfter
-  plan-written = rw e (ap (λ (k : ℕ). bestCard S ++ drop k card) size)
+  plan-written = rw e (ap (λ (k : ℕ). bestCard S ++ drop k card) (best-size S (ordered-when S .0 (p .ordered))))
 
   card-is : cardAfter s card ≡ cardOf S o ++ drop (cardSize (S .jobs)) card
   card-is = plan-written ∙ ap (λ (c : List ℕ). c ++ drop (cardSize (S .jobs)) card) (best-card S o best)

@@ -15,7 +15,7 @@ use listing::Found;
 use tables::Jobs;
 
 // Whether a card of this room is too short.
-fn too_short(jobs: &Jobs, room: usize) -> bool
+pub fn too_short(jobs: &Jobs, room: usize) -> bool
     requires { ⌜ countOf (now jobs) ≤ mostJobs ⌝ }
     ensures { λ r. ⌜ r ≡ ltb room (cardSize (countOf (now (jobs .entry)))) ⌝ }
 {
@@ -23,7 +23,7 @@ fn too_short(jobs: &Jobs, room: usize) -> bool
 }
 
 // Writes the card of the tie rule's plan at the front of the lent bytes, and leaves the working memory all zero.
-fn write_best(card: &mut [u8], work: &mut [u8], jobs: &Jobs)
+pub fn write_best(card: &mut [u8], work: &mut [u8], jobs: &Jobs)
     requires { ⌜ (Fit (now jobs))
         × ((¬ Circular (sheetOf (now jobs))) × (cardSize (countOf (now jobs)) ≤ length (now card))) ⌝ }
     ensures card { λ _. ⌜ now (card .exit)

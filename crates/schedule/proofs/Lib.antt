@@ -39,6 +39,7 @@ pub mod Horizon
 pub mod EndSums
 pub mod Multiples
 pub mod Theorems
+pub mod Larger
 pub mod RowLaws
 pub mod ValidTest
 pub mod Samples

@@ -1,5 +1,6 @@
 -- Two sheets that say the same of every job: they have the same orders, list plans and best orders.
 use mathlib.Core.Path.{_≡_, refl, sym, ap, ap₂, _∙_}
+use mathlib.Core.Logic.{inl, inr, ⊎-elim}
 use mathlib.Core.Bool.{Bool, not, cond, _&&_}
 use mathlib.Core.List.{List, [], _∷_}
 use Prim.Native.Nat.{ℕ, _+_, _<_, max}
@@ -7,7 +8,7 @@ use native.Mathlib.Omega.{arith}
 use lib.Dec.{ltb, leb, eqb}
 use Rattle.counting.specs.Counting.{only, largest, any, count}
 use Rattle.counting.proofs.Ranges.{largest-same, any-same}
-use Rattle.schedule.specs.Plan.{Sheet, Plan, finish, overWide, MustPrecede, directly, through, Circular}
+use Rattle.schedule.specs.Plan.{Sheet, Plan, Valid, Lasting, finish, planEnd, overWide, MustPrecede, directly, through, Circular}
 use Rattle.schedule.specs.ListPlan.{Order, noJobs, placing, Follows, PartPlan, free, notBefore, firstMinute, allFreeFrom, startOf, lowest, place, emptyPart, placeAll, listPlan}
 use Rattle.schedule.specs.TieRule.{Best, endOf}
 use Rattle.schedule.proofs.Starts.{Ready, ready-says, ready-when}
@@ -52,13 +53,27 @@ follow-same {S} {T} h (j ∷ o) d f = (ready-when T d j carried, follow-same h o
 pub order-same : {S T : Sheet} → SameJobs S T → (o : List ℕ) → Order S o → Order T o
 order-same h o w = record { all = w .all ∙ h .jobs; follows = follow-same h o noJobs (w .follows) }
 
-precede-same : {S T : Sheet} → SameJobs S T → {i j : ℕ} → MustPrecede S i j → MustPrecede T i j
+-- the two sheets have the same jobs and marks, whatever their cabinets
+pub record SameMarks (S T : Sheet) : Type 0 where
+  pub jobs : S .jobs ≡ T .jobs
+  pub before : (i j : ℕ) → i < S .jobs → j < S .jobs → S .before i j ≡ T .before i j
+
+pub marks-of : {S T : Sheet} → SameJobs S T → SameMarks S T
+marks-of h = record { jobs = h .jobs; before = h .before }
+
+pub marks-back : {S T : Sheet} → SameMarks S T → SameMarks T S
+marks-back h = record {
+  jobs = sym (h .jobs);
+  before = λ i j k l. sym (h .before i j (omega (arith, h .jobs)) (omega (arith, h .jobs)));
+}
+
+precede-same : {S T : Sheet} → SameMarks S T → {i j : ℕ} → MustPrecede S i j → MustPrecede T i j
 precede-same h (directly {i} {j} a b e) =
     directly {i = i} {j = j} (omega (arith, h .jobs)) (omega (arith, h .jobs)) (sym (h .before i j a b) ∙ e)
 precede-same h (through {i} {k} {j} a b e m) =
     through {i = i} {k = k} (omega (arith, h .jobs)) (omega (arith, h .jobs)) (sym (h .before i k a b) ∙ e) (precede-same h m)
 
-pub circular-same : {S T : Sheet} → SameJobs S T → Circular S → Circular T
+pub circular-same : {S T : Sheet} → SameMarks S T → Circular S → Circular T
 circular-same h c = (c .0, precede-same h (c .1))
 
 pub wide-same : {S T : Sheet} → SameJobs S T → overWide S ≡ overWide T
@@ -67,6 +82,34 @@ wide-same {S} {T} h =
     any-same (S .jobs) (λ j. ltb (S .modules) (S .need j)) (λ j. ltb (T .modules) (T .need j))
     (λ j l. ap₂ ltb (h .modules) (h .need j l))
     ∙ ap (λ (n : ℕ). any n (λ j. ltb (T .modules) (T .need j))) (h .jobs)
+
+-- ---- valid plans
+
+pub lasting-same : {S T : Sheet} → SameJobs S T → Lasting S → Lasting T
+lasting-same {S} h w j l = let k : j < S .jobs = omega (arith, h .jobs) in omega (arith, w j k, h .minutes j k)
+
+module _ {S T : Sheet} (h : SameJobs S T) (P : Plan) where
+  ends-same : (j : ℕ) → j < S .jobs → finish S P j ≡ finish T P j
+  ends-same j l = ap (λ (x : ℕ). P .start j + x) (h .minutes j l)
+
+  pub end-of-same : planEnd S P ≡ planEnd T P
+  end-of-same =
+      largest-same (S .jobs) (finish S P) (finish T P) ends-same ∙ ap (λ (n : ℕ). largest n (finish T P)) (h .jobs)
+
+  pub valid-same : Valid S P → Valid T P
+  valid-same v = record {
+    inside = λ j m l u. omega (arith, v .inside j m (low l) u, h .modules);
+    enough = λ j l. ap (λ (n : ℕ). count n (P .uses j)) (sym (h .modules)) ∙ v .enough j (low l) ∙ h .need j (low l);
+    apart = λ i j m k l n u w. ⊎-elim
+        (λ x. inl (omega (arith, x, ends-same i (low k), h .rest)))
+        (λ x. inr (omega (arith, x, ends-same j (low l), h .rest)))
+        (v .apart i j m (low k) (low l) n u w);
+    after = λ i j k l b. omega (arith, v .after i j (low k) (low l) (h .before i j (low k) (low l) ∙ b), ends-same i (low k));
+    arrived = λ j l. omega (arith, v .arrived j (low l), h .arrival j (low l));
+  }
+    where
+      low : {j : ℕ} → j < T .jobs → j < S .jobs
+      low l = omega (arith, l, h .jobs)
 
 -- ---- list plans
 

@@ -3,6 +3,7 @@ pub mod Plan
 pub mod ListPlan
 pub mod TieRule
 pub mod Ends
+pub mod Cabinets
 pub mod Rows
 pub mod ValidTest
 pub mod Beginnings

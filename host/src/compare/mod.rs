@@ -7,6 +7,7 @@ pub mod search;
 pub mod sets;
 pub mod sheet_calls;
 pub mod sheets;
+pub mod sizing;
 pub mod slack;
 pub mod two_passes;
 pub mod usage;

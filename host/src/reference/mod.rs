@@ -4,6 +4,7 @@ pub mod older;
 pub mod planning;
 pub mod reading;
 pub mod sets;
+pub mod size;
 pub mod slack;
 pub mod usage;
 pub mod writing;

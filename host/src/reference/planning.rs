@@ -50,7 +50,7 @@ pub fn best(sheet: &Sheet) -> Finished {
 }
 
 /// Whether some job would have to end before itself, directly or through others.
-fn some_job_precedes_itself(sheet: &Sheet) -> bool {
+pub(super) fn some_job_precedes_itself(sheet: &Sheet) -> bool {
     let n = sheet.jobs.len();
     let mut precedes = vec![vec![false; n]; n];
     for (later, job) in sheet.jobs.iter().enumerate() {

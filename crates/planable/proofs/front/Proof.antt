@@ -1,39 +1,29 @@
 -- `planable::front` meets its contract.
 use borrow.Author.Needs.{needs}
-use Rattle.planable.proofs.Tables.{places-read, few-read, sums-read}
-use Rattle.planable.proofs.Planable.{turned-away, reads-well, few-table, checked}
+use Rattle.planable.proofs.Planable.{turned-away, jobs-read, checked}
 use Rattle.planable.proofs.front.Statement.{statement}
 use Rattle.planable.proofs.front.Tie as tie
 
-read-requires : tie.Need-read-requires
-read-requires c κs = search needs
+read-table-requires : tie.Need-read-table-requires
+read-table-requires c κs = search needs
 
 returns : tie.Need-returns
 returns c =
-    let read = c .before .read in
-    rw (read .ensures) (turned-away (c .before .before .before .args .sheet .now) _ (rw (read .ensures) at (c .if1 .taken)))
-
-table-of-requires : tie.Need-table-of-requires
-table-of-requires c κs =
-    let s = c .before .before .before .args .sheet .now in
-    let read = c .before .read in
-    let well = reads-well s (rw (read .ensures) at (c .if1 .left)) in
-    rw (read .ensures) (places-read s well, (few-read s well, sums-read s well))
+    let f = c .before .before in
+    turned-away (f .before .before .args .sheet .now) (f .read-table .result) (f .read-table .ensures) (c .if1 .taken)
 
 order-refusal-requires : tie.Need-order-refusal-requires
 order-refusal-requires c κs =
-    let table = c .before in
-    let read = table .before .before .read in
-    few-table (c .before .before .before .before .before .args .sheet .now) (rw (read .ensures) at (table .before .if1 .left)) _
-    (rw (read .ensures) at (table .table-of .ensures))
+    let e = c .before .before in
+    let f = e .before .before in
+    jobs-read (f .before .before .args .sheet .now) (f .read-table .result) (f .read-table .ensures) (e .if1 .left) .few
 
 returns-2 : tie.Need-returns-2
 returns-2 c =
-    let table = c .before .before in
-    let read = table .before .before .read in
-    checked (c .before .before .before .before .before .before .args .sheet .now) (rw (read .ensures) at (table .before .if1 .left)) _
-    (rw (read .ensures) at (table .table-of .ensures)) _ (c .order-refusal .ensures)
+    let e = c .before .before .before in
+    let f = e .before .before in
+    checked (f .before .before .args .sheet .now) (f .read-table .result) (f .read-table .ensures) (e .if1 .left) _
+    (c .order-refusal .ensures)
 
 pub front-spec : {M : Type 1} → statement M
-front-spec =
-    tie.close (tie.spec read-requires returns table-of-requires order-refusal-requires returns-2)
+front-spec = tie.close (tie.spec read-table-requires returns order-refusal-requires returns-2)

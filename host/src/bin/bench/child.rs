@@ -2,7 +2,7 @@
 use crate::{clock, process};
 use depot_host::lists::{self, List};
 use depot_host::plain_search::{run_with, Outcome, Rules, Tables};
-use depot_host::{card_length, earliest_end, plan, Card};
+use depot_host::{card_length, earliest_end, plan, size, Card, Refusal};
 use std::process::Command;
 use std::time::Duration;
 use std::{env, hint, io};
@@ -21,6 +21,10 @@ pub enum Side {
     Library,
     /// The library's call for the end alone.
     End,
+    /// The library's call for the least module count; the count stands where others have the end, 0 where none serves.
+    Size {
+        by: u16,
+    },
     /// The same search in plain Rust.
     Plain,
     /// The same without rules.
@@ -40,6 +44,7 @@ pub fn call(side: Side, list: &List, memory: usize, cutoff: Duration) -> Option<
     let side = match side {
         Side::Library => "library",
         Side::End => "end",
+        Side::Size { by } => &by.to_string(),
         Side::Plain => "plain",
         Side::Bare => "bare",
     };
@@ -73,6 +78,7 @@ pub fn answer(words: &[String]) {
         "plain" => plain(&list, &mut work, &Rules::default()),
         "bare" => plain(&list, &mut work, &Rules::bare()),
         "end" => end(&list, &mut work),
+        by if by.starts_with(|c: char| c.is_ascii_digit()) => sized(&list, by.parse().expect("a minute"), &mut work),
         _ => library(&list, &mut work),
     };
     println!("{}", took.text());
@@ -91,6 +97,15 @@ fn end(list: &List, work: &mut [u8]) -> Took {
     let mut end = 0;
     let seconds = shortest(|| end = earliest_end(&sheet, work).unwrap_or_else(|refusal| panic!("{}: {refusal}", list.name)));
     Took { seconds, visited: 0, end }
+}
+
+fn sized(list: &List, by: u16, work: &mut [u8]) -> Took {
+    let sheet = list.sheet();
+    let mut card = vec![0; card_length(list.jobs.len())];
+    let mut answer = Ok(0);
+    let seconds = shortest(|| answer = size(&sheet, by, &mut card, work));
+    assert!(matches!(answer, Ok(_) | Err(Refusal::NoCountServes)), "{}", list.name);
+    Took { seconds, visited: 0, end: answer.unwrap_or(0) }
 }
 
 fn plain(list: &List, work: &mut [u8], rules: &Rules) -> Took {

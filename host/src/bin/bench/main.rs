@@ -11,6 +11,7 @@ mod picture;
 mod planning;
 mod process;
 mod sheet_calls;
+mod sizes;
 mod stack_need;
 mod times;
 mod usage;
@@ -38,6 +39,7 @@ fn main() {
             Part::Arrivals => planning::measure_arrivals(&options),
             Part::Changeovers => planning::measure_changeovers(&options),
             Part::Ends => ends::measure(&options),
+            Part::Sizes => sizes::measure(&options),
             Part::Ablation => ablation::measure(&options),
             Part::Gecode => gecode::measure(&options),
             Part::Stack => stack_need::measure(),

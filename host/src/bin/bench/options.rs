@@ -9,6 +9,7 @@ use std::time::Duration;
 pub enum Part {
     Plans,
     Ends,
+    Sizes,
     Arrivals,
     Changeovers,
     Ablation,
@@ -79,6 +80,7 @@ impl Options {
                 "arrivals" => options.parts.push(Part::Arrivals),
                 "changeovers" => options.parts.push(Part::Changeovers),
                 "ends" => options.parts.push(Part::Ends),
+                "sizes" => options.parts.push(Part::Sizes),
                 "ablation" => options.parts.push(Part::Ablation),
                 "gecode" => options.parts.push(Part::Gecode),
                 "stack" => options.parts.push(Part::Stack),
@@ -106,7 +108,8 @@ impl Options {
         if options.parts.is_empty() {
             options.parts = vec![Part::Plans, Part::Stack, Part::Sheets, Part::Desk];
         }
-        if options.parts.iter().any(|part| matches!(part, Part::Plans | Part::Ends | Part::Ablation | Part::Gecode)) {
+        if options.parts.iter().any(|part| matches!(part, Part::Plans | Part::Ends | Part::Sizes | Part::Ablation | Part::Gecode))
+        {
             options.groups = asked.groups()?;
         }
         if options.parts.contains(&Part::Arrivals) {

@@ -8,13 +8,14 @@ parts; plans, stack, sheets and desk where none is named:
   arrivals         planning of lists whose jobs arrive later, in waves and one by one, and what each rule that looks at arrivals pays
   changeovers      planning of lists whose modules rest between two jobs, and what each rule that looks at the changeover pays
   ends             the end alone beside planning, family by family: their ends are the same, and the ratio of their times
+  sizes            the least module count beside planning, for the end in the list's own cabinet, 4/5 and 3/5 of it
   ablation         what each rule of the search pays: the search in plain Rust with one rule left out
   gecode           the earliest end by MiniZinc's solver Gecode beside planning, where minizinc is installed
   stack            the stack that each call needs, planning at 20 jobs
   sheets           reading, labels and writing of the longest sheet
   desk             the desk's calls
 
-options of plans, arrivals, changeovers, ends, ablation and gecode:
+options of plans, arrivals, changeovers, ends, sizes, ablation and gecode:
   --sizes N,N..    sizes of the lists (10,12; arrivals and changeovers 14,16,20)
   --family WORD    only families whose name has this word
   --seed NUMBER    seed of the lists (1; arrivals and changeovers 8117)

@@ -10,11 +10,13 @@ const TAKES: Takes =
     Takes { verb: "explain", flags: &["--json"], values: &[], plain: &["a refusal's number"], needed: 0, more: false };
 
 const PLANNING: &str = "planning, the end alone, the use of the cabinet, slack, job sets";
-const READING: &str = "reading, labels, planning, the end alone, the use of the cabinet, slack, job sets";
-const READING_AND_WRITING: &str = "reading, labels, planning, the end alone, the use of the cabinet, slack, job sets, writing";
+const ORDERS: &str = "planning, the end alone, the least count, the use of the cabinet, slack, job sets";
+const READING: &str = "reading, labels, planning, the end alone, the least count, the use of the cabinet, slack, job sets";
+const READING_AND_WRITING: &str =
+    "reading, labels, planning, the end alone, the least count, the use of the cabinet, slack, job sets, writing";
 
 /// Which calls refuse with each number, and what to do, in the order of the numbers.
-const TO_DO: [(Refusal, &str, &str); 22] = [
+const TO_DO: [(Refusal, &str, &str); 23] = [
     (Refusal::SheetLength, READING, "The file is no job sheet, or it was cut off or joined with another. Make it again: 'depot sheet LIST.csv -o FILE'."),
     (Refusal::TooManyJobs, READING_AND_WRITING, "Split the list: a cabinet plans up to 20 charges at a time."),
     (Refusal::CabinetSize, READING_AND_WRITING, "Put the number of the cabinet's modules, 1 to 64, into the line 'cabinet,N' of the list."),
@@ -28,8 +30,8 @@ const TO_DO: [(Refusal, &str, &str); 22] = [
     (Refusal::LabelLengths, READING_AND_WRITING, "The file was damaged, or a program wrote wrong label lengths. Make it again from the list."),
     (Refusal::LabelByte, READING_AND_WRITING, "Write labels in plain letters, digits and signs, without accents, and with spaces inside alone."),
     (Refusal::OverWide, PLANNING, "Give the job fewer modules, or plan it on a larger cabinet: as it stands it has no plan. 'depot plan' names the job."),
-    (Refusal::Circular, PLANNING, "Take one 'after' out of the circle: as it stands no job of it can start. 'depot plan' names a circle."),
-    (Refusal::BufferTooShort, "planning, writing", "A fault of the calling program: lend 13 bytes for each job and 8 for a card, 570 for every sheet."),
+    (Refusal::Circular, ORDERS, "Take one 'after' out of the circle: as it stands no job of it can start. 'depot plan' names a circle."),
+    (Refusal::BufferTooShort, "planning, the least count, writing", "A fault of the calling program: lend 13 bytes for each job and 8 for a card, 570 for every sheet."),
     (Refusal::ListLengths, "opening, changes", "Give 2 to 8 controllers, each with a share and a ceiling; in a change as many as the desk has."),
     (Refusal::DeskFigures, "opening, changes", "Choose a limit of 0.1 to 40,000 kW, ceilings within it, and for each controller a share within its ceiling."),
     (Refusal::SharesExceedLimit, "opening, changes", "Lower the shares until they add up to the limit or less: what is assured must fit on the feeder at once."),
@@ -53,6 +55,13 @@ const TO_DO: [(Refusal, &str, &str); 22] = [
         READING_AND_WRITING,
         "Put the minutes that a module rests between two jobs, 0 to 30, into the line 'changeover,C' of the list, or leave the line out \
          where modules need no rest. A sheet of a program that knows no changeover has two bytes too few: make it again from the list.",
+    ),
+    (
+        Refusal::NoCountServes,
+        "the least count",
+        "Ask for a later minute, or shorten what cannot be run side by side: even 64 modules have no plan that ends by then. 'depot size' \
+         names a job that is wider than every cabinet, or the jobs that wait for one another for too long. Where it names none, some buses \
+         have to move to another cabinet.",
     ),
     (
         Refusal::HoldingAboveCeiling,

@@ -10,6 +10,7 @@ usage: depot VERB ..
   depot plan LIST.csv            the plan that ends first, as a table
   depot plan LIST.csv --svg OUT  and as a picture; --html OUT for a page
   depot end LIST.csv             the earliest end alone, in a sentence
+  depot size LIST.csv --by TIME  how many modules are enough, so that the last bus is full by then
   depot use LIST.csv ..          how much of the cabinet is used, of one list or of several
   depot slack LIST.csv           which bus may wait, which holds up a departure, and which waits are not needed
   depot sets LIST.csv            how large the search will be, without planning
@@ -56,6 +57,23 @@ It takes less time than the plan. A name that ends in .csv is a list, every othe
   --start HH:MM    the plan's start as a time of day, in place of the list's
   --raw            the minute alone, counted from the start
   --json           for programs
+  --memory BYTES   working memory of the search, with K or M (16M); 0 is allowed, and no length changes the answer
+";
+
+const SIZE: &str = "\
+usage: depot size LIST.csv|SHEET --by TIME [OPTION..]
+
+Says how large a cabinet the list asks for: the least number of modules, up to 64, with which the last bus is full by TIME, and that no
+plan on fewer modules, whoever makes it, ends by then. The list's own cabinet does not count; a bus may need more modules than it has.
+Below stands the earliest end for the counts beside it. A name that ends in .csv is a list, every other a job sheet; - is a sheet on
+standard input.
+
+  --by TIME        a minute counted from the start, 0 to 65535, or a time of day where the start is known: 05:30 is the first from the
+                   start on, 05:30+1 the one on the day after the start's
+  --start HH:MM    the plan's start as a time of day, in place of the list's
+  --raw            the number of modules alone
+  --json           for programs
+  --card OUT       the bytes of the plan card for that many modules too
   --memory BYTES   working memory of the search, with K or M (16M); 0 is allowed, and no length changes the answer
 ";
 
@@ -160,7 +178,7 @@ Exit status: 0 every call was answered; 1 some call was refused; 2 some line is 
 const EXPLAIN: &str = "\
 usage: depot explain [N] [--json]
 
-What refusal N, 1 to 19 or 21 to 23, means, which calls refuse with it, and what to do. Without N, all of them in a line each.
+What refusal N, 1 to 23, means, which calls refuse with it, and what to do. Without N, all of them in a line each.
 ";
 
 /// Whether help is asked for among these words.
@@ -173,6 +191,7 @@ pub fn of_verb(verb: &str) -> Option<String> {
     Some(match verb {
         "plan" => format!("{PLAN}{LIST_FORMAT}"),
         "end" => END.into(),
+        "size" => SIZE.into(),
         "use" => USE.into(),
         "slack" => SLACK.into(),
         "sets" => format!("{SETS}{LIST_FORMAT}"),

@@ -20,6 +20,7 @@ mod road;
 mod search;
 mod sets_verb;
 mod sheet_verbs;
+mod size_verb;
 mod slack_verb;
 mod style;
 mod use_verb;
@@ -59,6 +60,7 @@ fn run(words: &[String]) -> Result<Outcome, Trouble> {
         "list" => sheet_verbs::list(rest),
         "plan" => plan_verb::run(rest),
         "end" => end_verb::run(rest),
+        "size" => size_verb::run(rest),
         "use" => use_verb::run(rest),
         "slack" => slack_verb::run(rest),
         "sets" => sets_verb::run(rest),

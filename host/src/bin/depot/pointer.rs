@@ -1,6 +1,6 @@
 //! Where to look when the library has refused a sheet for a job that it does not name. Help, not an answer.
 use crate::planned::{labels, Yard};
-use depot_host::{read, Job, Refusal};
+use depot_host::{read, Job, Refusal, MOST_MODULES};
 
 /// Says on standard error that a file was refused, with what may help.
 pub fn tell(file: &str, refusal: Refusal, help: &[String]) {
@@ -14,10 +14,7 @@ pub fn tell(file: &str, refusal: Refusal, help: &[String]) {
 pub fn lines(yard: &Yard, refusal: Refusal) -> Vec<String> {
     let Ok(reading) = read(&yard.sheet) else { return of_file(&yard.sheet) };
     let labels = labels(&yard.sheet, &reading);
-    let name = |job: usize| match yard.lines.get(job) {
-        Some(line) => format!("{} (line {line})", labels[job]),
-        None => format!("{} (job {job})", labels[job]),
-    };
+    let name = |job: usize| name(yard, &labels, job);
     match refusal {
         Refusal::OverWide => {
             let modules = reading.modules;
@@ -36,6 +33,61 @@ pub fn lines(yard: &Yard, refusal: Refusal) -> Vec<String> {
         }
         _ => Vec::new(),
     }
+}
+
+/// A job by its label and its line, or its number where there is no list.
+fn name(yard: &Yard, labels: &[String], job: usize) -> String {
+    match yard.lines.get(job) {
+        Some(line) => format!("{} (line {line})", labels[job]),
+        None => format!("{} (job {job})", labels[job]),
+    }
+}
+
+/// Lines on why no cabinet is enough, where one job or one chain of jobs decides it.
+pub fn too_late(yard: &Yard, by: u16) -> Vec<String> {
+    let Ok(reading) = read(&yard.sheet) else { return Vec::new() };
+    let labels = labels(&yard.sheet, &reading);
+    let widest = (0..labels.len()).max_by_key(|job| (reading.jobs[*job].modules, usize::MAX - job));
+    if let Some(job) = widest.filter(|job| u16::from(reading.jobs[*job].modules) > MOST_MODULES) {
+        let needs = reading.jobs[job].modules;
+        return vec![format!("{} needs {needs} modules; no cabinet has more than {MOST_MODULES}", name(yard, &labels, job))];
+    }
+    let (end, chain) = longest_chain(&reading.jobs);
+    if end <= u32::from(by) {
+        return Vec::new();
+    }
+    let when = yard.clock.map_or(format!("minute {end}"), |clock| clock.time(end));
+    let late = format!("{when}, {} min too late", end - u32::from(by));
+    let names: Vec<String> = chain.into_iter().map(|job| name(yard, &labels, job)).collect();
+    vec![match &names[..] {
+        [one] => format!("{one} alone cannot end before {late}, whatever the cabinet"),
+        _ => format!("{}, each after the one before, cannot end before {late}, whatever the cabinet", names.join(", ")),
+    }]
+}
+
+/// Jobs each of which waits for the one before, of those that end last if all had modules at once, and when they end. No job waits for itself.
+fn longest_chain(jobs: &[Job]) -> (u32, Vec<usize>) {
+    let mut ends: Vec<Option<(u32, Option<usize>)>> = vec![None; jobs.len()];
+    while ends.iter().any(Option::is_none) {
+        for job in 0..jobs.len() {
+            let earlier: Vec<usize> = (0..jobs.len()).filter(|i| jobs[job].earlier >> i & 1 == 1).collect();
+            let known: Option<Vec<(u32, usize)>> = earlier.iter().map(|i| ends[*i].map(|(end, _)| (end, *i))).collect();
+            if let Some(known) = known {
+                let arrival = u32::from(jobs[job].arrival);
+                let last = known.into_iter().max_by_key(|(end, i)| (*end, usize::MAX - i)).filter(|(end, _)| *end > arrival);
+                let start = last.map_or(arrival, |(end, _)| end);
+                ends[job] = Some((start + u32::from(jobs[job].minutes), last.map(|(_, i)| i)));
+            }
+        }
+    }
+    let end_of = |job: usize| ends[job].map_or(0, |(end, _)| end);
+    let Some(last) = (0..jobs.len()).max_by_key(|job| (end_of(*job), usize::MAX - job)) else { return (0, Vec::new()) };
+    let mut chain = vec![last];
+    while let Some((_, Some(before))) = ends[chain[chain.len() - 1]] {
+        chain.push(before);
+    }
+    chain.reverse();
+    (end_of(last), chain)
 }
 
 /// A list that was taken for a sheet.
@@ -75,6 +127,15 @@ mod tests {
 
     fn jobs(earlier: &[u32]) -> Vec<Job> {
         earlier.iter().map(|earlier| Job { earlier: *earlier, ..Job::default() }).collect()
+    }
+
+    #[test]
+    fn chains() {
+        let job = |minutes, earlier, arrival| Job { minutes, earlier, arrival, ..Job::default() };
+        assert_eq!(longest_chain(&[]), (0, vec![]));
+        assert_eq!(longest_chain(&[job(5, 0, 3)]), (8, vec![0]));
+        assert_eq!(longest_chain(&[job(5, 0b10, 0), job(7, 0, 0), job(11, 0, 0)]), (12, vec![1, 0]));
+        assert_eq!(longest_chain(&[job(5, 0b10, 40), job(7, 0, 0)]), (45, vec![0]), "it waits for its bus");
     }
 
     #[test]

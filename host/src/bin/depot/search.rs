@@ -1,6 +1,8 @@
 //! A call that searches, on a thread of its own, and how long it has been searching on standard error.
 use crate::outlook::Outlook;
-use depot_host::{card_length, earliest_end, plan, read, slack, Card, JobSlack, Reading, Refusal, Usage, MOST_JOBS};
+use depot_host::{
+    card_length, earliest_end, plan, read, size as least_count, slack, Card, JobSlack, Reading, Refusal, Usage, MOST_JOBS,
+};
 use std::io::{self, IsTerminal, Write};
 use std::sync::mpsc::{self, RecvTimeoutError};
 use std::thread;
@@ -47,6 +49,16 @@ pub fn run(sheet: &[u8], memory: usize, with_slack: bool) -> Result<Found, Refus
 pub fn end(sheet: &[u8], memory: usize) -> Result<u16, Refusal> {
     let lent = sheet.to_vec();
     searched(sheet, move || earliest_end(&lent, &mut vec![0; memory]))
+}
+
+/// The least module count, and the card for it.
+pub fn size(sheet: &[u8], by: u16, memory: usize) -> Result<(u16, Found), Refusal> {
+    let lent = sheet.to_vec();
+    let (modules, bytes) = searched(sheet, move || {
+        let mut card = vec![0; card_length(MOST_JOBS)];
+        least_count(&lent, by, &mut card, &mut vec![0; memory]).map(|modules| (modules, card))
+    })?;
+    Ok((modules, Found::of(sheet, bytes, None)?))
 }
 
 /// The use of the cabinet.

@@ -1,7 +1,8 @@
 //! Compares the library with the other implementations as long as it is asked to; the tests do the same a fixed number of times.
 use depot_host::compare::sheet_calls::{Sheets, READING, WRITING};
 use depot_host::compare::{
-    desk::Answers, older::Older, planning::Planning, search, sets::Sets, sheets::CHECKS, slack::Slack, usage::Uses,
+    desk::Answers, older::Older, planning::Planning, search, sets::Sets, sheets::CHECKS, sizing::Sizing, slack::Slack,
+    usage::Uses,
 };
 use depot_host::plain_search::Rules;
 use depot_host::random::Random;
@@ -113,6 +114,12 @@ fn round(seed: u64, compared: &mut Compared) {
     sets.good(12, SHEETS);
     CHECKS.iter().for_each(|check| sets.damaged(*check, FAULTS));
     compared.read += sets.compared;
+
+    let mut sizing = Sizing::new(seed);
+    sizing.good(5, SHEETS);
+    CHECKS.iter().for_each(|check| sizing.damaged(*check, FAULTS));
+    sizing.short_cards(FAULTS);
+    compared.planned += sizing.compared;
 
     let mut uses = Uses::new(seed);
     uses.good(SHEETS);

@@ -1,0 +1,2 @@
+-- Laws of the least count.
+pub mod Counts

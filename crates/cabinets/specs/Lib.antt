@@ -1,0 +1,2 @@
+-- How many modules are enough.
+pub mod Counts
