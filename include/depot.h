@@ -1,14 +1,15 @@
 /*
- * depot.h: the charging planner, the job sheets and the share desk of one depot feeder, for C.
+ * depot.h: the charging planner, the job sheets, the share desk of one depot feeder and the plan runner, for C.
  *
  * Link target/staticlib/libdepot.a (x86-64; 'rt staticlib depot' makes it). docs/FIRMWARE.md says how to build, how to size
- * the buffers, and what is proved; docs/PROMISES.md has every promise. host/c/example.c uses every call.
+ * the buffers, and what is proved; docs/PROMISES.md has every promise. host/c/example.c uses every call, host/c/follow.c is a whole
+ * controller.
  *
  * OF EVERY CALL
  *
  * Answers.    A call answers whatever bytes, numbers and lists it is given: it is done, or it is refused with the number of the
  *             first check that fails (enum depot_refusal). A refused call changes no lent byte and no desk, and every other figure
- *             of its answer is 0. Every call ends.
+ *             of its answer is 0; a step's answer has desk and runner as they were. Every call ends.
  * Memory.     The caller owns all memory. A call reads and writes what it is lent and its own stack, keeps no pointer when it
  *             returns, allocates nothing and has no state of its own.
  * Buffers.    A buffer is a pointer and the number of its elements. One of 0 elements may have any pointer, NULL too. Every other
@@ -16,7 +17,8 @@
  * Overlaps.   What a call writes must not overlap anything else that it is lent. What it only reads may overlap.
  * Threads.    Calls may run at the same time as long as none writes what another is lent.
  * Stack.      Measured, not proved: depot_plan, depot_end, depot_use and depot_slack stay within DEPOT_PLAN_STACK bytes, depot_size within
- *             DEPOT_SIZE_STACK, depot_sets within DEPOT_SETS_STACK, every other call within DEPOT_CALL_STACK.
+ *             DEPOT_SIZE_STACK, depot_sets within DEPOT_SETS_STACK, depot_runner_start and depot_runner_step within DEPOT_RUNNER_STACK,
+ *             every other call within DEPOT_CALL_STACK.
  *             The tests of the host package hold these figures.
  * Names       that begin with depot_ or DEPOT_ belong to the library. It calls memcpy, memmove and memset, and nothing else.
  *
@@ -35,8 +37,8 @@ extern "C" {
 /* ---- the version ------------------------------------------------------------------------------------------------------------- */
 
 /* Of this header, and as a number: major * 1000000 + minor * 1000 + patch. Bytes of sheets and cards may differ between minors. */
-#define DEPOT_VERSION "0.12.0"
-#define DEPOT_VERSION_NUMBER 12000
+#define DEPOT_VERSION "0.13.0"
+#define DEPOT_VERSION_NUMBER 13000
 
 /*
  * The number of the library that is linked. Compare it with DEPOT_VERSION_NUMBER at the start, so that header and library belong
@@ -65,7 +67,7 @@ enum depot_refusal {
     DEPOT_LIST_LENGTHS = 11,          /* shares and ceilings are not two lists of one length, 2 to 8, or not of the desk's */
     DEPOT_DESK_FIGURES = 12,          /* the limit is not 1 to 400,000, a share exceeds its ceiling, or a ceiling exceeds the limit */
     DEPOT_SHARES_EXCEED_LIMIT = 13,   /* the assured shares add up to more than the limit */
-    DEPOT_NO_SUCH_NUMBER = 14,        /* no job or controller has this number, or no opening and later calls can leave this desk */
+    DEPOT_NO_SUCH_NUMBER = 14,        /* no job or controller has this number, or no calls can leave this desk or this runner */
     DEPOT_FOR_NOTHING = 15,           /* the call is for no power */
     DEPOT_PASSES_CEILING = 16,        /* the claim would pass the controller's ceiling */
     DEPOT_DOES_NOT_FIT = 17,          /* the claim does not fit beside what the others hold or have reserved */
@@ -74,7 +76,10 @@ enum depot_refusal {
     DEPOT_NO_COUNT_SERVES = 20,       /* no cabinet of 1 to 64 modules has a plan that ends by that minute */
     DEPOT_HOLDING_ABOVE_CEILING = 21, /* some holding exceeds its new ceiling */
     DEPOT_HOLDINGS_EXCEED_LIMIT = 22, /* the holdings, each raised to its new share where that is larger, exceed the new limit */
-    DEPOT_NO_JOBS = 23                /* the plan has no jobs */
+    DEPOT_NO_JOBS = 23,               /* the plan has no jobs */
+    DEPOT_MODULE_SIZE = 24,           /* the size of a module is 0 or above 10,000 hundreds of watts */
+    DEPOT_NOT_READY = 25,             /* the controller's share is below N times the size of a module, or it holds something */
+    DEPOT_CARD_UNFIT = 26             /* the card is not one of a valid plan of the sheet */
 };
 
 /* ---- sizes ------------------------------------------------------------------------------------------------------------------- */
@@ -95,10 +100,12 @@ enum depot_refusal {
 #define DEPOT_FEWEST_CONTROLLERS 2
 #define DEPOT_MOST_CONTROLLERS 8
 #define DEPOT_MOST_POWER 400000 /* the largest limit of a feeder, in hundreds of watts: 40 MW */
+#define DEPOT_LARGEST_SIZE 10000 /* of a module, in hundreds of watts: 1 MW */
 
 #define DEPOT_PLAN_STACK 40960
 #define DEPOT_SIZE_STACK 57344
 #define DEPOT_SETS_STACK 4096
+#define DEPOT_RUNNER_STACK 12288
 #define DEPOT_CALL_STACK 2048
 
 /* ---- planning ---------------------------------------------------------------------------------------------------------------- */
@@ -392,6 +399,76 @@ struct depot_looked {
  * Answers the figure, or the refusal 14. Stack: DEPOT_CALL_STACK.
  */
 struct depot_looked depot_desk_look(const struct depot_desk *desk, uint32_t controller);
+
+/* ---- the plan runner --------------------------------------------------------------------------------------------------------- */
+
+/*
+ * A runner follows a plan on a desk, for one controller. Each step does the next minute, the first being 0: it makes the hand-backs and
+ * then the claims that fall due, each job's in job order. A job claims its modules at its start and hands them back at its end plus the
+ * changeover, at size hundreds of watts a module.
+ *
+ * The caller keeps the runner. It hands each step the runner that the start or the step before it gave, and the desk as the last call on
+ * it left it, and stores what the step gives. From the start on, and between two steps, the other controllers call as they like. Behind an
+ * accepted start every call that a step makes is then granted, so that every step answers 0, on two conditions:
+ *
+ *   until the last hand-back the runner's controller makes no other call on the desk, not through a second runner either;
+ *   no change takes that controller's share below N times size.
+ *
+ * The fields are open to be read. Whoever writes them makes a runner that a step may refuse with 14, as it refuses every runner that no
+ * accepted start and later steps can leave. There is padding between the fields: compare two runners field by field.
+ */
+struct depot_runner {
+    uint32_t controller;                /* for which it calls */
+    uint32_t size;                      /* of a module, in hundreds of watts, 1 to 10,000 */
+    uint32_t minute;                    /* that the next step does; behind the last hand-back it stays */
+    size_t sheet_len;                   /* of the sheet */
+    uint8_t sheet[DEPOT_LONGEST_SHEET]; /* its bytes; 0 past the last */
+    size_t card_len;                    /* of the card */
+    uint8_t card[DEPOT_LONGEST_CARD];   /* its bytes; 0 past the last */
+};
+
+/* What a start answers. */
+struct depot_started {
+    uint32_t refusal;           /* 0, or the refusal's number; then the runner is all 0, and every step refuses it with 14 */
+    struct depot_runner runner; /* whose next minute is 0 */
+};
+
+/*
+ * Starts a runner. Sheet and card are kept in it, so that the buffers may go. The desk is only read.
+ *
+ * sheet       Read. The sheet's bytes.
+ * card        Read. The card's bytes and no more, DEPOT_CARD_BYTES(n) for n jobs: the card that depot_plan wrote, or that of any other
+ *             valid plan of the sheet. Tested are the length; each row's end and the whole plan's validity, by the rules that the planner
+ *             keeps to; an order that names each job once with starts never falling; a trailer with offset 12n, the largest end and n.
+ * desk        On which the plan is to be followed.
+ * controller  The controller's number, from 0. Its share must be N times size or more, and it must hold nothing.
+ * size        Of a module, 1 to 10,000 hundreds of watts.
+ *
+ * Answers the runner, or a refusal: 1 to 3, 19, 4 to 9, 14, 24, 25, 26, in this order. Stack: DEPOT_RUNNER_STACK, and the answer in the
+ * caller's frame.
+ */
+struct depot_started depot_runner_start(const uint8_t *sheet, size_t sheet_len, const uint8_t *card, size_t card_len,
+                                        struct depot_desk desk, uint32_t controller, uint32_t size);
+
+/* What a step answers. */
+struct depot_stepped {
+    uint32_t refusal;           /* 0, or the refusal's number; then desk and runner are as before the step */
+    struct depot_desk desk;     /* with the minute's calls made */
+    struct depot_runner runner; /* for the next minute */
+};
+
+/*
+ * Does a runner's minute: the hand-backs and then the claims that fall due. Behind the last hand-back, or for a sheet without jobs, it makes
+ * no call and changes nothing.
+ *
+ * runner  What the start or the step before it gave.
+ * desk    As the last call on it left it.
+ *
+ * Answers desk and runner as they then are, or a refusal: 14 for the desk, the controller's number or the runner, calls due or not; then
+ * the number of the first call that the desk refuses, 16 to 18. Refused, none of the minute's calls is made, and the step may be made
+ * again later. Stack: DEPOT_RUNNER_STACK, and the answer in the caller's frame.
+ */
+struct depot_stepped depot_runner_step(struct depot_runner runner, struct depot_desk desk);
 
 #ifdef __cplusplus
 }

@@ -1,7 +1,8 @@
 /*
  * A cabinet's controller in small: it reads and plans the job sheet of the example E1, prints the plan as the printing program
- * does, writes the sheet anew, also with a changeover, follows that plan minute by minute beside another controller, and claims and
- * hands back power as in E9 and E10, with modules of 30 kW. It checks all that it gets and exits with 1 where something differs.
+ * does, writes the sheet anew, also with a changeover, follows that plan minute by minute beside another controller, by its own calls and
+ * by a runner, and claims and hands back power as in E9 and E10, with modules of 30 kW. It checks all that it gets and exits with 1 where
+ * something differs. follow.c is a whole controller without the checks.
  */
 #include "depot.h"
 
@@ -232,6 +233,48 @@ static void follow_e1_with_a_changeover(void)
     check(desk.held[0] == 0 && desk.held[1] == 8 * MODULE, "the plan's controller holds nothing then, the other all but the share");
 }
 
+/* E1's plan by a runner, on E9's desk with modules of 30 kW: it claims and hands back what the plan says, minute by minute. */
+static void run_e1(void)
+{
+    enum { MODULE = 300 };
+    static const uint32_t assured[] = {4 * MODULE, 3 * MODULE}, ceilings[] = {10 * MODULE, 10 * MODULE};
+    static const uint32_t less[] = {2 * MODULE - 1, 0};
+    uint8_t card[DEPOT_CARD_BYTES(3)];
+    struct depot_desk desk, open;
+    struct depot_started started;
+    struct depot_stepped stepped;
+    unsigned minute;
+    memset(&desk, 0, sizeof desk);
+
+    check(depot_plan(e1, sizeof e1, card, sizeof card, NULL, 0) == DEPOT_DONE, "E1 is planned");
+    check(depot_desk_open(&desk, 10 * MODULE, assured, 2, ceilings, 2) == DEPOT_DONE, "E9's desk opens");
+    open = desk;
+    check(depot_runner_start(e1, sizeof e1, card, sizeof card, desk, 2, 0).refusal == DEPOT_NO_SUCH_NUMBER, "there is no controller 2");
+    started = depot_runner_start(e1, sizeof e1, card, sizeof card, desk, 0, 0);
+    check(started.refusal == DEPOT_MODULE_SIZE && started.runner.sheet_len == 0, "modules of no power are refused");
+    stepped = depot_runner_step(started.runner, desk);
+    check(stepped.refusal == DEPOT_NO_SUCH_NUMBER, "a refused start's runner is no runner");
+    check(depot_desk_change(&open, 10 * MODULE, less, 2, ceilings, 2) == DEPOT_DONE, "the share is lowered");
+    check(depot_runner_start(e1, sizeof e1, card, sizeof card, open, 0, MODULE).refusal == DEPOT_NOT_READY, "a share below 2 modules");
+    check(depot_runner_start(e1, sizeof e1, card, sizeof card - 1, desk, 0, MODULE).refusal == DEPOT_CARD_UNFIT, "a card too short");
+
+    started = depot_runner_start(e1, sizeof e1, card, sizeof card, desk, 0, MODULE);
+    check(started.refusal == DEPOT_DONE && started.runner.minute == 0, "a runner starts");
+    stepped.runner = started.runner;
+    stepped.desk = desk;
+    for (minute = 0; minute <= 30; minute++) {
+        (void)depot_desk_claim(&stepped.desk, 1, depot_desk_look(&stepped.desk, 1).power);
+        stepped = depot_runner_step(stepped.runner, stepped.desk);
+        check(stepped.refusal == DEPOT_DONE && stepped.runner.minute == minute + 1, "every call of the plan is granted");
+        check(stepped.desk.held[0] == (minute < 30 ? 2u * MODULE : 0u), "E1's plan holds both modules until minute 30");
+    }
+    stepped = depot_runner_step(stepped.runner, stepped.desk);
+    check(stepped.refusal == DEPOT_DONE && stepped.runner.minute == 31, "behind the last hand-back a step changes nothing");
+    stepped.runner.minute = 32;
+    check(depot_runner_step(stepped.runner, stepped.desk).refusal == DEPOT_NO_SUCH_NUMBER, "no steps lead to this minute");
+    printf("E1's plan by a runner: minutes 0 to 30, every call granted\n");
+}
+
 /* ---- the share desk */
 
 static uint32_t look(const struct depot_desk *desk, uint32_t controller)
@@ -285,6 +328,7 @@ int main(void)
 {
     check(sizeof(struct depot_job) == 12 && sizeof(struct depot_reading) == 264, "a job and a reading have the library's sizes");
     check(sizeof(struct depot_desk) == 104, "a desk has the library's size");
+    check(sizeof(struct depot_runner) == 880 && sizeof(struct depot_stepped) == 992, "a runner and a step have the library's sizes");
     plan_e1();
     plan_e1_on_the_road();
     size_e1();
@@ -292,6 +336,7 @@ int main(void)
     slack_of_e1();
     read_and_write_e1();
     follow_e1_with_a_changeover();
+    run_e1();
     claim_and_hand_back();
     return failures != 0;
 }

@@ -1,5 +1,5 @@
 //! The exported calls as C sees them, `include/depot.h`: a slice crosses as its pointer and its length.
-use crate::{Desk, Job, JobSlack, MOST_JOBS};
+use crate::{Desk, Job, JobSlack, Runner, MOST_JOBS};
 
 /// What reading answers: refusal 0 with the jobs, n, N and the changeover, or the number of the refusal with all else 0.
 #[repr(C)]
@@ -79,6 +79,23 @@ pub struct Slacks {
     pub count: usize,
 }
 
+/// What a start answers: refusal 0 with the runner, or the number of the refusal with a runner of zeros.
+#[repr(C)]
+#[derive(Clone, Copy, Debug, PartialEq, Eq)]
+pub struct Started {
+    pub refusal: u32,
+    pub runner: Runner,
+}
+
+/// What a step answers: refusal 0 with the desk and the runner as they then are, or the number of the refusal with both as before.
+#[repr(C)]
+#[derive(Clone, Copy, Debug, PartialEq, Eq)]
+pub struct Stepped {
+    pub refusal: u32,
+    pub desk: Desk,
+    pub runner: Runner,
+}
+
 extern "C" {
     pub fn depot_version() -> u32;
 
@@ -142,4 +159,16 @@ extern "C" {
     pub fn depot_desk_hand_back(desk: *mut Desk, controller: u32, power: u32) -> u32;
 
     pub fn depot_desk_look(desk: *const Desk, controller: u32) -> Looked;
+
+    pub fn depot_runner_start(
+        sheet: *const u8,
+        sheet_len: usize,
+        card: *const u8,
+        card_len: usize,
+        desk: Desk,
+        controller: u32,
+        size: u32,
+    ) -> Started;
+
+    pub fn depot_runner_step(runner: Runner, desk: Desk) -> Stepped;
 }

@@ -1,12 +1,13 @@
 //! The depot's planner and share desk for Rust programs: a safe wrapper of the proved static library.
 //!
 //! [`version`], [`plan`], [`Card`], [`earliest_end`], [`size`], [`usage`], [`slack()`], [`sets`], [`read`], [`label`], [`label_of`], [`write()`],
-//! [`Desk`] and [`Refusal`] are the product. The other modules test it and measure it.
+//! [`Desk`], [`Runner`] and [`Refusal`] are the product. The other modules test it and measure it.
 
 mod card;
 mod desk;
 pub mod ffi;
 mod refusal;
+mod runner;
 mod sheet;
 mod slack;
 
@@ -26,6 +27,7 @@ pub mod units;
 pub use card::{Card, Row};
 pub use desk::{Desk, MOST_CONTROLLERS, MOST_POWER};
 pub use refusal::Refusal;
+pub use runner::{Runner, LARGEST_SIZE};
 pub use sheet::{label, label_of, read, write, Job, Reading};
 pub use slack::{slack, JobSlack};
 
@@ -40,6 +42,9 @@ pub const LONGEST_SHEET: usize = 570;
 
 /// How many bytes the longest label has.
 pub const LONGEST_LABEL: usize = 16;
+
+/// How many bytes the longest card has.
+pub const LONGEST_CARD: usize = card_length(MOST_JOBS);
 
 /// How many bytes the card of so many jobs has.
 pub const fn card_length(jobs: usize) -> usize {

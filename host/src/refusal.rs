@@ -29,12 +29,15 @@ pub enum Refusal {
     HoldingAboveCeiling,
     HoldingsExceedLimit,
     NoJobs,
+    ModuleSize,
+    NotReady,
+    CardUnfit,
 }
 
 use Refusal::*;
 
 /// Every refusal in the order of the numbers, in plain words.
-const IN_WORDS: [(Refusal, &str); 23] = [
+const IN_WORDS: [(Refusal, &str); 26] = [
     (SheetLength, "the sheet has fewer than 10 or more than 570 bytes"),
     (TooManyJobs, "there are more than 20 jobs"),
     (CabinetSize, "the cabinet has no modules or more than 64"),
@@ -48,7 +51,7 @@ const IN_WORDS: [(Refusal, &str); 23] = [
     (ListLengths, "shares and ceilings are not two lists of one length, 2 to 8, or not of the desk's"),
     (DeskFigures, "the limit is not 0.1 to 40,000 kW, a share exceeds its ceiling, or a ceiling exceeds the limit"),
     (SharesExceedLimit, "the assured shares add up to more than the limit"),
-    (NoSuchNumber, "no controller or job has this number, or no calls can have left this desk"),
+    (NoSuchNumber, "no controller or job has this number, or no calls can have left this desk or this runner"),
     (ForNothing, "the call is for no power"),
     (PassesCeiling, "the claim would pass the controller's ceiling"),
     (DoesNotFit, "the claim does not fit beside what others hold or have reserved"),
@@ -58,11 +61,14 @@ const IN_WORDS: [(Refusal, &str); 23] = [
     (HoldingAboveCeiling, "some holding exceeds its new ceiling"),
     (HoldingsExceedLimit, "the holdings, each raised to its new share where that is larger, exceed the new limit"),
     (NoJobs, "there are no jobs"),
+    (ModuleSize, "the size of a module is not 0.1 to 1,000 kW"),
+    (NotReady, "the controller's assured share is below what the plan needs, or it holds something"),
+    (CardUnfit, "the card is not one of a valid plan of the sheet"),
 ];
 
 impl Refusal {
     /// The numbers that there are, for people.
-    pub const NUMBERS: &'static str = "1 to 23";
+    pub const NUMBERS: &'static str = "1 to 26";
 
     /// Every refusal, in the order of the numbers.
     pub fn all() -> impl Iterator<Item = Refusal> {
@@ -101,10 +107,10 @@ impl Error for Refusal {}
 #[test]
 fn each_number_has_its_own_words() {
     let numbers: Vec<u32> = Refusal::all().map(Refusal::number).collect();
-    assert_eq!(numbers, (1..=23).collect::<Vec<u32>>());
+    assert_eq!(numbers, (1..=26).collect::<Vec<u32>>());
     for (refusal, words) in IN_WORDS {
         assert_eq!(Refusal::of_number(refusal.number()), Some(refusal));
         assert_eq!(refusal.to_string(), words);
     }
-    assert_eq!([0, 24].map(Refusal::of_number), [None; 2]);
+    assert_eq!([0, 27].map(Refusal::of_number), [None; 2]);
 }

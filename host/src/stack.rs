@@ -2,7 +2,7 @@
 use crate::guarded::{Against, Guarded};
 use crate::raw_sheet::Sheet;
 use crate::{
-    card_length, earliest_end, label, label_of, plan, read, sets, size, slack, usage, version, write, Desk, Job, Refusal,
+    card_length, earliest_end, label, label_of, plan, read, sets, size, slack, usage, version, write, Desk, Job, Refusal, Runner,
     LONGEST_LABEL, LONGEST_SHEET, MOST_JOBS, MOST_POWER,
 };
 use std::ffi::{c_int, c_void};
@@ -101,6 +101,7 @@ pub fn of_every_call() -> Vec<(&'static str, usize)> {
     let reading = read(&sheet);
     let mut desk = Desk::default();
     let opening = done(|| Desk::open(MOST_POWER, &[50_000; 8], &[MOST_POWER; 8]).map(|opened| desk = opened));
+    let (starting, stepping) = of_a_runner(&sheets[0]);
     vec![
         ("depot_version", done(|| Ok(version()))),
         ("depot_plan", planning[0].max(planning[1])),
@@ -121,7 +122,27 @@ pub fn of_every_call() -> Vec<(&'static str, usize)> {
         ("depot_desk_claim", done(|| desk.claim(7, 50_000))),
         ("depot_desk_hand_back", done(|| desk.hand_back(7, 50_000))),
         ("depot_desk_look", done(|| desk.look(7))),
+        ("depot_runner_start", starting),
+        ("depot_runner_step", stepping),
     ]
+}
+
+/// What a start needs for the sheet, and the most that a step of its runner needs, from the first minute to the last.
+fn of_a_runner(sheet: &[u8]) -> (usize, usize) {
+    let mut card = [0; card_length(MOST_JOBS)];
+    plan(sheet, &mut card, &mut [0; 4096]).expect("the sheet is planned");
+    let mut desk = Desk::open(MOST_POWER, &[50_000; 8], &[MOST_POWER; 8]).expect("the desk opens");
+    let mut runner = Runner::start(sheet, &card, &desk, 7, 300);
+    let starting = done(|| Runner::start(sheet, &card, &desk, 7, 300));
+    let runner = runner.as_mut().expect("the runner starts");
+    let mut stepping = 0;
+    loop {
+        let before = *runner;
+        stepping = stepping.max(done(|| runner.step(&mut desk)));
+        if *runner == before {
+            return (starting, stepping);
+        }
+    }
 }
 
 /// The stack of a call that is answered.

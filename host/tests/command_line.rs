@@ -14,6 +14,7 @@ use std::{env, fs};
 
 const EXAMPLES: [&str; 5] = ["small-depot", "mixed-night", "hard-night", "on-the-road", "contactors"];
 const SCRIPT: &str = "examples/shared-feeder.desk";
+const NIGHT: &str = "examples/workshop-night.desk";
 
 /// Holds bytes to a file of the repository.
 fn same(path: &str, found: &[u8]) {
@@ -128,7 +129,7 @@ fn no_size() {
 #[test]
 fn help() {
     golden("help.txt", &["--help"], 0);
-    for verb in ["plan", "end", "size", "use", "slack", "sets", "sheet", "list", "desk", "explain"] {
+    for verb in ["plan", "end", "size", "use", "slack", "sets", "sheet", "list", "desk", "run", "explain"] {
         let name = format!("help-{verb}.txt");
         golden(&name, &[verb, "--help"], 0);
         golden(&name, &["help", verb], 0);
@@ -144,7 +145,7 @@ fn help() {
 fn explain() {
     golden("explain.txt", &["explain"], 0);
     golden("explain.json", &["explain", "--json"], 0);
-    let each = (1..=23).map(|number: u32| depot(&["explain", &number.to_string()], b"").text());
+    let each = (1..=26).map(|number: u32| depot(&["explain", &number.to_string()], b"").text());
     same("host/tests/golden/explain-each.txt", each.collect::<Vec<_>>().join("\n").as_bytes());
     golden("explain-17.json", &["explain", "17", "--json"], 0);
 }
@@ -312,6 +313,88 @@ fn shorter_cells_change_nothing() {
     let implied = |text: String| text.lines().filter(|line| line.split(' ').nth(3) != Some("00000000")).count();
     assert_eq!((implied(raw(&long)), implied(raw(&short))), (3, 0));
     assert!(!depot(&["slack", &short], b"").text().contains("Not needed"));
+}
+
+/// Nights of the examples beside a greedy neighbour, and beside a workshop that has a script: every call of the plan is granted.
+#[test]
+fn nights() {
+    for name in ["small-depot", "mixed-night", "on-the-road", "contactors"] {
+        let list = format!("examples/{name}.csv");
+        golden(&format!("run-{name}.txt"), &["run", &list], 0);
+        for seed in ["2", "3", "4"] {
+            let ran = depot(&["run", &list, "--seed", seed, "--size", "12.5"], b"");
+            assert_eq!((ran.status, ran.errors.as_str()), (0, ""));
+            assert!(ran.text().contains("Every call of the plan was granted: "), "{name}");
+            assert!(ran.text().contains(" was never passed; "), "{name}");
+        }
+    }
+    golden("run-small-depot.json", &["run", "examples/small-depot.csv", "--json"], 0);
+    golden("run-script.txt", &["run", "examples/small-depot.csv", "--script", NIGHT], 0);
+    golden("run-script.json", &["run", "examples/small-depot.csv", "--script", NIGHT, "--json"], 0);
+    let [svg, html] = ["svg", "html"].map(|kind| file(&format!("night.{kind}"), b""));
+    let ran = depot(&["run", "examples/small-depot.csv", "--script", NIGHT, "--svg", &svg, "--html", &html], b"");
+    assert_eq!((ran.status, ran.errors.as_str()), (0, ""));
+    same("examples/workshop-night.svg", &fs::read(&svg).unwrap());
+    let page = fs::read_to_string(&html).unwrap();
+    same("host/tests/golden/run-script.html", page.as_bytes());
+    for outside in ["http:", "https:", "src=", "href=", "<script", "@import", "NaN", "inf"] {
+        assert!(!page.replace("http://www.w3.org/2000/svg", "").contains(outside), "the page has {outside}");
+    }
+    let empty = depot(&["run", "-"], &[0, 0, 0, 0, 0, 0, 1, 0, 0, 0]);
+    assert_eq!(empty.status, 0);
+    assert!(empty.text().contains("Every call of the plan was granted: 0 claims and 0 hand-backs."));
+}
+
+/// A controller that breaks a condition: its plan comes to a halt, or goes on later. The limit holds all the same.
+#[test]
+fn disturbed_nights() {
+    let run = |script: &str| depot(&["run", "examples/small-depot.csv", "--script", &file("night.desk", script.as_bytes())], b"");
+    // the yard's own claim: later there is no room for a claim of the plan
+    let own = run("open 360 yard=8x30/360 workshop=0/360\n10 claim yard 60\n20 claim workshop 60\n121 claim workshop 30\n");
+    same("host/tests/golden/run-halted.txt", &own.output);
+    assert_eq!((own.status, own.errors.as_str()), (1, ""));
+    // no share any more: a minute of the plan is refused until the workshop hands back
+    let later = run("open 400 yard=8x30/400 workshop=0/400\n94 change 400 yard=0/400 workshop=0/400\n95 claim workshop 160\n\
+                     121 claim workshop 30\n231 claim workshop 90\n250 back workshop 120\n");
+    same("host/tests/golden/run-later.txt", &later.output);
+    assert_eq!((later.status, later.errors.as_str()), (1, ""));
+    for ran in [own, later] {
+        assert!(ran.text().contains(" was never passed; "));
+    }
+}
+
+#[test]
+fn nights_that_do_not_begin() {
+    let list = "examples/small-depot.csv";
+    for (words, number) in [
+        (vec!["--size", "0"], 24),
+        (vec!["--size", "1000.1"], 24),
+        (vec!["--limit", "239.9"], 25),
+        (vec!["--controller", "neighbour"], 25),
+        (vec!["--controller", "2"], 14),
+        (vec!["--limit", "0"], 12),
+    ] {
+        let words = [vec!["run", list], words].concat();
+        let ran = depot(&words, b"");
+        assert_eq!((ran.status, ran.output.len()), (1, 0), "{words:?}");
+        assert!(ran.errors.starts_with(&format!("{list}: refused {number}: ")), "{}", ran.errors);
+        let json = depot(&[&words[..], &["--json"]].concat(), b"");
+        assert_eq!((json.status, json.errors.as_str()), (1, ""));
+        assert!(json.text().starts_with(&format!("{{\"refused\": {number}, ")));
+    }
+    let scripts =
+        ["10 look", "claim yard 1", "10 claim nobody 1", "25:00 claim yard 1", "1 claim yard 1\nopen 500 1/1 1/1", "10"];
+    for script in scripts {
+        let ran = depot(&["run", list, "--script", &file("wrong.desk", script.as_bytes())], b"");
+        assert_eq!((ran.status, ran.output.len()), (2, 0), "{script}");
+        assert!(ran.errors.contains("wrong.desk, line ") && ran.errors.contains("; allowed: "), "{}", ran.errors);
+    }
+    for words in
+        [&["--seed", "2", "--script", NIGHT][..], &["--limit", "500", "--script", NIGHT], &["--seed", "x"], &["--size", "1x"]]
+    {
+        let ran = depot(&[&["run", list], words].concat(), b"");
+        assert_eq!((ran.status, ran.output.len()), (2, 0), "{words:?}");
+    }
 }
 
 /// How large the search will be, in every form; refused as planning refuses, and with no start asked for.

@@ -4,7 +4,10 @@ use depot_host::compare::slack::expected as expected_slack;
 use depot_host::guarded::{Against, Guarded};
 use depot_host::plain_search::{mislead, GROUP};
 use depot_host::raw_sheet::Sheet;
-use depot_host::{card_length, ffi, reference, Desk, Job, LONGEST_LABEL, LONGEST_SHEET, MOST_JOBS, MOST_POWER};
+use depot_host::reference::runner::Follower;
+use depot_host::{
+    card_length, ffi, reference, Desk, Job, Runner, LONGEST_CARD, LONGEST_LABEL, LONGEST_SHEET, MOST_JOBS, MOST_POWER,
+};
 use std::ptr::null_mut;
 
 /// Lent memory that ends at a page that may not be touched.
@@ -478,6 +481,130 @@ fn claims_hand_backs_and_looks() {
     }
 }
 
+// ---- the plan runner
+
+/// A desk of 8 controllers that assures number 7 of all that a feeder can have.
+fn generous() -> Desk {
+    let assured = [0, 0, 0, 0, 0, 0, 0, MOST_POWER];
+    reference::desk::open(MOST_POWER, &assured, &[MOST_POWER; 8]).unwrap()
+}
+
+/// Starts a runner through the exported call: the answer is the expected one.
+fn start(sheet: &[u8], card: &[u8], desk: Desk, controller: u32, size: u32) -> ffi::Started {
+    let (lent, lent_card) = (Lent::of(sheet), Lent::of(card));
+    // SAFETY: two buffers of their own, which are read.
+    let answer =
+        unsafe { ffi::depot_runner_start(lent.at(), lent.len(), lent_card.at(), lent_card.len(), desk, controller, size) };
+    let expected = Follower::start(sheet, card, &desk, controller, size);
+    let runner = expected.as_ref().map_or(Runner::NONE, Follower::shown);
+    let about = format!("controller {controller}, size {size}, {desk:?}, card {card:02x?} for {sheet:02x?}");
+    assert_eq!(answer, ffi::Started { refusal: refusal(&expected), runner }, "{about}");
+    assert!(lent.has(sheet) && lent_card.has(card), "{about}");
+    answer
+}
+
+/// Does a runner's minute through the exported call: the answer, the desk and the runner are the expected ones.
+fn step(runner: Runner, desk: Desk) -> u32 {
+    // SAFETY: the call is lent nothing.
+    let answer = unsafe { ffi::depot_runner_step(runner, desk) };
+    let mut follower = Follower::left_as(&runner);
+    let stepped = follower.as_mut().map_or(Err(14), |follower| follower.step(&desk));
+    let left = follower.map_or(runner, |follower| follower.shown());
+    let expected = ffi::Stepped { refusal: refusal(&stepped), desk: stepped.unwrap_or(desk), runner: left };
+    assert_eq!(answer, expected, "{runner:?} on {desk:?}");
+    answer.refusal
+}
+
+/// The card of a sheet that is planned, else that of no jobs.
+fn card_of(sheet: &[u8]) -> Vec<u8> {
+    reference::planning::plan(sheet, card_length(MOST_JOBS)).unwrap_or(vec![0; 8])
+}
+
+#[test]
+fn starts() {
+    for sheet in edge_sheets() {
+        let card = card_of(&sheet);
+        let modules = reference::reading::read(&sheet).map_or(1, |sheet| sheet.modules) as u32;
+        let most = MOST_POWER / modules;
+        for size in [0, 1, most, most + 1, 9_999, 10_000, 10_001, u32::MAX] {
+            for controller in [6, 7, 8, u32::MAX] {
+                start(&sheet, &card, generous(), controller, size);
+            }
+        }
+        let longer = [&card[..], &[0]].concat();
+        for card in [&[], &card[..7], &card[..card.len() - 1], &longer, &[0; 300]] {
+            start(&sheet, card, generous(), 7, 1);
+        }
+        for desk in edge_desks() {
+            start(&sheet, &card, desk, 0, 1);
+        }
+    }
+}
+
+/// The card of the job of one minute that starts then.
+fn one_minute_card(start: u16) -> Vec<u8> {
+    let (from, to) = (start.to_le_bytes(), start.wrapping_add(1).to_le_bytes());
+    [&from[..], &to, &[1, 0, 0, 0, 0, 0, 0, 0, 0, 12, 0, 0, 0], &to, &[1, 0]].concat()
+}
+
+/// A job may end at minute 65,535 and no later; with a changeover its hand-back comes up to 30 minutes behind.
+#[test]
+fn the_latest_cards() {
+    for changeover in [0, 30] {
+        let sheet = Sheet { changeover, ..parts(vec![PLAIN], 1) }.bytes();
+        for (from, number) in [(0, 0), (65_533, 0), (65_534, 0), (65_535, 26)] {
+            let started = start(&sheet, &one_minute_card(from), generous(), 7, 10_000);
+            assert_eq!(started.refusal, number);
+            for minute in [0, 1, u32::from(from), u32::from(from) + 1, 65_535, 65_536, 65_565, 65_566, 65_567, u32::MAX] {
+                step(Runner { minute, ..started.runner }, generous());
+            }
+        }
+    }
+}
+
+/// Runners at the edges of what starts and steps can leave, and past them, at each minute of interest.
+#[test]
+fn steps() {
+    assert_eq!(step(Runner::NONE, generous()), 14);
+    let none = Runner { sheet: [u8::MAX; LONGEST_SHEET], card: [u8::MAX; LONGEST_CARD], ..Runner::NONE };
+    assert_eq!(step(Runner { controller: u32::MAX, sheet_len: usize::MAX, card_len: usize::MAX, ..none }, generous()), 14);
+    for sheet in [parts(vec![], 64), parts(chain(2, PLAIN), 64), longest()] {
+        let sheet = sheet.bytes();
+        let runner = start(&sheet, &card_of(&sheet), generous(), 7, 300).runner;
+        let (end, changeover) = reference::planning::end(&sheet).map(|end| (end, u32::from(sheet[sheet.len() - 2]))).unwrap();
+        for minute in [0, 1, end, end + changeover, end + changeover + 1, end + changeover + 2, u32::MAX] {
+            step(Runner { minute, ..runner }, generous());
+        }
+        for controller in [0, 6, 7, 8, u32::MAX] {
+            step(Runner { controller, ..runner }, generous());
+        }
+        for size in [0, 1, MOST_POWER / 64, MOST_POWER / 64 + 1, 10_000, 10_001, u32::MAX] {
+            step(Runner { size, ..runner }, generous());
+        }
+        for sheet_len in [0, 9, 10, runner.sheet_len - 1, runner.sheet_len + 1, LONGEST_SHEET, LONGEST_SHEET + 1, usize::MAX] {
+            step(Runner { sheet_len, ..runner }, generous());
+        }
+        for card_len in [0, 7, runner.card_len - 1, runner.card_len + 1, LONGEST_CARD, LONGEST_CARD + 1, usize::MAX] {
+            step(Runner { card_len, ..runner }, generous());
+        }
+        for place in [0, runner.sheet_len - 1, runner.sheet_len.min(LONGEST_SHEET - 1), LONGEST_SHEET - 1] {
+            let mut damaged = runner;
+            damaged.sheet[place] ^= 0x80;
+            assert_eq!(step(damaged, generous()), 14);
+        }
+        for place in [0, runner.card_len - 1, runner.card_len.min(LONGEST_CARD - 1), LONGEST_CARD - 1] {
+            let mut damaged = runner;
+            damaged.card[place] ^= 0x80;
+            assert_eq!(step(damaged, generous()), 14);
+        }
+        for desk in edge_desks() {
+            for controller in [0, 1, 7] {
+                step(Runner { controller, ..runner }, desk);
+            }
+        }
+    }
+}
+
 // ---- empty buffers
 
 /// The pointer of an empty buffer is not looked at.
@@ -499,6 +626,8 @@ fn empty_buffers_may_have_any_pointer() {
         assert_eq!(ffi::depot_write(null_mut(), 0, null_mut(), 0, 1, 7, sheet.as_mut_ptr(), 10).length, 10);
         assert_eq!(ffi::depot_desk_open(&mut desk, 1, null_mut(), 0, null_mut(), 0), 11);
         assert_eq!(ffi::depot_desk_change(&mut desk, 1, null_mut(), 0, null_mut(), 0), 14);
+        assert_eq!(ffi::depot_runner_start(null_mut(), 0, null_mut(), 0, desk, 0, 0).refusal, 1);
+        assert_eq!(ffi::depot_runner_start(sheet.as_ptr(), 10, null_mut(), 0, generous(), 7, 1).refusal, 26);
     }
     assert_eq!(sheet, [0, 0, 0, 0, 0, 0, 1, 0, 7, 0]);
 }

@@ -1,6 +1,6 @@
-//! The examples E1 to E11 of docs/REQUIREMENTS.md, and the edges of a sheet, through the exported calls.
+//! The examples E1 to E11 of docs/REQUIREMENTS.md, the plan runner on them, and the edges of a sheet, through the exported calls.
 use depot_host::raw_sheet::Sheet;
-use depot_host::{card_length, plan, sets, size, slack, usage, Card, Desk, Job, JobSlack, Refusal, Usage, LONGEST_SHEET};
+use depot_host::{card_length, plan, sets, size, slack, usage, Card, Desk, Job, JobSlack, Refusal, Runner, Usage, LONGEST_SHEET};
 
 /// A job of so many modules and minutes that waits for the jobs of a set.
 fn job(modules: u8, minutes: u16, earlier: u32) -> Job {
@@ -136,6 +136,33 @@ fn e9_and_e10_in_hundreds_of_watts() {
     assert_eq!(desk.claim(1, 300), Err(Refusal::DoesNotFit));
     assert_eq!(desk.hand_back(0, 2_400), Err(Refusal::ExceedsHolding));
     assert_eq!(desk.hand_back(0, 2_100), Ok(()));
+}
+
+/// E1's plan on E9's desk with modules of 30 kW: what controller 0 holds behind each minute, beside a greedy neighbour.
+#[test]
+fn e1_followed_on_e9() {
+    for (changeover, begins, ends) in [(0, 10, 30), (5, 15, 35)] {
+        let jobs = vec![job(1, 10, 0), job(2, 20, 0), job(1, 10, 0)];
+        let sheet = Sheet { changeover, ..Sheet::of(2, jobs) }.bytes();
+        let mut card = [0; card_length(3)];
+        plan(&sheet, &mut card, &mut []).unwrap();
+        let mut desk = Desk::open(3_000, &[1_200, 900], &[3_000, 3_000]).unwrap();
+        assert_eq!(Runner::start(&sheet, &card, &desk, 0, 601), Err(Refusal::NotReady));
+        assert_eq!(Runner::start(&sheet, &card, &desk, 0, 0), Err(Refusal::ModuleSize));
+        assert_eq!(Runner::start(&sheet, &card[..46], &desk, 0, 300), Err(Refusal::CardUnfit));
+        let mut runner = Runner::start(&sheet, &card, &desk, 0, 300).unwrap();
+        let last = ends + u32::from(changeover);
+        for minute in 0..=last + 2 {
+            let _ = desk.claim(1, desk.look(1).unwrap());
+            assert_eq!(runner.step(&mut desk), Ok(()), "minute {minute}");
+            assert_eq!(runner.minute, (minute + 1).min(last + 1));
+            assert_eq!(desk.held[..2], [if minute < last { 600 } else { 0 }, 1_800]);
+        }
+        let row = &card[12..16];
+        assert_eq!([row[0], row[2]].map(u32::from), [begins, ends]);
+        runner.minute += 1;
+        assert_eq!(runner.step(&mut desk), Err(Refusal::NoSuchNumber));
+    }
 }
 
 #[test]

@@ -97,6 +97,9 @@ fn in_c(name: &str) -> String {
         "JobSlack" => "struct depot_job_slack",
         "Slacks" => "struct depot_slacks",
         "Looked" => "struct depot_looked",
+        "Runner" => "struct depot_runner",
+        "Started" => "struct depot_started",
+        "Stepped" => "struct depot_stepped",
         other => panic!("{other} has no type in C"),
     };
     name.to_string()
@@ -157,7 +160,7 @@ fn constant(text: &str, name: &str) -> usize {
 #[test]
 fn calls_agree() {
     let declared = c_calls();
-    assert_eq!(declared.len(), 16);
+    assert_eq!(declared.len(), 18);
     assert_eq!(calls(&source("crates/depot/src/lib.rt")), declared);
     assert_eq!(calls(&source("host/src/ffi.rs")), declared);
 }
@@ -177,6 +180,9 @@ fn structs_agree() {
         ("Slacks", "crates/slack/src/lib.rt", "host/src/ffi.rs"),
         ("Desk", "crates/desk/src/lib.rt", "host/src/desk.rs"),
         ("Looked", "crates/lent/src/lib.rt", "host/src/ffi.rs"),
+        ("Runner", "crates/runner/src/lib.rt", "host/src/runner.rs"),
+        ("Started", "crates/runner/src/lib.rt", "host/src/ffi.rs"),
+        ("Stepped", "crates/runner/src/lib.rt", "host/src/ffi.rs"),
     ];
     let declared = c_structs();
     assert_eq!(declared.len(), files.len());
@@ -203,6 +209,7 @@ fn numbers_agree() {
         ("DEPOT_FEWEST_CONTROLLERS", constant(&desk, "FEWEST_CONTROLLERS")),
         ("DEPOT_MOST_CONTROLLERS", constant(&desk, "MOST_CONTROLLERS")),
         ("DEPOT_MOST_POWER", constant(&desk, "MOST_POWER")),
+        ("DEPOT_LARGEST_SIZE", constant(&source("crates/runner/src/lib.rt"), "LARGEST_SIZE")),
     ] {
         assert_eq!(macros[name], number, "{name}");
     }
@@ -210,6 +217,8 @@ fn numbers_agree() {
     assert_eq!(depot_host::LONGEST_SHEET, macros["DEPOT_LONGEST_SHEET"]);
     assert_eq!(depot_host::LONGEST_LABEL, macros["DEPOT_LONGEST_LABEL"]);
     assert_eq!(depot_host::MOST_POWER as usize, macros["DEPOT_MOST_POWER"]);
+    assert_eq!(depot_host::LARGEST_SIZE as usize, macros["DEPOT_LARGEST_SIZE"]);
+    assert_eq!(depot_host::LONGEST_CARD, macros["DEPOT_LONGEST_CARD"]);
 }
 
 /// One version: the header's two forms of it, the proved call's, and the package's.
@@ -244,7 +253,7 @@ fn refusals_agree() {
         let name: String = format!("{refusal:?}").chars().map(in_capitals).collect();
         expected.push((format!("DEPOT{name}"), refusal.number().to_string()));
     }
-    assert_eq!(expected.len(), 24);
+    assert_eq!(expected.len(), 27);
     assert_eq!(declared, expected);
 }
 
@@ -287,6 +296,7 @@ fn stack_is_within_the_header_s_figures() {
             "depot_plan" | "depot_end" | "depot_use" | "depot_slack" => "DEPOT_PLAN_STACK",
             "depot_size" => "DEPOT_SIZE_STACK",
             "depot_sets" => "DEPOT_SETS_STACK",
+            "depot_runner_start" | "depot_runner_step" => "DEPOT_RUNNER_STACK",
             _ => "DEPOT_CALL_STACK",
         };
         println!("{call}: {bytes} of {}", macros[figure]);

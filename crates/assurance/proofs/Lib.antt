@@ -2,6 +2,8 @@
 pub mod Turns
 pub mod Course
 pub mod Shares
+pub mod Minutes
+pub mod Follows
 pub mod Assured
 pub mod Once
 pub mod Yard

@@ -1,17 +1,17 @@
 -- The set of the numbers that pass a test; two sets with the same members; disjoint sets; the set of all.
-use mathlib.Core.Path.{_≡_, refl, sym, ap, _∙_}
-use mathlib.Core.Logic.{_⊎_, inl, inr}
+use mathlib.Core.Path.{_≡_, refl, sym, ap, subst, _∙_}
+use mathlib.Core.Logic.{_⊎_, inl, inr, ⊎-elim}
 use mathlib.Core.Bool.{Bool, true, false, cond, _&&_, _||_, and-true, and-false, or-false}
 use Prim.Native.Nat.{ℕ, zero, suc, _+_, _-_, _%_, _^_, _≤_, _<_}
 use native.Mathlib.Omega.{arith}
-use native.Mathlib.Nat.{le-refl, add-zero, lt-of-le-of-lt, mod-one, mod-eq-of-lt, not-suc-le-zero}
+use native.Mathlib.Nat.{le-refl, le-trans, add-zero, lt-of-le-of-lt, pow-suc, mod-one, mod-eq-of-lt, not-suc-le-zero}
 use native.Mathlib.Numerals.{add-one}
 use lib.Dec.{eqb}
-use lib.Pow.{pow-pos, pow-lt, mod-pow-add}
+use lib.Pow.{pow-pos, pow-lt, pow-mono, mod-pow-add}
 use lib.Bits.{bitAnd, and-le-l, and-mask}
 use borrow.Author.Tests.{eq-eqb, ne-eqb}
 use Rattle.counting.specs.Counting.{only, sum}
-use Rattle.counting.proofs.Tests.{last-or-below, and-right, only-le}
+use Rattle.counting.proofs.Tests.{true-or-false, less-or-not, last-or-below, and-right, only-le}
 use Rattle.counting.proofs.Sums.{sum-same}
 use Rattle.bits.specs.Bits.{bit, withBit, setOf}
 use Rattle.bits.proofs.Digits.{bit-value, bit-none, bit-above, bit-pow, bit-and}
@@ -105,3 +105,19 @@ all-bits n i l =
     and-right (bit (2 ^ i) i) (bit (2 ^ n - 1) i)
     (sym (bit-and (2 ^ i) (2 ^ n - 1) i) ∙ ap (λ (y : ℕ). bit y i) (and-mask (2 ^ i) n ∙ mod-eq-of-lt (pow-lt l))
     ∙ bit-pow i i ∙ eq-eqb i i refl)
+
+-- a number without members from N on is below 2 ^ N
+self-pow : (x : ℕ) → x < 2 ^ x
+self-pow zero = omega arith
+self-pow (suc x) = omega (arith, self-pow x, pow-suc 2 x)
+
+pub bits-below : (N x : ℕ) → ((m : ℕ) → bit x m ≡ true → m < N) → x < 2 ^ N
+bits-below N x h =
+    let small : x < 2 ^ (N + x) = le-trans (self-pow x) (pow-mono {i = x} {j = N + x} (omega arith)) in
+    let rest : setOf N (bit x) < 2 ^ (N + x) = le-trans (setOf-lt N (bit x)) (pow-mono {i = N} {j = N + x} (omega arith)) in
+    let e : x ≡ setOf N (bit x) = bits-same (N + x) x (setOf N (bit x)) small rest (λ i l. member i (less-or-not i N)) in
+    subst (λ (z : ℕ). z < 2 ^ N) (sym e) (setOf-lt N (bit x))
+  where
+    member : (i : ℕ) → (i < N) ⊎ (N ≤ i) → bit x i ≡ bit (setOf N (bit x)) i
+    member i (inl a) = sym (bit-setOf N (bit x) i a)
+    member i (inr a) = ⊎-elim (λ t. absurd (omega (arith, h i t))) (λ f. f ∙ sym (bit-setOf-above N (bit x) i a)) (true-or-false (bit x i))

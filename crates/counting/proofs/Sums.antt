@@ -5,10 +5,10 @@ use mathlib.Core.Bool.{Bool, true, false, _||_}
 use Prim.Native.Nat.{ℕ, zero, suc, _+_, _*_, _≤_, _<_}
 use native.Mathlib.Omega.{arith}
 use native.Mathlib.Nat.{le-refl, not-suc-le-zero}
-use lib.Dec.{eqb}
-use borrow.Author.Tests.{eqb-true, eqb-false, eq-eqb, ne-eqb}
+use lib.Dec.{ltb, eqb}
+use borrow.Author.Tests.{eqb-true, eqb-false, eq-eqb, ne-eqb, lt-ltb, le-ltb}
 use Rattle.counting.specs.Counting.{only, sum}
-use Rattle.counting.proofs.Tests.{below-suc, last-or-below}
+use Rattle.counting.proofs.Tests.{less-or-not, below-suc, last-or-below}
 
 -- ---- compared place by place
 
@@ -97,6 +97,15 @@ sum-single (suc n) g j l = go (last-or-below n j l) (sum-single n g j)
         let last : eqb n j ≡ true = eq-eqb n j (sym e) in
         rw last (omega (arith, ap g e))
     go (inr k) h = rw (ne-eqb n j (λ q. absurd (omega arith))) (omega (arith, h k))
+
+-- over one number, or none
+pub sum-at : (n : ℕ) (g : ℕ → ℕ) (j : ℕ) → sum n (λ i. only (eqb i j) (g i)) ≡ only (ltb j n) (g j)
+sum-at n g j = go (less-or-not j n)
+  where
+    go : (j < n) ⊎ (n ≤ j) → sum n (λ i. only (eqb i j) (g i)) ≡ only (ltb j n) (g j)
+    go (inl l) = rw (lt-ltb j n l) (sum-single n g j l)
+    go (inr l) =
+        rw (le-ltb j n l) (sum-same n _ (λ i. 0) (λ i k. ap (λ b. only b (g i)) (ne-eqb i j (λ q. absurd (omega arith)))) ∙ sum-zero n)
 
 -- over one number more
 pub sum-insert : (n : ℕ) (d : ℕ → Bool) (g : ℕ → ℕ) (j : ℕ) → j < n → d j ≡ false

@@ -1,12 +1,12 @@
 -- Laws of Boolean tests, used as equations `b ≡ true` and `b ≡ false`.
-use mathlib.Core.Path.{_≡_, refl}
+use mathlib.Core.Path.{_≡_, refl, sym}
 use mathlib.Core.Logic.{_⊎_, inl, inr, _≢_}
 use mathlib.Core.Bool.{Bool, true, false, not, _&&_, _||_}
 use Prim.Native.Nat.{ℕ, suc, _+_, _*_, _≤_, _<_, zero-le}
 use native.Mathlib.Omega.{arith}
 use native.Mathlib.Nat.{le-refl}
 use lib.Dec.{ltb, eqb}
-use borrow.Author.Tests.{ltb-true, ltb-false, eqb-true, eqb-false}
+use borrow.Author.Tests.{ltb-true, ltb-false, eqb-true, eqb-false, eq-eqb, ne-eqb}
 use Rattle.counting.specs.Counting.{only}
 
 -- ---- a test is true or false, and not both
@@ -95,6 +95,13 @@ same-or-not a b = go (eqb a b) refl
     go : (t : Bool) → eqb a b ≡ t → (a ≡ b) ⊎ (a ≢ b)
     go true e = inl (eqb-true a b e)
     go false e = inr (eqb-false a b e)
+
+pub eqb-turned : (a b : ℕ) → eqb a b ≡ eqb b a
+eqb-turned a b = go (same-or-not a b)
+  where
+    go : (a ≡ b) ⊎ (a ≢ b) → eqb a b ≡ eqb b a
+    go (inl e) = rw (eq-eqb a b e, eq-eqb b a (sym e)) refl
+    go (inr d) = rw (ne-eqb a b d, ne-eqb b a (λ e. d (sym e))) refl
 
 -- a number below suc n is n or below n
 pub last-or-below : (n i : ℕ) → i < suc n → (i ≡ n) ⊎ (i < n)

@@ -33,6 +33,8 @@ use Rattle.desk.proofs.Refusals.{look-refused, look-answered, change-refused, c
 use Rattle.desk.proofs.Claims.{claim-granted-when}
 use Rattle.desk.proofs.Holdings.{holdings-add-up, holdings-within}
 use Rattle.desk.proofs.Lists.{refused-leaves, reachable-by-calls}
+use Rattle.runner.specs.Runner.{started}
+use Rattle.runner.proofs.Theorems.{start-refused, start-answered, refused-step-leaves}
 use Rattle.demands.specs.Demands.{FirstRefusal, checksOf, EveryCallAnswers, EveryAnswerIsRight, NoneEarlierAndGranted}
 
 -- the calls that check as planning does, but 10
@@ -53,7 +55,7 @@ call-refusal d (change l a t) = (change-refused d l a t, change-answered d l a t
 
 -- R-1: every call answers, and a refused one changes nothing.
 pub every-call-answers : EveryCallAnswers
-unfolding labelPlace planRefusal cardAfter sizeRefusal sizeCardAfter openedOver
+unfolding labelPlace planRefusal cardAfter sizeRefusal sizeCardAfter openedOver started
 every-call-answers = record {
   reads = λ s. (read-refused s, read-answered s);
   labels = λ s job. (label-refused s job, label-answered s job);
@@ -66,6 +68,7 @@ every-call-answers = record {
   slack = λ s. planable-refusal s _ (slack-number s);
   opens = λ limit assured ceilings. (open-refused limit assured ceilings, open-answered limit assured ceilings);
   calls = call-refusal;
+  starts = λ s card d c size. (start-refused s card d c size, start-answered s card d c size);
   refused-write = λ jobs n labels C out e. write-refused-leaves jobs n labels C out e .0;
   refused-plan = λ s card memory e. (rw (ne-eqb (planRefusal s (length card)) 0 e), memory-kept (planRefusal s (length card)) e memory);
   refused-size = λ s card memory t e.
@@ -75,6 +78,7 @@ every-call-answers = record {
   refused-slack = λ s work e. memory-kept (planableRefusal s) (λ z. e (slack-number s ∙ z)) work;
   refused-opening = λ d limit assured ceilings e. rw (ne-eqb (opened limit assured ceilings .refusal) 0 e);
   refused-call = refused-leaves;
+  refused-step = refused-step-leaves;
 }
 
 -- R-2: every answer is the right one.

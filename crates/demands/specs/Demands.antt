@@ -5,7 +5,8 @@
 -- `sizeAnswer`, with `sizeRefusal`, and leaves `sizeCardAfter` and `sizeWorkAfter`; depot_end answers `endAnswer`, depot_use `usage`,
 -- depot_slack `slacks`, depot_sets `setsAnswer`, and all of these but the last leave `workAfter`; depot_read answers `reading`, depot_label
 -- `labelPlace`, depot_write `writeAnswer` and leaves `writeLeaves`; the desk's calls answer `opened`, `changed`, `claimed`, `handedBack` and
--- `looked`, and opening where firmware keeps desk d leaves `openedOver d`.
+-- `looked`, and opening where firmware keeps desk d leaves `openedOver d`;
+-- depot_runner_start answers `started` and depot_runner_step `stepped`.
 --
 -- R-1.2 to R-1.4 have no field: that a call touches nothing else, that no sum overflows and that it ends is what the checker proves of
 -- every function.
@@ -42,6 +43,8 @@ use Rattle.desk.specs.Calls.{opened, claimed, Call, claim, handBack, look, chan
 use Rattle.desk.specs.Calls.{grantedClaims, grantedHandBacks, figuresAfter}
 use Rattle.lent.specs.Lent.{openedOver}
 use Rattle.assurance.specs.Following.{planNeed, FollowsPlan, AllGranted, GrantedWhile, unchanging}
+use Rattle.runner.specs.declared.Runner.{Runner}
+use Rattle.runner.specs.Runner.{startChecks, started, stepped}
 
 -- ---- R-1
 
@@ -71,6 +74,7 @@ pub record EveryCallAnswers : Type 0 where
   pub opens : (limit : ℕ) (assured ceilings : List ℕ)
       → FirstRefusal (opened limit assured ceilings .refusal) (openChecks limit assured ceilings)
   pub calls : (d : Desk) (x : Call) → FirstRefusal (refusalOf d x) (checksOf d x)
+  pub starts : (s card : List ℕ) (d : Desk) (c size : ℕ) → FirstRefusal (started s card d c size .refusal) (startChecks s card d c size)
   -- R-1.5: a refused call writes no byte and alters no desk
   pub refused-write : (jobs : ℕ → Job) (n : ℕ) (labels : List ℕ) (C : Cabinet) (out : List ℕ) → writeAnswer jobs n labels C out .refusal ≢ 0
       → writeLeaves jobs n labels C out ≡ out
@@ -84,6 +88,7 @@ pub record EveryCallAnswers : Type 0 where
   pub refused-opening : (d : Desk) (limit : ℕ) (assured ceilings : List ℕ) → opened limit assured ceilings .refusal ≢ 0
       → openedOver d limit assured ceilings .desk ≡ d
   pub refused-call : (d : Desk) (x : Call) → refusalOf d x ≢ 0 → deskAfter d x ≡ d
+  pub refused-step : (d : Desk) (r : Runner) → stepped d r .refusal ≢ 0 → (stepped d r .desk ≡ d) × (stepped d r .runner ≡ r)
 
 -- ---- R-2
 

@@ -1,9 +1,13 @@
-// What firmware links: the version, planning, job sheets, and the desk where firmware keeps it. Each is a call of a proved function; include/depot.h
-// declares them for C. The desk's calls copy the lent desk, make the call by value, and put the desk that it hands back in its place.
+// What firmware links: the version, planning, job sheets, the desk where firmware keeps it, and the plan runner. Each is a call of a proved
+// function; include/depot.h declares them for C. The desk's calls copy the lent desk, make the call by value, and put the desk that it hands
+// back in its place. Runners and their desks cross by value.
 use desk::Desk;
 use earliest::Earliest;
 use job_sets::SetCount;
 use lent::Looked;
+use runner::Runner;
+use runner::Started;
+use runner::Stepped;
 use sheet::LabelPlace;
 use sheet::Reading;
 use sheet::Written;
@@ -26,12 +30,13 @@ ghost use Rattle.sheet.specs.Label.{labelPlace, placeIn};
 ghost use Rattle.sheet.specs.Write.{writeAnswer, writeLeaves};
 ghost use Rattle.desk.specs.Calls.{claimed, handedBack, changed};
 ghost use Rattle.lent.specs.Lent.{openedOver, lookedAt};
+ghost use Rattle.runner.specs.Runner.{started, stepped};
 ghost use Rattle.depot.specs.Version.{version};
 
 // ---- the version
 
-// 0.12.0
-const VERSION: u32 = 12000;
+// 0.13.0
+const VERSION: u32 = 13000;
 
 // The number of this library's version; the header has the same.
 #[no_mangle]
@@ -210,4 +215,28 @@ pub extern "C" fn depot_desk_look(desk: &Desk, controller: u32) -> Looked
     ensures { λ r. ⌜ r ≡ lookedAt (now (desk .entry)) controller ⌝ }
 {
     lent::look_at(*desk, controller)
+}
+
+// ---- the plan runner
+
+// Starts a runner: the runner, or the first refusal of 1 to 9, 19, 14, 24, 25 and 26 with a runner of zeros. The desk is only read.
+#[no_mangle]
+pub extern "C" fn depot_runner_start(
+    sheet: &[u8],
+    card: &[u8],
+    desk: Desk,
+    controller: u32,
+    size: u32,
+) -> Started
+    ensures { λ r. ⌜ r ≡ started (now (sheet .entry)) (now (card .entry)) desk controller size ⌝ }
+{
+    runner::start(sheet, card, desk, controller, size)
+}
+
+// A runner's next minute on the desk: both as they then are, or the refusal 14 or the desk's own, with both as before.
+#[no_mangle]
+pub extern "C" fn depot_runner_step(runner: Runner, desk: Desk) -> Stepped
+    ensures { λ r. ⌜ r ≡ stepped desk runner ⌝ }
+{
+    runner::step(runner, desk)
 }

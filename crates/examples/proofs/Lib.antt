@@ -1,4 +1,5 @@
 -- That the examples hold.
 pub mod Held
 pub mod Instances
+pub mod Runs
 pub mod Slacks

@@ -1,3 +1,4 @@
--- The examples E1 to E11, and what their rows say.
+-- The examples E1 to E11, F-11's rows of the plan runner, and what their rows say.
 pub mod Rows
 pub mod Table
+pub mod Runs

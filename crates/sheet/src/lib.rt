@@ -161,7 +161,7 @@ fn write_parts(
     let offset = labels.len();
     let end = offset + RECORD_SIZE * count;
     let length = end + TRAILER_SIZE;
-    sheet_format::records::write_labels(&mut out[..offset], labels);
+    words::copy(&mut out[..offset], labels);
     sheet_format::records::write_all(&mut out[offset..end], jobs, count);
     sheet_format::trailer::write(
         &mut out[end..length],

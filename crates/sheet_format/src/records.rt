@@ -125,15 +125,3 @@ pub fn write_all(part: &mut [u8], jobs: [Job; MOST_JOBS], count: usize)
         i += 1;
     }
 }
-
-// The label bytes.
-pub fn write_labels(part: &mut [u8], labels: &[u8])
-    requires { ⌜ length (now part) ≡ length (now labels) ⌝ }
-    ensures { λ _. ⌜ now (part .exit) ≡ now (labels .entry) ⌝ }
-{
-    let mut i = 0;
-    while i < labels.len() {
-        part[i] = labels[i];
-        i += 1;
-    }
-}

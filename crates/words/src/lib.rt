@@ -1,4 +1,4 @@
-// Numbers of several bytes, little-endian, at a place of a lent slice.
+// Numbers of several bytes, little-endian, at a place of a lent slice; bytes copied into one.
 ghost use mathlib.Core.Path.{_≡_};
 ghost use Prim.Native.Nat.{_+_, _≤_};
 ghost use lib.ListN.{length};
@@ -66,4 +66,16 @@ pub fn write64(s: &mut [u8], at: usize, x: u64)
 {
     write32(s, at, (x % 4294967296) as u32);
     write32(s, at + 4, (x / 4294967296) as u32);
+}
+
+// Copies bytes over a part as long as they are.
+pub fn copy(part: &mut [u8], bytes: &[u8])
+    requires { ⌜ length (now part) ≡ length (now bytes) ⌝ }
+    ensures { λ _. ⌜ now (part .exit) ≡ now (bytes .entry) ⌝ }
+{
+    let mut i: usize = 0;
+    while i < bytes.len() {
+        part[i] = bytes[i];
+        i += 1;
+    }
 }

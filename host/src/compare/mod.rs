@@ -3,6 +3,7 @@
 pub mod desk;
 pub mod older;
 pub mod planning;
+pub mod runner;
 pub mod search;
 pub mod sets;
 pub mod sheet_calls;

@@ -81,7 +81,7 @@ pub fn change(desk: &Desk, limit: u32, assured: &[u32], ceilings: &[u32]) -> Res
 }
 
 /// Whether check 14 fails.
-fn not_of_desk(desk: &Desk, controller: u32) -> bool {
+pub(super) fn not_of_desk(desk: &Desk, controller: u32) -> bool {
     controller >= desk.count || !can_be_left(desk)
 }
 

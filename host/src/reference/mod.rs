@@ -3,6 +3,7 @@ pub mod desk;
 pub mod older;
 pub mod planning;
 pub mod reading;
+pub mod runner;
 pub mod sets;
 pub mod size;
 pub mod slack;

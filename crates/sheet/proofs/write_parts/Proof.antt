@@ -18,16 +18,16 @@ add-end c = search needs
 add-length : tie.Need-add-length
 add-length c = search needs
 
-slice-relend-prefix-write-labels : tie.Need-slice-relend-prefix-write-labels
-slice-relend-prefix-write-labels c = search needs
+slice-relend-prefix-copy : tie.Need-slice-relend-prefix-copy
+slice-relend-prefix-copy c = search needs
 
-slice-aggregate-write-labels : tie.Need-slice-aggregate-write-labels
-slice-aggregate-write-labels c =
+slice-aggregate-copy : tie.Need-slice-aggregate-copy
+slice-aggregate-copy c =
     sym (length-take-le (length (c .before .before .before .args .labels .now)) (c .before .before .before .args .out .now) (omega
     arith))
 
-write-labels-requires : tie.Need-write-labels-requires
-write-labels-requires c κs =
+copy-requires : tie.Need-copy-requires
+copy-requires c κs =
     length-take-le (length (c .before .before .before .args .labels .now)) (c .before .before .before .args .out .now) (omega arith)
 
 sub-write-all : tie.Need-sub-write-all
@@ -67,7 +67,7 @@ returns : tie.Need-returns
 returns c =
     let past = c .before .before .before .before .before .before .before .before in
     let a = past .before .before .before .before .before .before .args in
-    let l = past .before .before .write-labels in
+    let l = past .before .before .copy in
     let r = c .before .before .before .before .before .before .write-all in
     let t = c .before .before .write in (
       refl,
@@ -82,9 +82,9 @@ write-parts-spec =
     mul-end
     add-end
     add-length
-    slice-relend-prefix-write-labels
-    slice-aggregate-write-labels
-    write-labels-requires
+    slice-relend-prefix-copy
+    slice-aggregate-copy
+    copy-requires
     sub-write-all
     part-write-all-start
     part-write-all-end

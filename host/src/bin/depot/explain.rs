@@ -9,14 +9,15 @@ use std::fmt::Write;
 const TAKES: Takes =
     Takes { verb: "explain", flags: &["--json"], values: &[], plain: &["a refusal's number"], needed: 0, more: false };
 
-const PLANNING: &str = "planning, the end alone, the use of the cabinet, slack, job sets";
-const ORDERS: &str = "planning, the end alone, the least count, the use of the cabinet, slack, job sets";
-const READING: &str = "reading, labels, planning, the end alone, the least count, the use of the cabinet, slack, job sets";
+const PLANNING: &str = "planning, the end alone, the use of the cabinet, slack, job sets, starts of a runner";
+const ORDERS: &str = "planning, the end alone, the least count, the use of the cabinet, slack, job sets, starts of a runner";
+const READING: &str =
+    "reading, labels, planning, the end alone, the least count, the use of the cabinet, slack, job sets, starts of a runner";
 const READING_AND_WRITING: &str =
-    "reading, labels, planning, the end alone, the least count, the use of the cabinet, slack, job sets, writing";
+    "reading, labels, planning, the end alone, the least count, the use of the cabinet, slack, job sets, starts of a runner, writing";
 
 /// Which calls refuse with each number, and what to do, in the order of the numbers.
-const TO_DO: [(Refusal, &str, &str); 23] = [
+const TO_DO: [(Refusal, &str, &str); 26] = [
     (Refusal::SheetLength, READING, "The file is no job sheet, or it was cut off or joined with another. Make it again: 'depot sheet LIST.csv -o FILE'."),
     (Refusal::TooManyJobs, READING_AND_WRITING, "Split the list: a cabinet plans up to 20 charges at a time."),
     (Refusal::CabinetSize, READING_AND_WRITING, "Put the number of the cabinet's modules, 1 to 64, into the line 'cabinet,N' of the list."),
@@ -37,19 +38,20 @@ const TO_DO: [(Refusal, &str, &str); 23] = [
     (Refusal::SharesExceedLimit, "opening, changes", "Lower the shares until they add up to the limit or less: what is assured must fit on the feeder at once."),
     (
         Refusal::NoSuchNumber,
-        "labels, claims, hand-backs, looks, changes",
+        "labels, claims, hand-backs, looks, changes, starts and steps of a runner",
         "Use a number below the count: the first job or controller is 0. If the number is right, the desk's figures were altered by \
-         something other than its calls: open it anew once nobody holds anything.",
+         something other than its calls: open it anew once nobody holds anything. A step also refuses a runner that was altered, or that \
+         a refused start gave: start one anew, and keep what each step hands back.",
     ),
     (Refusal::ForNothing, "claims, hand-backs", "Name 0.1 kW or more: the desk counts in hundreds of watts."),
-    (Refusal::PassesCeiling, "claims", "Claim less, or hand back first: the ceiling is this controller's own bound, whatever the others hold. Look for the figure."),
+    (Refusal::PassesCeiling, "claims, steps of a runner", "Claim less, or hand back first: the ceiling is this controller's own bound, whatever the others hold. Look for the figure."),
     (
         Refusal::DoesNotFit,
-        "claims",
+        "claims, steps of a runner",
         "Claim less, or wait until another controller hands back: what others hold, and what is assured to them, is not given away. \
          Look for the figure.",
     ),
-    (Refusal::ExceedsHolding, "hand-backs", "Hand back no more than the controller holds: 'show' has the figure."),
+    (Refusal::ExceedsHolding, "hand-backs, steps of a runner", "Hand back no more than the controller holds: 'show' has the figure."),
     (
         Refusal::Changeover,
         READING_AND_WRITING,
@@ -78,6 +80,19 @@ const TO_DO: [(Refusal, &str, &str); 23] = [
         Refusal::NoJobs,
         "the use of the cabinet",
         "Put a job into the list, or leave the list out: a plan without jobs ends at its start, and of no minutes there is no share.",
+    ),
+    (Refusal::ModuleSize, "starts of a runner", "Give the power of one module, 0.1 to 1,000 kW: the start takes it in hundreds of watts, 1 to 10,000."),
+    (
+        Refusal::NotReady,
+        "starts of a runner",
+        "Assure the controller of the cabinet's modules times the power of one, by an opening or a change, and have it hand back all that it \
+         holds: then every call of the plan is granted.",
+    ),
+    (
+        Refusal::CardUnfit,
+        "starts of a runner",
+        "Lend the card's own bytes, 13 for each job and 8, and the sheet that it was planned from. A card of an older cabinet may be of \
+         another sheet, or not valid under this sheet's arrivals and changeover: plan the sheet anew.",
     ),
 ];
 

@@ -2,7 +2,7 @@
 use crate::outcome::{say, Outcome, Trouble};
 
 pub const TOP: &str = "\
-depot: plans the charging of buses on one cabinet, and keeps the share desk of a feeder.
+depot: plans the charging of buses on one cabinet, keeps the share desk of a feeder, and follows plans on it.
 The plans, ends and grants come from the proved library; this tool reads lists and draws.
 
 usage: depot VERB ..
@@ -17,6 +17,7 @@ usage: depot VERB ..
   depot sheet LIST.csv -o FILE   a list to a job sheet, the bytes that a cabinet takes
   depot list FILE                a job sheet back to a list
   depot desk                     an interactive share desk: open, change, claim, back, look, show
+  depot run LIST.csv             the plan followed on a share desk, minute by minute, beside others
   depot explain N                what refusal N means and what to do
   depot VERB --help              the options of a verb, and the list's format
 
@@ -175,10 +176,40 @@ A controller is named by its number, from 0, or by its name. Lines that begin wi
 Exit status: 0 every call was answered; 1 some call was refused; 2 some line is no command.
 ";
 
+const RUN: &str = "\
+usage: depot run LIST.csv|SHEET [OPTION..]
+
+Plans a list and plays the night on a share desk, minute by minute: a runner makes the plan's hand-backs and claims, and before each of its
+minutes the other controllers call. Shows every call with its answer, what is held over time, and whether every call of the plan was
+granted: it is, whatever the others do, as long as the controller that follows the plan makes no other call and keeps the share that the
+plan needs. A name that ends in .csv is a list, every other a job sheet; - is a sheet on standard input.
+
+Without a script the desk is that of a yard, assured of what its plan needs, and a neighbour, on a feeder with half as much again. The
+neighbour claims all that a look shows, every minute, and hands back at some minutes.
+
+  --size KW          the size of a module, up to 1000 kW in whole hundreds of watts (30)
+  --limit KW         the feeder's limit, in place of that
+  --seed N           other minutes at which the neighbour hands back (1)
+  --script FILE      other controllers' calls: a line each, with a minute, or a time of day where the start is known, before it:
+                       open 500 yard=8x30/420 workshop=2x50/200   the desk, in place of the usual one; first, and without a minute
+                       15 claim workshop 50                       also back and change; 'depot desk --help' says how they are written
+                       23:10 back workshop 50
+                     a line's call comes before the plan's calls of its minute
+  --controller NAME  the controller that follows the plan, by name or number (the first)
+  --start HH:MM      the plan's start as a time of day, in place of the list's
+  --json             for programs
+  --svg OUT          a picture of the night too
+  --html OUT         a page with the night's picture, the plan's and the calls too
+  --memory BYTES     working memory of the search, with K or M (16M); 0 is allowed, and no length changes the answer
+
+Exit status: 0 every call of the plan was granted; 1 the start or a call of the plan was refused, or the list has faults; 2 wrong usage, or
+some line of the script is no call.
+";
+
 const EXPLAIN: &str = "\
 usage: depot explain [N] [--json]
 
-What refusal N, 1 to 23, means, which calls refuse with it, and what to do. Without N, all of them in a line each.
+What refusal N, 1 to 26, means, which calls refuse with it, and what to do. Without N, all of them in a line each.
 ";
 
 /// Whether help is asked for among these words.
@@ -198,6 +229,7 @@ pub fn of_verb(verb: &str) -> Option<String> {
         "sheet" => format!("{SHEET}{LIST_FORMAT}"),
         "list" => LIST.into(),
         "desk" => DESK.into(),
+        "run" => RUN.into(),
         "explain" => EXPLAIN.into(),
         "help" => TOP.into(),
         _ => return None,

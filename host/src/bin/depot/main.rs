@@ -17,6 +17,7 @@ mod plan_verb;
 mod planned;
 mod pointer;
 mod road;
+mod run;
 mod search;
 mod sets_verb;
 mod sheet_verbs;
@@ -65,6 +66,7 @@ fn run(words: &[String]) -> Result<Outcome, Trouble> {
         "slack" => slack_verb::run(rest),
         "sets" => sets_verb::run(rest),
         "desk" => desk::run(rest),
+        "run" => run::run(rest),
         "explain" => explain::run(rest),
         "help" => help::run(rest),
         "--help" | "-h" => outcome::say(help::TOP),

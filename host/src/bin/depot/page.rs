@@ -1,7 +1,7 @@
 //! The plan as a page in one file: the picture and the table, for a screen, light or dark, and for paper.
 use crate::chart;
 use crate::plan_text::{columns, summary, Column};
-use crate::planned::{Planned, OF_SLACK};
+use crate::planned::{Planned, PlannedJob, OF_SLACK};
 use crate::road;
 use depot_host::drawing::markup::escaped;
 
@@ -20,35 +20,41 @@ footer{font-size:13px;margin-top:14px}\
 @media print{body{padding:0;max-width:none}svg{max-height:185mm}.table{break-before:page}\
 table{font-size:12px}th,td{padding:2px 6px}}";
 
-pub fn text(plan: &Planned) -> String {
-    let title = escaped(&format!("{}: charging plan", plan.name));
-    let light = chart::page_rules(plan, &chart::LIGHT);
-    let dark = chart::page_rules(plan, &chart::DARK);
-    let order: Vec<&str> = plan.order.iter().map(|job| plan.jobs[usize::from(*job)].label.as_str()).collect();
-    let notes = road::notes(plan).join(" ");
+/// A page's front: its title, and the rules for light and for dark paper.
+pub fn head(title: &str, [light, dark]: &[String; 2]) -> String {
     format!(
         "<!DOCTYPE html>\n<html lang=\"en\">\n<head>\n<meta charset=\"utf-8\">\n\
          <meta name=\"viewport\" content=\"width=device-width, initial-scale=1\">\n<meta name=\"color-scheme\" content=\"light dark\">\n\
-         <title>{title}</title>\n<style>{RULES}{light}@media screen and (prefers-color-scheme:dark){{{dark}}}</style>\n</head>\n<body>\n\
-         <main>\n{}<section class=\"table\">\n<h2>{title}</h2>\n<p>{}</p>\n{}</section>\n</main>\n\
+         <title>{title}</title>\n<style>{RULES}{light}@media screen and (prefers-color-scheme:dark){{{dark}}}</style>\n</head>\n"
+    )
+}
+
+pub fn text(plan: &Planned) -> String {
+    let title = escaped(&format!("{}: charging plan", plan.name));
+    let rules = [chart::LIGHT, chart::DARK].map(|palette| chart::page_rules(plan, &palette));
+    let late: Vec<bool> = plan.jobs.iter().map(PlannedJob::is_late).collect();
+    let order: Vec<&str> = plan.order.iter().map(|job| plan.jobs[usize::from(*job)].label.as_str()).collect();
+    let notes = road::notes(plan).join(" ");
+    format!(
+        "{}<body>\n<main>\n{}<section class=\"table\">\n<h2>{title}</h2>\n<p>{}</p>\n{}</section>\n</main>\n\
          <footer>{}{}<p>No valid plan of this sheet ends earlier: start, end and modules of every job are those \
          of the proved planner's card. {OF_SLACK}</p></footer>\n</body>\n</html>\n",
+        head(&title, &rules),
         chart::part(plan),
         escaped(&summary(plan).join(" ")),
-        table(plan),
+        table_of(&columns(plan), &late),
         if order.is_empty() { String::new() } else { format!("<p>Starting order: {}.</p>", escaped(&order.join(", "))) },
         if notes.is_empty() { String::new() } else { format!("<p>{}</p>", escaped(&notes)) }
     )
 }
 
-fn table(plan: &Planned) -> String {
+/// A table of these columns; the lines that are bad are marked.
+pub fn table_of(columns: &[Column], bad: &[bool]) -> String {
     let mut html = String::from("<div class=\"scroll\">\n<table>\n");
-    let columns = columns(plan);
-    for place in 0..=plan.jobs.len() {
-        let late = place > 0 && plan.jobs[place - 1].is_late();
+    for place in 0..=bad.len() {
         let tag = if place == 0 { "th" } else { "td" };
-        html += if late { "<tr class=\"late\">" } else { "<tr>" };
-        for Column { cells, right } in &columns {
+        html += if place > 0 && bad[place - 1] { "<tr class=\"late\">" } else { "<tr>" };
+        for Column { cells, right } in columns {
             let class = if *right { " class=\"right\"" } else { "" };
             html += &format!("<{tag}{class}>{}</{tag}>", escaped(&cells[place]));
         }

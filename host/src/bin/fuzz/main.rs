@@ -1,4 +1,5 @@
 //! Compares the library with the other implementations as long as it is asked to; the tests do the same a fixed number of times.
+use depot_host::compare::runner::{Runs, CARD_FAULTS};
 use depot_host::compare::sheet_calls::{Sheets, READING, WRITING};
 use depot_host::compare::{
     desk::Answers, older::Older, planning::Planning, search, sets::Sets, sheets::CHECKS, sizing::Sizing, slack::Slack,
@@ -14,8 +15,8 @@ use std::{env, panic, process};
 const USAGE: &str = "\
 usage: fuzz [--minutes M] [--seed N] [--rounds R] [--larger]
 
-Compares planning, reading, labels, writing, the desk's calls and the search with other implementations, round by round, each
-round with a seed of its own. At the first difference it stops, with the seed of the round and what shows the difference.
+Compares planning, reading, labels, writing, the desk's calls, the plan runner and the search with other implementations, round by
+round, each round with a seed of its own. At the first difference it stops, with the seed of the round and what shows the difference.
 
   --minutes M   stop after the first round that ends behind so many minutes (10)
   --seed N      seed of the first round; the next have N + 1, N + 2, .. (the clock's, and it is printed)
@@ -27,6 +28,7 @@ round with a seed of its own. At the first difference it stops, with the seed of
 const SHEETS: usize = 400;
 const FAULTS: usize = 40;
 const DESKS: usize = 2_000;
+const NIGHTS: usize = 500;
 const LARGER: usize = 10;
 
 struct Options {
@@ -42,6 +44,7 @@ struct Compared {
     planned: usize,
     read: usize,
     desk_calls: usize,
+    steps: usize,
     searches: usize,
 }
 
@@ -75,9 +78,10 @@ fn main() {
 }
 
 fn tell(rounds: u64, compared: &Compared, start: Instant) {
-    let Compared { planned, read, desk_calls, searches } = compared;
+    let Compared { planned, read, desk_calls, steps, searches } = compared;
     println!(
-        "{} s, {rounds} rounds: {planned} sheets planned, {read} read or written, {desk_calls} calls of desks, {searches} searches",
+        "{} s, {rounds} rounds: {planned} sheets planned, {read} read or written, {desk_calls} calls of desks, {steps} steps of \
+         runners, {searches} searches",
         start.elapsed().as_secs()
     );
 }
@@ -136,6 +140,12 @@ fn round(seed: u64, compared: &mut Compared) {
     let mut random = Random::new(seed);
     (0..DESKS).for_each(|_| answers.on_a_desk(&mut random));
     compared.desk_calls += answers.calls();
+
+    let mut runs = Runs::new(seed);
+    (0..NIGHTS).for_each(|_| runs.night());
+    (0..SHEETS).for_each(|_| runs.refused_starts());
+    CARD_FAULTS.iter().for_each(|fault| (0..FAULTS).for_each(|_| runs.spoilt_card(*fault)));
+    compared.steps += runs.steps();
 
     let all_rules = [("no rule", Rules::default())];
     for _ in 0..SHEETS {

@@ -13,7 +13,7 @@ use depot_host::drawing::markup::escaped;
 use frame::Frame;
 use std::fmt::Write;
 
-pub use colours::page_rules;
+pub use colours::{page_rules, rules as picture_rules};
 pub use depot_host::drawing::colours::{DARK, LIGHT};
 
 /// A file of its own.

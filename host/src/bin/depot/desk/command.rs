@@ -4,6 +4,7 @@ use depot_host::units::power;
 use depot_host::Refusal;
 
 /// A controller's figures in an opening or a change, in hundreds of watts.
+#[derive(Clone)]
 pub struct Place {
     pub name: String,
     pub assured: u32,
@@ -53,7 +54,8 @@ pub fn read(line: &str, names: &[String]) -> Result<Command, String> {
     }
 }
 
-fn controller(word: &str, names: &[String]) -> Result<u32, String> {
+/// The controller of this number or name, or why it is none.
+pub fn controller(word: &str, names: &[String]) -> Result<u32, String> {
     let named = names.iter().position(|name| name == word).map(|place| place as u32);
     named.or_else(|| whole(word)).ok_or_else(|| {
         let given: Vec<&str> = given_names(names).collect();

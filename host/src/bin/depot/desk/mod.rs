@@ -1,14 +1,18 @@
 //! `depot desk`: a share desk on the command line, from the keyboard or from a script.
 mod bars;
-mod command;
+pub mod command;
 mod reasons;
 mod session;
 
 use crate::arguments::{Arguments, Takes};
 use crate::outcome::{bytes_of, say, Outcome, Trouble};
 use crate::{help, json};
+use depot_host::{Desk, Refusal};
 use session::{Answer, Session};
 use std::io::{self, BufRead, IsTerminal};
+
+pub use command::{controller as named_controller, Command, Place};
+pub use reasons::of_opening as why_not_opened;
 
 const TAKES: Takes = Takes { verb: "desk", flags: &["--json"], values: &[], plain: &["a script"], needed: 0, more: false };
 
@@ -64,6 +68,16 @@ fn from_keyboard(session: &mut Session, lines: &mut Lines, as_json: bool) -> Res
         prompt()?;
     }
     Ok(())
+}
+
+/// The sums behind the answer to a claim or a hand-back, none where it was granted.
+pub fn why_not_booked(desk: &Desk, names: &[String], controller: u32, power: u32, answer: Result<(), Refusal>) -> Vec<String> {
+    answer.err().map_or(Vec::new(), |refusal| reasons::of_call(desk, names, controller, power, refusal))
+}
+
+/// The sums behind the answer to a change, none where it was granted.
+pub fn why_not_changed(desk: &Desk, limit: u32, places: &[Place], answer: Result<(), Refusal>) -> Vec<String> {
+    answer.err().map_or(Vec::new(), |refusal| reasons::of_change(desk, limit, places, refusal))
 }
 
 impl Lines {

@@ -1,4 +1,4 @@
--- `sheet_format::records::write_labels` meets its contract: the first i bytes are copied.
+-- `words::copy` meets its contract: the first i bytes are copied.
 use mathlib.Core.Path.{_≡_, refl, ap, ap₂, _∙_}
 use mathlib.Core.List.{List, _++_, append-nil}
 use Prim.Native.Nat.{ℕ, _-_, _≤_}
@@ -6,15 +6,15 @@ use native.Mathlib.Omega.{arith}
 use lib.ListN.{drop-of-length-le, length, getD, take, drop, set, length-set}
 use lib.Seq.{take-all}
 use borrow.Author.Needs.{needs}
 use Rattle.words.proofs.Parts.{copy-more}
-use Rattle.sheet_format.proofs.records.write_labels.Statement.{statement}
-use Rattle.sheet_format.proofs.records.write_labels.Tie as tie
+use Rattle.words.proofs.copy.Statement.{statement}
+use Rattle.words.proofs.copy.Tie as tie
 
 abbrev Inv-loop : tie.InvT-loop
-Inv-loop part₀ labels i₀ part i = (i ≤ length labels) × (part ≡ take i labels ++ drop i part₀) × (length part ≡ length part₀)
+Inv-loop part₀ bytes i₀ part i = (i ≤ length bytes) × (part ≡ take i bytes ++ drop i part₀) × (length part ≡ length part₀)
 
 abbrev μ-loop : tie.MeasureT-loop
-μ-loop part₀ labels i₀ part i = length labels - i
+μ-loop part₀ bytes i₀ part i = length bytes - i
 
 loop-holds : tie.Need-loop-holds Inv-loop μ-loop
 loop-holds c = (omega arith, refl, refl)
@@ -34,7 +34,7 @@ loop-less c = search needs
 loop-again : tie.Need-loop-again Inv-loop μ-loop
 loop-again c =
     let v = c .before .before .loop in
-    let s = c .before .before .before .args .labels .now in
+    let s = c .before .before .before .args .bytes .now in
     let l = c .before .before .before .args .part .now in (
       omega arith,
       ap (λ (x : List ℕ). set x (v .i) (getD s (v .i) 0)) (v .inv .1) ∙ copy-more s l (v .i) (omega arith) (omega arith),
@@ -47,14 +47,14 @@ same-length c = c .before .loop .inv .2
 returns : tie.Need-returns Inv-loop μ-loop
 returns c =
     let v = c .before .loop in
-    let s = c .before .before .args .labels .now in
+    let s = c .before .before .args .bytes .now in
     let l = c .before .before .args .part .now in
     v .inv .1
     ∙ ap₂ (λ (x y : List ℕ). x ++ y) (take-all (v .i) s (omega arith)) (drop-of-length-le l {i = v .i} (omega arith))
     ∙ append-nil s
 
-pub write-labels-spec : {M : Type 1} → statement M
-write-labels-spec =
+pub copy-spec : {M : Type 1} → statement M
+copy-spec =
     tie.close
     (tie.spec
     Inv-loop

@@ -1,0 +1,3 @@
+-- The test of a card is true exactly where the card is one for the sheet.
+pub mod Exact
+pub mod Same

@@ -1,0 +1,2 @@
+-- The calls of a minute, made together.
+pub mod Together
