@@ -20,7 +20,7 @@ PROMISES = 'docs/PROMISES.md'
 REQUIREMENTS = 'docs/REQUIREMENTS.md'
 DECISIONS = 'docs/DECISIONS.md'
 # the documents whose tables cite files and names, and how many rows each has at least
-DOCUMENTS = {PROMISES: 100, 'docs/PAGE-TWELVE.md': 30, 'docs/SEARCH.md': 12}
+DOCUMENTS = {PROMISES: 100, 'docs/PAGE-TWELVE.md': 30, 'docs/NEIGHBOURS.md': 12, 'docs/SEARCH.md': 12}
 NUMBER = r'(?:[BCDFGHKPRSTX]-\d+(?:\.\d+)?|E\d+)'
 ITEM = re.compile(rf'(?:- |\| )\*\*({NUMBER})\*\*(?: \|)? (.*?)(?: \|)?')
 HEADING = re.compile(rf'#+ (({NUMBER})\. .*)')

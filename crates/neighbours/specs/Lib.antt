@@ -1,0 +1,3 @@
+-- F-13: neighbours who cannot be noticed.
+pub mod Alone
+pub mod Moves
