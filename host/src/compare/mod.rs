@@ -1,6 +1,8 @@
 //! The library against other implementations, call by call: what the tests run a fixed number of times and `fuzz` as long as it is
 //! asked to. A difference ends the program with the bytes and figures that show it.
+mod asking;
 pub mod desk;
+mod left;
 pub mod neighbours;
 pub mod older;
 pub mod planning;

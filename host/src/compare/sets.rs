@@ -53,12 +53,7 @@ impl Sets {
     /// Sheets with a fault for one of the checks, some with another one.
     pub fn damaged(&mut self, check: u32, times: usize) {
         for _ in 0..times {
-            let sheet = sheets::good(&mut self.random);
-            let mut checks = vec![check];
-            if self.random.percent(40) {
-                checks.push(self.random.pick(&sheets::CHECKS));
-            }
-            let bytes = sheets::damaged(&mut self.random, sheet, &checks);
+            let bytes = sheets::faulty(&mut self.random, check);
             self.compare(&bytes);
         }
     }

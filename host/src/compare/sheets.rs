@@ -101,6 +101,21 @@ pub fn damaged(random: &mut Random, mut sheet: Sheet, checks: &[u32]) -> Vec<u8>
     bytes
 }
 
+/// The sheet's bytes with a fault for a check, some of them with a fault for another one too.
+pub fn with_fault(random: &mut Random, sheet: Sheet, check: u32) -> Vec<u8> {
+    let mut checks = vec![check];
+    if random.percent(40) {
+        checks.push(random.pick(&CHECKS));
+    }
+    damaged(random, sheet, &checks)
+}
+
+/// Such bytes of a sheet of up to 7 jobs.
+pub fn faulty(random: &mut Random, check: u32) -> Vec<u8> {
+    let sheet = good(random);
+    with_fault(random, sheet, check)
+}
+
 /// Puts a fault for a check other than 1 into the sheet's parts.
 pub fn put_fault(random: &mut Random, sheet: &mut Sheet, check: u32) {
     let job = random.place(sheet.jobs.len().max(1));

@@ -1,8 +1,9 @@
 //! The call for the least module count against a reading of the requirements that plans every count by every order: answers, cards, working
 //! memory, and no other byte.
-use super::sheets;
+use super::planning::mislead_half;
+use super::{left, sheets};
 use crate::guarded::{Against, Guarded};
-use crate::plain_search::{mislead, GROUP};
+use crate::plain_search::GROUP;
 use crate::random::Random;
 use crate::raw_sheet::Sheet;
 use crate::{card_length, reference, size, Refusal, MOST_JOBS, MOST_MODULES};
@@ -74,35 +75,21 @@ impl Sizing {
         let mut work_before = vec![0; WORK_LENGTHS[work]];
         self.random.fill(&mut card_before);
         self.random.fill(&mut work_before);
-        if self.random.percent(50) {
-            let jobs = reference::reading::read(sheet).map_or(0, |sheet| sheet.jobs.len());
-            mislead(&mut work_before, jobs);
-        }
+        mislead_half(&mut self.random, sheet, &mut work_before);
         let lent_sheet = self.sheet.lend(against, sheet);
         let lent_card = self.card.lend(against, &card_before);
         let lent_work = self.work[work].lend(against, &work_before);
         let answer = (self.sizer)(lent_sheet, by, lent_card, lent_work);
 
         let about = || format!("sheet {sheet:02x?}, by {by}, card {room}, work {}, {against:?}", WORK_LENGTHS[work]);
-        let card_left = self.card.left();
-        let work_left = self.work[work].left();
-        match expected {
-            Ok((modules, card)) => {
-                assert_eq!(answer, Ok(*modules as u16), "{}", about());
-                assert_eq!(card_left[..card.len()], card[..], "{}", about());
-                assert_eq!(card_left[card.len()..], card_before[card.len()..], "{}", about());
-                assert!(work_left.iter().all(|byte| *byte == 0), "{}", about());
-            }
-            Err(number) => {
-                assert_eq!(answer.map_err(Refusal::number), Err(*number), "{}", about());
-                assert_eq!(card_left, card_before, "{}", about());
-                assert!(work_left == work_before, "memory of a refused call: {}", about());
-            }
-        }
-        assert_eq!(self.sheet.left(), sheet);
-        for lent in [&self.sheet, &self.card, &self.work[work]] {
-            assert!(lent.rest_untouched(), "{}", about());
-        }
+        let (modules, card) = match expected {
+            Ok((modules, card)) => (Ok(*modules as u16), Some(&card[..])),
+            Err(number) => (Err(*number), None),
+        };
+        assert_eq!(answer.map_err(Refusal::number), modules, "{}", about());
+        left::sheet(&self.sheet, sheet, &about);
+        left::card(&self.card, &card_before, card, &about);
+        left::work(&self.work[work], &work_before, card.is_some(), &about);
     }
 
     /// Sheets that read, of up to so many jobs, some of them wider than their cabinet.
@@ -150,12 +137,8 @@ impl Sizing {
             let n = self.random.place(5);
             let sheet = sheets::of_size(&mut self.random, n);
             let room = if self.random.percent(80) { card_length(MOST_JOBS) } else { self.random.place(100) };
-            let mut checks = vec![check];
-            if self.random.percent(40) {
-                checks.push(self.random.pick(&sheets::CHECKS));
-            }
             let by = self.random.pick(&[0, 10, 100, 3000]);
-            let bytes = sheets::damaged(&mut self.random, sheet, &checks);
+            let bytes = sheets::with_fault(&mut self.random, sheet, check);
             self.compare(&bytes, by, room);
         }
     }

@@ -1,7 +1,7 @@
 //! Slack against a reading of the requirements that goes along every chain: answers, working memory, and no other byte.
+use super::asking::{Asking, Expected};
 use super::sheets;
 use crate::ffi::Slacks;
-use crate::guarded::{Against, Guarded};
 use crate::random::Random;
 use crate::{ffi, reference, JobSlack, MOST_JOBS};
 
@@ -36,8 +36,7 @@ pub fn expected(sheet: &[u8]) -> Slacks {
 pub struct Slack {
     slacker: Slacker,
     random: Random,
-    sheet: Guarded,
-    work: Vec<Guarded>,
+    asking: Asking,
     pub compared: usize,
     /// How often each number was answered.
     pub answers: [usize; 20],
@@ -60,8 +59,7 @@ impl Slack {
         Slack {
             slacker,
             random: Random::new(seed),
-            sheet: Guarded::new(1024),
-            work: WORK_LENGTHS.map(Guarded::new).into(),
+            asking: Asking::new(&WORK_LENGTHS),
             compared: 0,
             answers: [0; 20],
             late: 0,
@@ -76,24 +74,8 @@ impl Slack {
         self.late += expected.jobs.iter().filter(|job| job.slack < 0).count();
         self.below_0 += expected.jobs.iter().filter(|job| job.latest_start < 0).count();
         self.implied += expected.jobs.iter().map(|job| job.implied.count_ones() as usize).sum::<usize>();
-        for against in [Against::End, Against::Front] {
-            let work = self.random.place(WORK_LENGTHS.len());
-            let mut before = vec![0; WORK_LENGTHS[work]];
-            self.random.fill(&mut before);
-            let lent_sheet = self.sheet.lend(against, sheet);
-            let lent_work = self.work[work].lend(against, &before);
-            let answer = (self.slacker)(lent_sheet, lent_work);
-
-            let about = || format!("sheet {sheet:02x?}, work {}, {against:?}", WORK_LENGTHS[work]);
-            assert_eq!(answer, expected, "{}", about());
-            let left = self.work[work].left();
-            match expected.refusal {
-                0 => assert!(left.iter().all(|byte| *byte == 0), "{}", about()),
-                _ => assert!(left == before, "{}", about()),
-            }
-            assert!(self.sheet.left() == sheet, "{}", about());
-            assert!(self.sheet.rest_untouched() && self.work[work].rest_untouched(), "{}", about());
-        }
+        let answered = expected.refusal == 0;
+        self.asking.compare(&mut self.random, sheet, self.slacker, &Expected { figures: expected, answered });
         self.compared += 1;
     }
 
@@ -113,12 +95,7 @@ impl Slack {
     /// Sheets with a fault for one of the checks, some with another one.
     pub fn damaged(&mut self, check: u32, times: usize) {
         for _ in 0..times {
-            let sheet = sheets::good(&mut self.random);
-            let mut checks = vec![check];
-            if self.random.percent(40) {
-                checks.push(self.random.pick(&sheets::CHECKS));
-            }
-            let bytes = sheets::damaged(&mut self.random, sheet, &checks);
+            let bytes = sheets::faulty(&mut self.random, check);
             self.compare(&bytes);
         }
     }

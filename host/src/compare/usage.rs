@@ -1,7 +1,7 @@
 //! The use of the cabinet against a reading of the requirements that counts every module-minute: answers, working memory, and no other
 //! byte.
+use super::asking::{Asking, Expected};
 use super::sheets;
-use crate::guarded::{Against, Guarded};
 use crate::random::Random;
 use crate::raw_sheet::Sheet;
 use crate::{reference, usage, Refusal, Usage};
@@ -15,8 +15,7 @@ pub type User = fn(&[u8], &mut [u8]) -> Result<Usage, Refusal>;
 pub struct Uses {
     user: User,
     random: Random,
-    sheet: Guarded,
-    work: [Guarded; 4],
+    asking: Asking,
     pub compared: usize,
     /// How often each number was answered.
     pub answers: [usize; 24],
@@ -36,8 +35,7 @@ impl Uses {
         Uses {
             user,
             random: Random::new(seed),
-            sheet: Guarded::new(1024),
-            work: WORK_LENGTHS.map(Guarded::new),
+            asking: Asking::new(&WORK_LENGTHS),
             compared: 0,
             answers: [0; 24],
             with_remainder: 0,
@@ -49,27 +47,13 @@ impl Uses {
         let expected = reference::usage::used(sheet).map(|used| used.per_mille_and_remainder());
         self.answers[*expected.as_ref().err().unwrap_or(&0) as usize] += 1;
         self.with_remainder += usize::from(matches!(expected, Ok((_, 1..))));
-        for against in [Against::End, Against::Front] {
-            let work = self.random.place(WORK_LENGTHS.len());
-            let mut before = vec![0; WORK_LENGTHS[work]];
-            self.random.fill(&mut before);
-            let lent_sheet = self.sheet.lend(against, sheet);
-            let lent_work = self.work[work].lend(against, &before);
-            let answer = (self.user)(lent_sheet, lent_work);
-
-            let about = || format!("sheet {sheet:02x?}, work {}, {against:?}", WORK_LENGTHS[work]);
-            let figures = answer.map(|usage| (u64::from(usage.per_mille), u64::from(usage.remainder)));
-            assert_eq!(figures.map_err(Refusal::number), expected, "{}", about());
-            let left = self.work[work].left();
-            match expected {
-                Ok(_) => assert!(left.iter().all(|byte| *byte == 0), "{}", about()),
-                Err(_) => assert!(left == before, "{}", about()),
-            }
-            assert_eq!(self.sheet.left(), sheet);
-            for lent in [&self.sheet, &self.work[work]] {
-                assert!(lent.rest_untouched(), "{}", about());
-            }
-        }
+        let answered = expected.is_ok();
+        let user = self.user;
+        let call = |sheet: &[u8], work: &mut [u8]| {
+            let figures = |usage: Usage| (u64::from(usage.per_mille), u64::from(usage.remainder));
+            user(sheet, work).map(figures).map_err(Refusal::number)
+        };
+        self.asking.compare(&mut self.random, sheet, call, &Expected { figures: expected, answered });
         self.compared += 1;
     }
 
@@ -97,12 +81,7 @@ impl Uses {
     /// Sheets with a fault for one of the checks, some with another one.
     pub fn damaged(&mut self, check: u32, times: usize) {
         for _ in 0..times {
-            let sheet = sheets::good(&mut self.random);
-            let mut checks = vec![check];
-            if self.random.percent(40) {
-                checks.push(self.random.pick(&sheets::CHECKS));
-            }
-            let bytes = sheets::damaged(&mut self.random, sheet, &checks);
+            let bytes = sheets::faulty(&mut self.random, check);
             self.compare(&bytes);
         }
     }

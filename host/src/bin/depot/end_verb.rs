@@ -1,24 +1,12 @@
 //! `depot end`: the earliest end of a list, in a sentence for a bid meeting.
-use crate::arguments::{Arguments, Takes};
 use crate::outcome::{say, Outcome, Trouble};
 use crate::plan_verb::{refused, Asked, Form};
 use crate::planned::{counted, Yard};
 use crate::{json, search};
 use depot_host::read;
 
-const TAKES: Takes = Takes {
-    verb: "end",
-    flags: &["--raw", "--json"],
-    values: &["--start", "--memory"],
-    plain: &["a list or a sheet"],
-    needed: 1,
-    more: false,
-};
-
 pub fn run(words: &[String]) -> Result<Outcome, Trouble> {
-    let arguments = Arguments::read(&TAKES, words)?;
-    let Asked { form, start, memory } = Asked::by(&arguments)?;
-    let yard = Yard::open(arguments.plain(0).expect("a file is needed"), start)?;
+    let (Asked { form, memory, .. }, yard) = Asked::of_a_list("end", words)?;
     let end = match search::end(&yard.sheet, memory) {
         Ok(end) => end,
         Err(refusal) => return refused(&yard, refusal, form),

@@ -61,6 +61,22 @@ impl Asked {
         let memory = arguments.read_value("--memory", units::bytes, "a number of bytes, or one with K or M")?;
         Ok(Asked { form, start, memory: memory.unwrap_or(MEMORY) })
     }
+
+    /// What is asked of a verb that takes one list and no options but these, and the list.
+    pub fn of_a_list(verb: &str, words: &[String]) -> Result<(Asked, Yard), Trouble> {
+        let takes = Takes {
+            verb,
+            flags: &["--raw", "--json"],
+            values: &["--start", "--memory"],
+            plain: &["a list or a sheet"],
+            needed: 1,
+            more: false,
+        };
+        let arguments = Arguments::read(&takes, words)?;
+        let asked = Asked::by(&arguments)?;
+        let yard = Yard::open(arguments.plain(0).expect("a file is needed"), asked.start)?;
+        Ok((asked, yard))
+    }
 }
 
 /// The form that is asked for on the verb's command line.

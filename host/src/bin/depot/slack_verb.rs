@@ -1,5 +1,4 @@
 //! `depot slack`: which bus may wait and which holds up a departure, and the waits of a list that others imply.
-use crate::arguments::{Arguments, Takes};
 use crate::clock::Clock;
 use crate::outcome::{say, Outcome, Trouble};
 use crate::plan_text::{lines, Column};
@@ -10,19 +9,8 @@ use crate::{json, list, search};
 use depot_host::{read, JobSlack, Reading};
 use std::fmt::Write;
 
-const TAKES: Takes = Takes {
-    verb: "slack",
-    flags: &["--raw", "--json"],
-    values: &["--start", "--memory"],
-    plain: &["a list or a sheet"],
-    needed: 1,
-    more: false,
-};
-
 pub fn run(words: &[String]) -> Result<Outcome, Trouble> {
-    let arguments = Arguments::read(&TAKES, words)?;
-    let Asked { form, start, memory } = Asked::by(&arguments)?;
-    let yard = Yard::open(arguments.plain(0).expect("a file is needed"), start)?;
+    let (Asked { form, memory, .. }, yard) = Asked::of_a_list("slack", words)?;
     let slacks = match search::slacks(&yard.sheet, memory) {
         Ok(slacks) => slacks,
         Err(refusal) => return refused(&yard, refusal, form),
