@@ -1,9 +1,9 @@
 /*
  * depot.h: the charging planner, the job sheets, the share desk of one depot feeder and the plan runner, for C.
  *
- * Link target/staticlib/libdepot.a (x86-64; 'rt staticlib depot' makes it). docs/FIRMWARE.md says how to build, how to size
- * the buffers, and what is proved; docs/PROMISES.md has every promise. host/c/example.c uses every call, host/c/follow.c is a whole
- * controller.
+ * Link target/staticlib/libdepot.a ('rt staticlib depot' makes it, for x86-64 alone). docs/FIRMWARE.md says how to build, what can be done
+ * with other processors, how to size the buffers, and what is proved; docs/PROMISES.md has every promise. host/c/example.c uses every
+ * call, host/c/follow.c is a whole controller.
  *
  * OF EVERY CALL
  *
@@ -27,8 +27,23 @@
 #ifndef DEPOT_H
 #define DEPOT_H
 
+/* The archive is for x86-64: pointers of 64 bits, little-endian, ELF objects, the System V calling convention. There is no other. */
+#if !(defined(__x86_64__) && defined(__LP64__) && defined(__ELF__))
+#error "depot.h: the library is for x86-64 with 64-bit pointers, ELF and the System V ABI alone; docs/FIRMWARE.md, 'Processors'"
+#endif
+
+#include <limits.h>
 #include <stddef.h>
 #include <stdint.h>
+
+/* A condition that the compiler checks; its name is an identifier. */
+#if defined(__cplusplus) && __cplusplus >= 201103L
+#define DEPOT_STATIC_ASSERT(holds, name) static_assert(holds, #name)
+#elif defined(__STDC_VERSION__) && __STDC_VERSION__ >= 201112L
+#define DEPOT_STATIC_ASSERT(holds, name) _Static_assert(holds, #name)
+#else
+#define DEPOT_STATIC_ASSERT(holds, name) typedef char name[(holds) ? 1 : -1]
+#endif
 
 #ifdef __cplusplus
 extern "C" {
@@ -469,6 +484,27 @@ struct depot_stepped {
  * again later. Stack: DEPOT_RUNNER_STACK, and the answer in the caller's frame.
  */
 struct depot_stepped depot_runner_step(struct depot_runner runner, struct depot_desk desk);
+
+/* ---- the layout -------------------------------------------------------------------------------------------------------------- */
+
+/* The sizes with which the archive was compiled: a compiler that has others must not link it. */
+DEPOT_STATIC_ASSERT(CHAR_BIT == 8, depot_byte_has_8_bits);
+DEPOT_STATIC_ASSERT(sizeof(void *) == 8 && sizeof(size_t) == 8, depot_pointer_has_8_bytes);
+DEPOT_STATIC_ASSERT(sizeof(struct depot_earliest) == 8, depot_earliest_has_8_bytes);
+DEPOT_STATIC_ASSERT(sizeof(struct depot_sized) == 8, depot_sized_has_8_bytes);
+DEPOT_STATIC_ASSERT(sizeof(struct depot_usage) == 12, depot_usage_has_12_bytes);
+DEPOT_STATIC_ASSERT(sizeof(struct depot_job_slack) == 12, depot_job_slack_has_12_bytes);
+DEPOT_STATIC_ASSERT(sizeof(struct depot_slacks) == 256, depot_slacks_has_256_bytes);
+DEPOT_STATIC_ASSERT(sizeof(struct depot_set_count) == 8, depot_set_count_has_8_bytes);
+DEPOT_STATIC_ASSERT(sizeof(struct depot_job) == 12, depot_job_has_12_bytes);
+DEPOT_STATIC_ASSERT(sizeof(struct depot_reading) == 264, depot_reading_has_264_bytes);
+DEPOT_STATIC_ASSERT(sizeof(struct depot_label_place) == 24, depot_label_place_has_24_bytes);
+DEPOT_STATIC_ASSERT(sizeof(struct depot_written) == 16, depot_written_has_16_bytes);
+DEPOT_STATIC_ASSERT(sizeof(struct depot_desk) == 104, depot_desk_has_104_bytes);
+DEPOT_STATIC_ASSERT(sizeof(struct depot_looked) == 8, depot_looked_has_8_bytes);
+DEPOT_STATIC_ASSERT(sizeof(struct depot_runner) == 880, depot_runner_has_880_bytes);
+DEPOT_STATIC_ASSERT(sizeof(struct depot_started) == 888, depot_started_has_888_bytes);
+DEPOT_STATIC_ASSERT(sizeof(struct depot_stepped) == 992, depot_stepped_has_992_bytes);
 
 #ifdef __cplusplus
 }

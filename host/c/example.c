@@ -326,9 +326,6 @@ static void claim_and_hand_back(void)
 
 int main(void)
 {
-    check(sizeof(struct depot_job) == 12 && sizeof(struct depot_reading) == 264, "a job and a reading have the library's sizes");
-    check(sizeof(struct depot_desk) == 104, "a desk has the library's size");
-    check(sizeof(struct depot_runner) == 880 && sizeof(struct depot_stepped) == 992, "a runner and a step have the library's sizes");
     plan_e1();
     plan_e1_on_the_road();
     size_e1();

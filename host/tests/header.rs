@@ -1,5 +1,5 @@
 //! `include/depot.h` against the Rattle signatures, against `src/ffi.rs`, against the archive and against what is measured.
-use depot_host::{stack, Refusal};
+use depot_host::{ffi, stack, Desk, Job, JobSlack, Refusal, Runner};
 use std::collections::BTreeMap;
 use std::path::{Path, PathBuf};
 use std::process::Command;
@@ -58,6 +58,9 @@ fn c_calls() -> BTreeMap<String, Signature> {
     let call = |statement: &str| {
         let (head, rest) = statement.rsplit_once(['{', '}']).map_or(statement, |(_, last)| last).split_once('(')?;
         let (name, result) = c_named(head);
+        if !name.starts_with("depot_") {
+            return None;
+        }
         let parameters = rest.split_once(')')?.0.split(',').filter(|one| one.trim() != "void").map(c_named).collect();
         Some((name, (result, parameters)))
     };
@@ -191,6 +194,37 @@ fn structs_agree() {
         assert!(in_header.len() >= 2);
         assert_eq!(&fields(&source(rattle), name), in_header, "{name} of {rattle}");
         assert_eq!(&fields(&source(rust), name), in_header, "{name} of {rust}");
+    }
+}
+
+/// The header asserts the size of each struct, and it is the wrapper's.
+#[test]
+fn sizes_agree() {
+    let sizes = [
+        ("Job", size_of::<Job>()),
+        ("Earliest", size_of::<ffi::Earliest>()),
+        ("Usage", size_of::<ffi::Usage>()),
+        ("Reading", size_of::<ffi::Reading>()),
+        ("LabelPlace", size_of::<ffi::LabelPlace>()),
+        ("Written", size_of::<ffi::Written>()),
+        ("SetCount", size_of::<ffi::SetCount>()),
+        ("Sized", size_of::<ffi::Sized>()),
+        ("JobSlack", size_of::<JobSlack>()),
+        ("Slacks", size_of::<ffi::Slacks>()),
+        ("Desk", size_of::<Desk>()),
+        ("Looked", size_of::<ffi::Looked>()),
+        ("Runner", size_of::<Runner>()),
+        ("Started", size_of::<ffi::Started>()),
+        ("Stepped", size_of::<ffi::Stepped>()),
+    ];
+    let header = source("include/depot.h");
+    let asserted: Vec<&str> = header.split("DEPOT_STATIC_ASSERT(sizeof(struct ").skip(1).collect();
+    assert_eq!(asserted.len(), c_structs().len());
+    for (name, bytes) in sizes {
+        let struct_in_c = in_c(name);
+        let tag = struct_in_c.trim_start_matches("struct ");
+        let expected = format!("{tag}) == {bytes}, {tag}_has_{bytes}_bytes);");
+        assert!(asserted.iter().any(|assertion| assertion.starts_with(&expected)), "{expected}");
     }
 }
 
