@@ -10,6 +10,8 @@
  * Answers.    A call answers whatever bytes, numbers and lists it is given: it is done, or it is refused with the number of the
  *             first check that fails (enum depot_refusal). A refused call changes no lent byte and no desk, and every other figure
  *             of its answer is 0; a step's answer has desk and runner as they were. Every call ends.
+ *             An answer has to be looked at: a claim that was refused and is taken for granted passes the limit. GCC, Clang and C++17
+ *             warn of a call whose answer is left (DEPOT_MUST_USE).
  * Memory.     The caller owns all memory. A call reads and writes what it is lent and its own stack, keeps no pointer when it
  *             returns, allocates nothing and has no state of its own.
  * Buffers.    A buffer is a pointer and the number of its elements. One of 0 elements may have any pointer, NULL too. Every other
@@ -43,6 +45,15 @@
 #define DEPOT_STATIC_ASSERT(holds, name) _Static_assert(holds, #name)
 #else
 #define DEPOT_STATIC_ASSERT(holds, name) typedef char name[(holds) ? 1 : -1]
+#endif
+
+/* Of a call: a compiler that can warns where the answer is not looked at. */
+#if defined(__cplusplus) && __cplusplus >= 201703L
+#define DEPOT_MUST_USE [[nodiscard]]
+#elif defined(__GNUC__)
+#define DEPOT_MUST_USE __attribute__((warn_unused_result))
+#else
+#define DEPOT_MUST_USE
 #endif
 
 #ifdef __cplusplus
@@ -141,6 +152,7 @@ enum depot_refusal {
  *
  * The time grows steeply with the jobs and nothing interrupts the call: docs/FIRMWARE.md, 'Time'. Stack: DEPOT_PLAN_STACK.
  */
+DEPOT_MUST_USE
 uint32_t depot_plan(const uint8_t *sheet, size_t sheet_len, uint8_t *card, size_t card_len, uint8_t *work, size_t work_len);
 
 /* What the call for the end alone answers. */
@@ -159,6 +171,7 @@ struct depot_earliest {
  * The two do not overlap. Answers the minute, or a refusal: 1 to 3, 19, 4 to 9, in this order. Refused, work is as before.
  * Stack: DEPOT_PLAN_STACK.
  */
+DEPOT_MUST_USE
 struct depot_earliest depot_end(const uint8_t *sheet, size_t sheet_len, uint8_t *work, size_t work_len);
 
 /* What the call for the least module count answers. */
@@ -180,6 +193,7 @@ struct depot_sized {
  * The three do not overlap. Answers the count, or a refusal: 1 to 3, 19, 4 to 7, 9, 20, 10, in this order. Refused, card and work are as
  * before. It plans for one count and decides for up to seven others: docs/FIRMWARE.md, 'Time'. Stack: DEPOT_SIZE_STACK.
  */
+DEPOT_MUST_USE
 struct depot_sized depot_size(const uint8_t *sheet, size_t sheet_len, uint16_t by, uint8_t *card, size_t card_len, uint8_t *work,
                               size_t work_len);
 
@@ -201,6 +215,7 @@ struct depot_usage {
  * The two do not overlap. Answers the two figures, or a refusal: 1 to 3, 19, 4 to 9, 23, in this order. Refused, work is as before.
  * It takes the time of depot_end. Stack: DEPOT_PLAN_STACK.
  */
+DEPOT_MUST_USE
 struct depot_usage depot_use(const uint8_t *sheet, size_t sheet_len, uint8_t *work, size_t work_len);
 
 /* What slack says of a job, beside the plan that depot_plan gives. Minutes are counted from the plan's start. */
@@ -228,6 +243,7 @@ struct depot_slacks {
  * The two do not overlap. Answers an entry for each job, or a refusal: 1 to 3, 19, 4 to 9, in this order. Refused, work is as before.
  * It takes the time of depot_plan. Stack: DEPOT_PLAN_STACK, and the answer in the caller's frame.
  */
+DEPOT_MUST_USE
 struct depot_slacks depot_slack(const uint8_t *sheet, size_t sheet_len, uint8_t *work, size_t work_len);
 
 /* What counting the job sets answers. */
@@ -245,6 +261,7 @@ struct depot_set_count {
  *
  * Answers the count, or a refusal: 1 to 3, 19, 4 to 9, in this order. Stack: DEPOT_SETS_STACK.
  */
+DEPOT_MUST_USE
 struct depot_set_count depot_sets(const uint8_t *sheet, size_t sheet_len);
 
 /* ---- job sheets -------------------------------------------------------------------------------------------------------------- */
@@ -276,6 +293,7 @@ struct depot_reading {
  * Answers the jobs, n, N and the changeover, or a refusal: 1 to 3, 19, 4 to 7, in this order. Stack: DEPOT_CALL_STACK, and the answer
  * in the caller's frame.
  */
+DEPOT_MUST_USE
 struct depot_reading depot_read(const uint8_t *sheet, size_t sheet_len);
 
 /* Where a label lies. */
@@ -294,6 +312,7 @@ struct depot_label_place {
  *
  * Answers the label's place, or a refusal: 1 to 3, 19, 4 to 7, 14, in this order. Stack: DEPOT_CALL_STACK.
  */
+DEPOT_MUST_USE
 struct depot_label_place depot_label(const uint8_t *sheet, size_t sheet_len, size_t job);
 
 /*
@@ -306,6 +325,7 @@ struct depot_label_place depot_label(const uint8_t *sheet, size_t sheet_len, siz
  * Answers the label's place, or a refusal: the reading's own, then 14 for a job that the reading does not count or has no place for.
  * Stack: DEPOT_CALL_STACK, and the reading.
  */
+DEPOT_MUST_USE
 struct depot_label_place depot_label_of(struct depot_reading reading, size_t job);
 
 /* What writing answers. */
@@ -329,6 +349,7 @@ struct depot_written {
  * is written.
  * Stack: DEPOT_CALL_STACK.
  */
+DEPOT_MUST_USE
 struct depot_written depot_write(const struct depot_job *jobs, size_t jobs_len, const uint8_t *labels, size_t labels_len,
                                  uint16_t modules, uint16_t changeover, uint8_t *sheet, size_t sheet_len);
 
@@ -359,6 +380,7 @@ struct depot_desk {
  *
  * desk overlaps neither list. Answers 0, or a refusal: 11 to 13, in this order. Stack: DEPOT_CALL_STACK.
  */
+DEPOT_MUST_USE
 uint32_t depot_desk_open(struct depot_desk *desk, uint32_t limit, const uint32_t *assured, size_t assured_len,
                          const uint32_t *ceilings, size_t ceilings_len);
 
@@ -373,6 +395,7 @@ uint32_t depot_desk_open(struct depot_desk *desk, uint32_t limit, const uint32_t
  *
  * desk overlaps neither list. Answers 0, or a refusal: 14, 11 to 13, 21, 22, in this order. Stack: DEPOT_CALL_STACK.
  */
+DEPOT_MUST_USE
 uint32_t depot_desk_change(struct depot_desk *desk, uint32_t limit, const uint32_t *assured, size_t assured_len,
                            const uint32_t *ceilings, size_t ceilings_len);
 
@@ -386,6 +409,7 @@ uint32_t depot_desk_change(struct depot_desk *desk, uint32_t limit, const uint32
  *
  * Answers 0, or a refusal: 14 to 17, in this order. Stack: DEPOT_CALL_STACK.
  */
+DEPOT_MUST_USE
 uint32_t depot_desk_claim(struct depot_desk *desk, uint32_t controller, uint32_t power);
 
 /*
@@ -397,6 +421,7 @@ uint32_t depot_desk_claim(struct depot_desk *desk, uint32_t controller, uint32_t
  *
  * Answers 0, or a refusal: 14, 15, 18, in this order. Stack: DEPOT_CALL_STACK.
  */
+DEPOT_MUST_USE
 uint32_t depot_desk_hand_back(struct depot_desk *desk, uint32_t controller, uint32_t power);
 
 /* What a look answers. */
@@ -413,6 +438,7 @@ struct depot_looked {
  *
  * Answers the figure, or the refusal 14. Stack: DEPOT_CALL_STACK.
  */
+DEPOT_MUST_USE
 struct depot_looked depot_desk_look(const struct depot_desk *desk, uint32_t controller);
 
 /* ---- the plan runner --------------------------------------------------------------------------------------------------------- */
@@ -462,6 +488,7 @@ struct depot_started {
  * Answers the runner, or a refusal: 1 to 3, 19, 4 to 9, 14, 24, 25, 26, in this order. Stack: DEPOT_RUNNER_STACK, and the answer in the
  * caller's frame.
  */
+DEPOT_MUST_USE
 struct depot_started depot_runner_start(const uint8_t *sheet, size_t sheet_len, const uint8_t *card, size_t card_len,
                                         struct depot_desk desk, uint32_t controller, uint32_t size);
 
@@ -483,6 +510,7 @@ struct depot_stepped {
  * the number of the first call that the desk refuses, 16 to 18. Refused, none of the minute's calls is made, and the step may be made
  * again later. Stack: DEPOT_RUNNER_STACK, and the answer in the caller's frame.
  */
+DEPOT_MUST_USE
 struct depot_stepped depot_runner_step(struct depot_runner runner, struct depot_desk desk);
 
 /* ---- the layout -------------------------------------------------------------------------------------------------------------- */

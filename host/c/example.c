@@ -189,6 +189,20 @@ static void read_and_write_e1(void)
 
 /* ---- following a plan */
 
+static uint32_t look(const struct depot_desk *desk, uint32_t controller)
+{
+    struct depot_looked looked = depot_desk_look(desk, controller);
+    check(looked.refusal == DEPOT_DONE, "a look is answered");
+    return looked.power;
+}
+
+/* A greedy controller takes all that it is given. */
+static void take_all(struct depot_desk *desk, uint32_t controller)
+{
+    uint32_t power = look(desk, controller);
+    check(power == 0 || depot_desk_claim(desk, controller, power) == DEPOT_DONE, "what a look shows is granted");
+}
+
 /*
  * E1 with a changeover of 5 minutes, followed by controller 0, whose share is the cabinet's 2 modules, while controller 1 takes all that
  * it is given. A job's modules are handed back at its end plus the changeover, and a minute's hand-backs come before its claims.
@@ -228,7 +242,7 @@ static void follow_e1_with_a_changeover(void)
                 printf("minute %2u: job %u claims %u modules\n", minute, (unsigned)job, (unsigned)reading.jobs[job].modules);
             }
         }
-        (void)depot_desk_claim(&desk, 1, depot_desk_look(&desk, 1).power);
+        take_all(&desk, 1);
     }
     check(desk.held[0] == 0 && desk.held[1] == 8 * MODULE, "the plan's controller holds nothing then, the other all but the share");
 }
@@ -263,7 +277,7 @@ static void run_e1(void)
     stepped.runner = started.runner;
     stepped.desk = desk;
     for (minute = 0; minute <= 30; minute++) {
-        (void)depot_desk_claim(&stepped.desk, 1, depot_desk_look(&stepped.desk, 1).power);
+        take_all(&stepped.desk, 1);
         stepped = depot_runner_step(stepped.runner, stepped.desk);
         check(stepped.refusal == DEPOT_DONE && stepped.runner.minute == minute + 1, "every call of the plan is granted");
         check(stepped.desk.held[0] == (minute < 30 ? 2u * MODULE : 0u), "E1's plan holds both modules until minute 30");
@@ -276,13 +290,6 @@ static void run_e1(void)
 }
 
 /* ---- the share desk */
-
-static uint32_t look(const struct depot_desk *desk, uint32_t controller)
-{
-    struct depot_looked looked = depot_desk_look(desk, controller);
-    check(looked.refusal == DEPOT_DONE, "a look is answered");
-    return looked.power;
-}
 
 static void claim_and_hand_back(void)
 {

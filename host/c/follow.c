@@ -26,16 +26,15 @@ static int refused(uint32_t refusal, const char *what)
     return refusal != DEPOT_DONE;
 }
 
-/* The neighbour between two minutes: it claims what a look shows, and every seventh minute hands a third back. */
-static void neighbour_calls(struct depot_desk *desk, uint32_t minute)
+/* The neighbour between two minutes: it claims what a look shows, and every seventh minute hands a third back. Says whether it was refused. */
+static int neighbour_calls(struct depot_desk *desk, uint32_t minute)
 {
     struct depot_looked looked = depot_desk_look(desk, NEIGHBOUR);
-    if (looked.power > 0) {
-        (void)depot_desk_claim(desk, NEIGHBOUR, looked.power);
+    if (looked.power > 0 && refused(depot_desk_claim(desk, NEIGHBOUR, looked.power), "the neighbour's claim")) {
+        return 1;
     }
-    if (minute % 7 == 6 && desk->held[NEIGHBOUR] >= 3) {
-        (void)depot_desk_hand_back(desk, NEIGHBOUR, desk->held[NEIGHBOUR] / 3);
-    }
+    return minute % 7 == 6 && desk->held[NEIGHBOUR] >= 3 &&
+           refused(depot_desk_hand_back(desk, NEIGHBOUR, desk->held[NEIGHBOUR] / 3), "the neighbour's hand-back");
 }
 
 /* Follows the plan until the last hand-back. The calls of a minute show in what the yard holds. */
@@ -56,7 +55,9 @@ static int follow(struct depot_runner runner, struct depot_desk desk)
             printf("minute %3u: the yard goes from %4u to %4u, beside %4u\n", (unsigned)minute, (unsigned)held,
                    (unsigned)desk.held[YARD], (unsigned)desk.held[NEIGHBOUR]);
         }
-        neighbour_calls(&desk, minute);
+        if (neighbour_calls(&desk, minute)) {
+            return 1;
+        }
         if (desk.held[YARD] + desk.held[NEIGHBOUR] > desk.limit) {
             fputs("follow: the feeder's limit is passed\n", stderr);
             return 1;
@@ -78,10 +79,10 @@ int main(void)
     written = depot_write(jobs, JOBS, labels, sizeof labels, MODULES, CHANGEOVER, sheet, sizeof sheet);
     if (refused(written.refusal, "the list") ||
         refused(depot_plan(sheet, written.length, card, sizeof card, work, sizeof work), "planning") ||
-        refused(depot_desk_open(&desk, LIMIT, assured, CONTROLLERS, ceilings, CONTROLLERS), "the desk")) {
+        refused(depot_desk_open(&desk, LIMIT, assured, CONTROLLERS, ceilings, CONTROLLERS), "the desk") ||
+        neighbour_calls(&desk, 0)) {
         return 1;
     }
-    neighbour_calls(&desk, 0);
     started = depot_runner_start(sheet, written.length, card, sizeof card, desk, YARD, MODULE);
     if (refused(started.refusal, "the start")) {
         return 1;

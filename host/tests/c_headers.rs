@@ -38,12 +38,12 @@ impl Compiler {
         self.program.ends_with("++")
     }
 
-    /// What it says to this text, without making a program of it.
+    /// What it says to this text; it is compiled and not linked.
     fn says(self, name: &str, text: &str, options: &[&str]) -> Output {
         let source = file(&format!("{name}{}{}.{}", self.program, self.standard, if self.is_cpp() { "cc" } else { "c" }));
         fs::write(&source, text).expect("the text is written");
         let mut command = Command::new(self.program);
-        command.arg(self.standard).args(STRICT).args(options).arg("-fsyntax-only");
+        command.arg(self.standard).args(STRICT).args(options).arg("-S").arg("-o").arg(source.with_extension("s"));
         command.arg("-I").arg(top().join("include")).arg(source).output().expect("the compiler runs")
     }
 
@@ -74,6 +74,18 @@ fn another_platform_is_refused() {
         for missing in ["-U__x86_64__", "-U__LP64__", "-U__ELF__"] {
             compiler.refuses("platform", EVERY_HEADER, &[missing], "the library is for x86-64 with 64-bit pointers");
         }
+    }
+}
+
+/// An answer that is left is warned of.
+#[test]
+fn an_answer_must_be_used() {
+    let calls = |claim: &str| {
+        format!("{EVERY_HEADER}uint32_t claimed(struct depot_desk *desk);\nuint32_t claimed(struct depot_desk *desk)\n{{\n{claim}\n}}\n")
+    };
+    for compiler in compilers() {
+        compiler.takes("used", &calls("return depot_desk_claim(desk, 0, 1);"), &[]);
+        compiler.refuses("left", &calls("depot_desk_claim(desk, 0, 1);\nreturn 0;"), &[], "unused-result");
     }
 }
 

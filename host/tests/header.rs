@@ -5,6 +5,9 @@ use std::path::{Path, PathBuf};
 use std::process::Command;
 use std::{env, fs};
 
+/// Where it stands before a call, compilers warn of an answer that is left.
+const MUST_USE: &str = "DEPOT_MUST_USE";
+
 /// A name and its type, in C's notation; of an array its length behind it, by name.
 type Named = (String, String);
 
@@ -57,7 +60,7 @@ fn c_calls() -> BTreeMap<String, Signature> {
     let text = source("include/depot.h");
     let call = |statement: &str| {
         let (head, rest) = statement.rsplit_once(['{', '}']).map_or(statement, |(_, last)| last).split_once('(')?;
-        let (name, result) = c_named(head);
+        let (name, result) = c_named(head.trim_start().trim_start_matches(MUST_USE));
         if !name.starts_with("depot_") {
             return None;
         }
@@ -195,6 +198,15 @@ fn structs_agree() {
         assert_eq!(&fields(&source(rattle), name), in_header, "{name} of {rattle}");
         assert_eq!(&fields(&source(rust), name), in_header, "{name} of {rust}");
     }
+}
+
+/// Of every call that can refuse, an answer that is left is warned of.
+#[test]
+fn answers_must_be_used() {
+    let declared = source("include/depot.h").matches(&format!("{MUST_USE}\n")).count();
+    let of_the_version = "uint32_t depot_version(void);";
+    assert_eq!(declared, c_calls().len() - 1);
+    assert!(!source("include/depot.h").contains(&format!("{MUST_USE}\n{of_the_version}")));
 }
 
 /// The header asserts the size of each struct, and it is the wrapper's.
