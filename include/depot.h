@@ -3,7 +3,8 @@
  *
  * Link target/staticlib/libdepot.a ('rt staticlib depot' makes it, for x86-64 alone). docs/FIRMWARE.md says how to build, what can be done
  * with other processors, how to size the buffers, and what is proved; docs/PROMISES.md has every promise. host/c/example.c uses every
- * call, host/c/follow.c is a whole controller.
+ * call, host/c/follow.c is a whole controller. depot_card.h reads cards, depot_text.h has the refusals in words; both are for every
+ * processor.
  *
  * OF EVERY CALL
  *
@@ -33,6 +34,8 @@
 #if !(defined(__x86_64__) && defined(__LP64__) && defined(__ELF__))
 #error "depot.h: the library is for x86-64 with 64-bit pointers, ELF and the System V ABI alone; docs/FIRMWARE.md, 'Processors'"
 #endif
+
+#include "depot_card.h"
 
 #include <limits.h>
 #include <stddef.h>
@@ -119,10 +122,6 @@ enum depot_refusal {
 /* the sheet of so many jobs with so many label bytes in all */
 #define DEPOT_SHEET_BYTES(jobs, label_bytes) ((size_t)12 * (jobs) + (label_bytes) + 10)
 
-#define DEPOT_LONGEST_CARD 268
-/* the card of so many jobs */
-#define DEPOT_CARD_BYTES(jobs) ((size_t)13 * (jobs) + 8)
-
 #define DEPOT_FEWEST_CONTROLLERS 2
 #define DEPOT_MOST_CONTROLLERS 8
 #define DEPOT_MOST_POWER 400000 /* the largest limit of a feeder, in hundreds of watts: 40 MW */
@@ -142,9 +141,7 @@ enum depot_refusal {
  *
  * sheet  Read. The sheet's bytes.
  * card   Written. The plan's card goes to its front, DEPOT_CARD_BYTES(n) bytes for n jobs; the bytes behind it stay. A buffer of
- *        DEPOT_LONGEST_CARD bytes is enough for every sheet. The card has n rows of 12 bytes in job order: start (2 bytes), end (2),
- *        modules (8, bit m for module m); then the order, a byte for each job; then a trailer: offset of the order (4), the plan's
- *        end (2), n (2).
+ *        DEPOT_LONGEST_CARD bytes is enough for every sheet. depot_card.h has the card's layout, and functions that read it.
  * work   Written. Working memory of any length, 0 too: more of it can make the search shorter. What it holds changes no answer, and
  *        an answered call leaves it all zero.
  *

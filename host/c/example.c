@@ -34,30 +34,17 @@ static const char e1_lines[] = "plan 30 3 2\n"
                                "10 30 5 0000000000000003 B\n"
                                "0 10 -20 0000000000000002 C\n";
 
-/* A number of so many bytes, little-endian. */
-static uint64_t number(const uint8_t *bytes, size_t count)
-{
-    uint64_t value = 0;
-    while (count > 0) {
-        count--;
-        value = value << 8 | bytes[count];
-    }
-    return value;
-}
-
 /* The lines of a planned sheet: end, n and N; then start, end, lateness, module set and label of each job. */
 static void plan_lines(const uint8_t *sheet, size_t sheet_len, const uint8_t *card, char *text, size_t room)
 {
     struct depot_reading reading = depot_read(sheet, sheet_len);
-    const uint8_t *trailer = card + 13 * reading.count;
     size_t used, job;
-    used = (size_t)snprintf(text, room, "plan %u %u %u\n", (unsigned)number(trailer + 4, 2), (unsigned)reading.count,
-                            (unsigned)reading.modules);
+    used = (size_t)snprintf(text, room, "plan %u %u %u\n", (unsigned)depot_card_plan_end(card, reading.count),
+                            (unsigned)reading.count, (unsigned)reading.modules);
     for (job = 0; job < reading.count; job++) {
-        const uint8_t *row = card + 12 * job;
         struct depot_label_place label = depot_label_of(reading, job);
-        int start = (int)number(row, 2), end = (int)number(row + 2, 2);
-        unsigned long long modules = number(row + 4, 8);
+        int start = depot_card_start(card, job), end = depot_card_end(card, job);
+        unsigned long long modules = depot_card_modules(card, job);
         check(label.refusal == DEPOT_DONE, "a job that was read has a label");
         used += (size_t)snprintf(text + used, room - used, "%d %d %d %016llX %.*s\n", start, end, end - reading.jobs[job].departure,
                                  modules, (int)label.length, (const char *)sheet + label.offset);
@@ -66,7 +53,6 @@ static void plan_lines(const uint8_t *sheet, size_t sheet_len, const uint8_t *ca
 
 static void plan_e1(void)
 {
-    static const uint8_t order[] = {0, 2, 1};
     uint8_t card[DEPOT_LONGEST_CARD], work[4096];
     char text[256];
     size_t i;
@@ -79,7 +65,8 @@ static void plan_e1(void)
     check(card[0] == 0xEE && work[0] == 0xEE, "a refused call writes nothing");
 
     check(depot_plan(e1, sizeof e1, card, sizeof card, work, sizeof work) == DEPOT_DONE, "E1 is planned");
-    check(memcmp(card + 36, order, sizeof order) == 0, "E1's order is 0, 2, 1");
+    check(depot_card_job_at(card, 3, 0) == 0 && depot_card_job_at(card, 3, 1) == 2, "E1's order begins with 0, 2");
+    check(depot_card_is_whole(card, DEPOT_CARD_BYTES(3)) && depot_card_jobs(card, DEPOT_CARD_BYTES(3)) == 3, "it is a card of 3 jobs");
     check(card[46] == 0 && card[47] == 0xEE, "the card has 47 bytes, and the byte behind it stays");
     for (i = 0; i < sizeof work && work[i] == 0; i++) {
     }
@@ -93,16 +80,15 @@ static void plan_e1(void)
 /* E1 with its first bus on the road until minute 25: it starts then, and the third, which comes behind it in the order, too. */
 static void plan_e1_on_the_road(void)
 {
-    static const uint8_t order[] = {1, 0, 2};
     uint8_t sheet[sizeof e1], card[DEPOT_LONGEST_CARD];
     memcpy(sheet, e1, sizeof e1);
     sheet[3 + 10] = 25;
 
     check(depot_read(sheet, sizeof sheet).jobs[0].arrival == 25, "the arrival stands behind the departure");
     check(depot_plan(sheet, sizeof sheet, card, sizeof card, NULL, 0) == DEPOT_DONE, "E1 with a bus on the road is planned");
-    check(memcmp(card + 36, order, sizeof order) == 0, "the order is 1, 0, 2");
-    check(number(card, 2) == 25 && number(card + 12, 2) == 0 && number(card + 24, 2) == 25, "the starts are 25, 0 and 25");
-    check(number(card + 43, 2) == 35, "the plan ends at 35");
+    check(depot_card_job_at(card, 3, 0) == 1 && depot_card_job_at(card, 3, 1) == 0, "the order begins with 1, 0");
+    check(depot_card_start(card, 0) == 25 && depot_card_start(card, 1) == 0 && depot_card_start(card, 2) == 25, "the starts");
+    check(depot_card_plan_end(card, 3) == 35, "the plan ends at 35");
     sheet[3 + 10] = 0xA1;
     sheet[3 + 11] = 0x05;
     check(depot_plan(sheet, sizeof sheet, card, sizeof card, NULL, 0) == DEPOT_RECORD_FIELD, "an arrival of 1441 is refused");
@@ -115,7 +101,7 @@ static void size_e1(void)
     struct depot_sized sized = depot_size(e1, sizeof e1, 20, card, sizeof card, NULL, 0);
 
     check(sized.refusal == DEPOT_DONE && sized.modules == 3, "by minute 20 E1 takes 3 modules");
-    check(number(card + 43, 2) == 20, "the card is that of a plan on 3 modules, which ends at 20");
+    check(depot_card_plan_end(card, 3) == 20, "the card is that of a plan on 3 modules, which ends at 20");
     check(depot_size(e1, sizeof e1, 30, card, sizeof card, NULL, 0).modules == 2, "by minute 30 the 2 of its cabinet are enough");
     sized = depot_size(e1, sizeof e1, 19, card, sizeof card, NULL, 0);
     check(sized.refusal == DEPOT_NO_COUNT_SERVES && sized.modules == 0, "no cabinet ends it by minute 19");
@@ -223,21 +209,21 @@ static void follow_e1_with_a_changeover(void)
     check(written.refusal == DEPOT_DONE, "E1 is written with a changeover");
     check(depot_read(sheet, written.length).changeover == CHANGEOVER, "reading gives it");
     check(depot_plan(sheet, written.length, card, sizeof card, NULL, 0) == DEPOT_DONE, "E1 with a changeover is planned");
-    end = (unsigned)number(card + 13 * reading.count + 4, 2);
+    end = depot_card_plan_end(card, reading.count);
     check(end == 35, "B starts when the modules of A and C have rested, and the plan ends at 35");
     check(depot_desk_open(&desk, 10 * MODULE, assured, 2, ceilings, 2) == DEPOT_DONE, "a desk opens");
     printf("E1 with a changeover of %d, plan's end %u\n", CHANGEOVER, end);
     for (minute = 0; minute <= end + CHANGEOVER; minute++) {
         for (job = 0; job < reading.count; job++) {
             uint32_t power = (uint32_t)reading.jobs[job].modules * MODULE;
-            if (number(card + 12 * job + 2, 2) + CHANGEOVER == minute) {
+            if (depot_card_end(card, job) + CHANGEOVER == (int)minute) {
                 check(depot_desk_hand_back(&desk, 0, power) == DEPOT_DONE, "a hand-back of the plan is granted");
                 printf("minute %2u: job %u hands back %u modules\n", minute, (unsigned)job, (unsigned)reading.jobs[job].modules);
             }
         }
         for (job = 0; job < reading.count; job++) {
             uint32_t power = (uint32_t)reading.jobs[job].modules * MODULE;
-            if (number(card + 12 * job, 2) == minute) {
+            if (depot_card_start(card, job) == minute) {
                 check(depot_desk_claim(&desk, 0, power) == DEPOT_DONE, "a claim of the plan is granted");
                 printf("minute %2u: job %u claims %u modules\n", minute, (unsigned)job, (unsigned)reading.jobs[job].modules);
             }

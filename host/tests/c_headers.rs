@@ -1,10 +1,19 @@
-//! The headers in `include/` as compilers take them: C and C++, each standard, with strict warnings; and what they refuse to compile.
+//! The headers in `include/` as compilers take them: C and C++, each standard, with strict warnings; what they refuse to compile; and
+//! what their own functions give.
+use depot_host::compare::sheets;
+use depot_host::random::Random;
+use depot_host::raw_sheet::Sheet;
+use depot_host::{card_length, plan, Card, Job, LONGEST_CARD, MOST_JOBS};
+use std::fmt::Write as _;
+use std::io::Write as _;
 use std::path::{Path, PathBuf};
-use std::process::{Command, Output};
-use std::{env, fs};
+use std::process::{Command, Output, Stdio};
+use std::{env, fs, thread};
 
 const STRICT: [&str; 4] = ["-Wall", "-Wextra", "-Werror", "-pedantic"];
-const EVERY_HEADER: &str = "#include \"depot.h\"\n#include \"depot.h\"\n";
+const EVERY_HEADER: &str = "#include \"depot.h\"\n#include \"depot_card.h\"\n#include \"depot.h\"\n";
+/// Those that are for every processor.
+const PORTABLE: &str = "#include \"depot_card.h\"\n";
 
 /// A compiler and a standard.
 #[derive(Clone, Copy, Debug)]
@@ -47,6 +56,25 @@ impl Compiler {
         command.arg("-I").arg(top().join("include")).arg(source).output().expect("the compiler runs")
     }
 
+    /// What a program of `tests/c/` prints for this input.
+    fn prints(self, name: &str, input: &[u8]) -> String {
+        let program = file(&format!("{name}-{}{}", self.program, self.standard));
+        let source = top().join(format!("host/tests/c/{name}.c"));
+        let mut command = Command::new(self.program);
+        command.arg(self.standard).args(STRICT).arg("-I").arg(top().join("include")).arg("-o").arg(&program);
+        command.args(["-x", if self.is_cpp() { "c++" } else { "c" }]).arg(source);
+        let said = command.output().expect("the compiler runs");
+        assert!(said.status.success(), "{self:?}: {}", String::from_utf8_lossy(&said.stderr));
+        let mut child = Command::new(program).stdin(Stdio::piped()).stdout(Stdio::piped()).spawn().expect("the program starts");
+        let mut stdin = child.stdin.take().expect("a piped input");
+        let output = thread::scope(|scope| {
+            scope.spawn(move || stdin.write_all(input).expect("the program reads"));
+            child.wait_with_output().expect("the program ends")
+        });
+        assert!(output.status.success(), "{self:?}");
+        String::from_utf8(output.stdout).expect("text")
+    }
+
     fn takes(self, name: &str, text: &str, options: &[&str]) {
         let said = self.says(name, text, options);
         assert!(said.status.success(), "{self:?} {options:?}: {}", String::from_utf8_lossy(&said.stderr));
@@ -64,6 +92,14 @@ impl Compiler {
 fn every_compiler_takes_them() {
     for compiler in compilers() {
         compiler.takes("taken", EVERY_HEADER, &[]);
+    }
+}
+
+/// A processor of 32 bits, where there is nothing but the compiler.
+#[test]
+fn what_reads_cards_is_for_every_processor() {
+    for compiler in compilers() {
+        compiler.takes("portable", PORTABLE, &["-m32", "-ffreestanding"]);
     }
 }
 
@@ -94,5 +130,71 @@ fn an_answer_must_be_used() {
 fn another_layout_is_refused() {
     for compiler in compilers() {
         compiler.refuses("layout", EVERY_HEADER, &["-fpack-struct"], "depot_reading_has_264_bytes");
+    }
+}
+
+/// The cards of random sheets, and of twenty jobs one behind the other.
+fn real_cards(random: &mut Random) -> Vec<Vec<u8>> {
+    let chain = |job: usize| Job { label_len: 1, modules: 1, minutes: 1440, earlier: (1 << job) >> 1, ..Job::default() };
+    let mut planned = vec![Sheet::of(64, (0..MOST_JOBS).map(chain).collect())];
+    planned.extend((0..1_000).map(|_| sheets::resting(random)));
+    let card = |sheet: Sheet| {
+        let mut card = vec![0; card_length(sheet.jobs.len())];
+        plan(&sheet.bytes(), &mut card, &mut []).expect("the sheet is planned");
+        card
+    };
+    planned.into_iter().map(card).collect()
+}
+
+/// Rows of any bytes, so that every bit of every figure occurs, behind a trailer that fits them.
+fn any_cards(random: &mut Random) -> Vec<Vec<u8>> {
+    let card = |n: usize, random: &mut Random| {
+        let mut card = vec![0; card_length(n)];
+        random.fill(&mut card);
+        let trailer = card.len() - 8;
+        card[trailer..trailer + 4].copy_from_slice(&(12 * n as u32).to_le_bytes());
+        card[trailer + 6..].copy_from_slice(&(n as u16).to_le_bytes());
+        card
+    };
+    (0..1_000).map(|turn| card(turn % (MOST_JOBS + 1), random)).collect()
+}
+
+/// A card with a byte changed, or with some too few or too many.
+fn spoilt(random: &mut Random, card: &[u8]) -> Vec<u8> {
+    let mut bytes = card.to_vec();
+    match random.place(3) {
+        0 => bytes.truncate(random.place(card.len())),
+        1 => bytes.push(0),
+        _ => {
+            let place = card.len() - 1 - random.place(8);
+            bytes[place] ^= 1 << random.place(8);
+        }
+    }
+    bytes
+}
+
+/// The line of `tests/c/cards.c` for some bytes, by the wrapper's decoder.
+fn decoded(bytes: &[u8]) -> String {
+    let Some(card) = Card::of(bytes).filter(|_| bytes.len() <= LONGEST_CARD) else { return "no card\n".into() };
+    let mut line = format!("{} {}", card.rows.len(), card.end);
+    card.order.iter().for_each(|job| write!(line, " {job}").unwrap());
+    card.rows.iter().for_each(|row| write!(line, " {}-{}:{:x}", row.start, row.end, row.modules).unwrap());
+    line + "\n"
+}
+
+/// What `depot_card.h` reads from cards is what the wrapper's decoder does, and it knows bytes that are none.
+#[test]
+fn cards_are_read_as_the_wrapper_reads_them() {
+    let mut random = Random::new(1);
+    let mut cards = [real_cards(&mut random), any_cards(&mut random)].concat();
+    cards.extend(cards.clone().iter().map(|card| spoilt(&mut random, card)));
+    cards.push([vec![0; 12 * 21 + 21], vec![252, 0, 0, 0, 0, 0, 21, 0]].concat());
+    let expected: Vec<String> = cards.iter().map(|card| decoded(card)).collect();
+    let none = expected.iter().filter(|line| *line == "no card\n").count();
+    assert!(none > 1_000 && cards.len() - none > 2_000, "{none} of {} are no cards", cards.len());
+    let input: Vec<u8> = cards.iter().flat_map(|card| [&(card.len() as u16).to_le_bytes()[..], card].concat()).collect();
+    for compiler in compilers() {
+        let printed = compiler.prints("cards", &input);
+        assert!(printed == expected.concat(), "{compiler:?} prints other lines");
     }
 }

@@ -34,12 +34,13 @@ fn source(path: &str) -> String {
 
 /// The numbers of C's macros, of those that are a number.
 fn macros() -> BTreeMap<String, usize> {
-    let text = fs::read_to_string(top().join("include/depot.h")).expect("the header is there");
+    let text = ["include/depot.h", "include/depot_card.h"]
+        .map(|path| fs::read_to_string(top().join(path)).expect("the header is there"));
     let define = |line: &str| {
         let mut words = line.strip_prefix("#define ")?.split_whitespace();
         Some((words.next()?.to_string(), words.next()?.parse().ok()?))
     };
-    text.lines().filter_map(define).collect()
+    text.iter().flat_map(|text| text.lines()).filter_map(define).collect()
 }
 
 // ---- C
@@ -244,7 +245,7 @@ fn sizes_agree() {
 fn numbers_agree() {
     let macros = macros();
     let (figures, layout) = (source("crates/figures/src/lib.rt"), source("crates/sheet_format/src/layout.rt"));
-    let desk = source("crates/desk/src/lib.rt");
+    let (card, desk) = (source("crates/card/src/lib.rt"), source("crates/desk/src/lib.rt"));
     for (name, number) in [
         ("DEPOT_MOST_JOBS", constant(&figures, "MOST_JOBS")),
         ("DEPOT_MOST_MODULES", constant(&figures, "MOST_MODULES")),
@@ -252,6 +253,12 @@ fn numbers_agree() {
         ("DEPOT_SHORTEST_SHEET", constant(&layout, "TRAILER_SIZE")),
         ("DEPOT_LONGEST_SHEET", constant(&layout, "LONGEST_SHEET")),
         ("DEPOT_LONGEST_CARD", depot_host::card_length(depot_host::MOST_JOBS)),
+        ("DEPOT_CARD_ROW_BYTES", constant(&card, "ROW_SIZE")),
+        ("DEPOT_CARD_ROW_END", constant(&card, "ROW_END")),
+        ("DEPOT_CARD_ROW_MODULES", constant(&card, "ROW_MODULES")),
+        ("DEPOT_CARD_TRAILER_BYTES", constant(&card, "TRAILER_SIZE")),
+        ("DEPOT_CARD_TRAILER_END", constant(&card, "TRAILER_END")),
+        ("DEPOT_CARD_TRAILER_JOBS", constant(&card, "TRAILER_COUNT")),
         ("DEPOT_FEWEST_CONTROLLERS", constant(&desk, "FEWEST_CONTROLLERS")),
         ("DEPOT_MOST_CONTROLLERS", constant(&desk, "MOST_CONTROLLERS")),
         ("DEPOT_MOST_POWER", constant(&desk, "MOST_POWER")),
