@@ -5,6 +5,7 @@
  * and runner where this program has its two variables. Exits with 1 where a call is refused or the feeder's limit is passed.
  */
 #include "depot.h"
+#include "depot_text.h"
 
 #include <stdio.h>
 
@@ -21,12 +22,12 @@ enum { JOBS = sizeof jobs / sizeof jobs[0] };
 static int refused(uint32_t refusal, const char *what)
 {
     if (refusal != DEPOT_DONE) {
-        fprintf(stderr, "follow: %s is refused with %u\n", what, (unsigned)refusal);
+        fprintf(stderr, "follow: %s is refused with %u: %s\n", what, (unsigned)refusal, depot_refusal_text(refusal));
     }
     return refusal != DEPOT_DONE;
 }
 
-/* The neighbour between two minutes: it claims what a look shows, and every seventh minute hands a third back. Says whether it was refused. */
+/* The neighbour between two minutes: it claims what a look shows, and every seventh minute hands a third back. 1 where it is refused. */
 static int neighbour_calls(struct depot_desk *desk, uint32_t minute)
 {
     struct depot_looked looked = depot_desk_look(desk, NEIGHBOUR);

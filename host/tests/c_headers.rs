@@ -3,7 +3,7 @@
 use depot_host::compare::sheets;
 use depot_host::random::Random;
 use depot_host::raw_sheet::Sheet;
-use depot_host::{card_length, plan, Card, Job, LONGEST_CARD, MOST_JOBS};
+use depot_host::{card_length, plan, Card, Job, Refusal, LONGEST_CARD, MOST_JOBS};
 use std::fmt::Write as _;
 use std::io::Write as _;
 use std::path::{Path, PathBuf};
@@ -11,9 +11,9 @@ use std::process::{Command, Output, Stdio};
 use std::{env, fs, thread};
 
 const STRICT: [&str; 4] = ["-Wall", "-Wextra", "-Werror", "-pedantic"];
-const EVERY_HEADER: &str = "#include \"depot.h\"\n#include \"depot_card.h\"\n#include \"depot.h\"\n";
+const EVERY_HEADER: &str = "#include \"depot.h\"\n#include \"depot_card.h\"\n#include \"depot_text.h\"\n#include \"depot.h\"\n";
 /// Those that are for every processor.
-const PORTABLE: &str = "#include \"depot_card.h\"\n";
+const PORTABLE: &str = "#include \"depot_card.h\"\n#include \"depot_text.h\"\n";
 
 /// A compiler and a standard.
 #[derive(Clone, Copy, Debug)]
@@ -97,7 +97,7 @@ fn every_compiler_takes_them() {
 
 /// A processor of 32 bits, where there is nothing but the compiler.
 #[test]
-fn what_reads_cards_is_for_every_processor() {
+fn cards_and_words_are_for_every_processor() {
     for compiler in compilers() {
         compiler.takes("portable", PORTABLE, &["-m32", "-ffreestanding"]);
     }
@@ -196,5 +196,17 @@ fn cards_are_read_as_the_wrapper_reads_them() {
     for compiler in compilers() {
         let printed = compiler.prints("cards", &input);
         assert!(printed == expected.concat(), "{compiler:?} prints other lines");
+    }
+}
+
+/// The words of `depot_text.h` are the wrapper's.
+#[test]
+fn refusals_have_the_wrapper_s_words() {
+    let words = (1..).map_while(Refusal::of_number).map(|refusal| refusal.to_string());
+    let no_refusal = ["no such refusal"; 2].map(String::from);
+    let expected: Vec<String> = ["done".to_string()].into_iter().chain(words).chain(no_refusal).collect();
+    assert_eq!(expected.len(), 29);
+    for compiler in compilers() {
+        assert_eq!(compiler.prints("refusals", b"").lines().collect::<Vec<_>>(), expected, "{compiler:?}");
     }
 }

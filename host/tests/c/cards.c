@@ -1,5 +1,5 @@
 /*
- * Cards on standard input, each behind its length in two bytes, little-endian: what depot_card.h says of them, a line each. 'no card', or n,
+ * Cards on standard input, each behind its length in two bytes, little-endian: what depot_card.h says, a line each: 'no card', or n,
  * the plan's end, the order, and start, end and modules of each job.
  */
 #include "depot_card.h"
