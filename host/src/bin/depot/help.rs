@@ -1,5 +1,6 @@
-//! What `--help` prints.
+//! What `--help` prints: the one place of its words. The manual page and the shells' completions are made of them.
 use crate::outcome::{say, Outcome, Trouble};
+use crate::{completions, man_page};
 
 pub const TOP: &str = "\
 depot: plans the charging of buses on one cabinet, keeps the share desk of a feeder, and follows plans on it.
@@ -20,11 +21,12 @@ usage: depot VERB ..
   depot run LIST.csv             the plan followed on a share desk, minute by minute, beside others
   depot explain N                what refusal N means and what to do
   depot VERB --help              the options of a verb, and the list's format
+  depot --version                the versions of the command line and of the library
 
 Exit status: 0 answered; 1 refused, or the list has faults; 2 wrong usage, or a file cannot be read or written.
 ";
 
-const LIST_FORMAT: &str = "
+pub const LIST_FORMAT: &str = "
 A list is a text with a line for each job:
 
   cabinet,16                                      the modules in the cabinet, 1 to 64
@@ -212,33 +214,47 @@ usage: depot explain [N] [--json]
 What refusal N, 1 to 26, means, which calls refuse with it, and what to do. Without N, all of them in a line each.
 ";
 
+/// Each verb with its help, and what is shown behind it.
+pub const VERBS: [(&str, &str, &str); 11] = [
+    ("plan", PLAN, LIST_FORMAT),
+    ("end", END, ""),
+    ("size", SIZE, ""),
+    ("use", USE, ""),
+    ("slack", SLACK, ""),
+    ("sets", SETS, LIST_FORMAT),
+    ("sheet", SHEET, LIST_FORMAT),
+    ("list", LIST, ""),
+    ("desk", DESK, ""),
+    ("run", RUN, ""),
+    ("explain", EXPLAIN, ""),
+];
+
+/// The verb that shows the help of the others, and the options that ask for it.
+pub const VERB: &str = "help";
+pub const ASKS: [&str; 2] = ["--help", "-h"];
+
 /// Whether help is asked for among these words.
 pub fn asked_for(words: &[String]) -> bool {
-    words.iter().any(|word| word == "--help" || word == "-h")
+    words.iter().any(|word| ASKS.contains(&word.as_str()))
 }
 
 /// The help of a verb; with the list's format where it takes a list.
 pub fn of_verb(verb: &str) -> Option<String> {
-    Some(match verb {
-        "plan" => format!("{PLAN}{LIST_FORMAT}"),
-        "end" => END.into(),
-        "size" => SIZE.into(),
-        "use" => USE.into(),
-        "slack" => SLACK.into(),
-        "sets" => format!("{SETS}{LIST_FORMAT}"),
-        "sheet" => format!("{SHEET}{LIST_FORMAT}"),
-        "list" => LIST.into(),
-        "desk" => DESK.into(),
-        "run" => RUN.into(),
-        "explain" => EXPLAIN.into(),
-        "help" => TOP.into(),
-        _ => return None,
-    })
+    if verb == VERB {
+        return Some(TOP.into());
+    }
+    let (_, text, behind) = VERBS.iter().find(|(name, ..)| *name == verb)?;
+    Some(format!("{text}{behind}"))
 }
 
-/// `depot help [VERB]`
+/// `depot help [VERB]`; for whoever installs it also `depot help --man` and `depot help --complete SHELL`
 pub fn run(words: &[String]) -> Result<Outcome, Trouble> {
-    let verb = words.first().map_or("help", String::as_str);
+    let verb = words.first().map_or(VERB, String::as_str);
+    match verb {
+        "--man" => return say(&man_page::text()),
+        "--complete" => return completions::run(&words[1..]),
+        _ => {}
+    }
     match of_verb(verb) {
         Some(text) => say(&text),
         None => Err(Trouble::usage(format!("there is no verb '{verb}'"), "")),

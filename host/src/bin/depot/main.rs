@@ -2,12 +2,15 @@
 mod arguments;
 mod chart;
 mod clock;
+mod completions;
 mod desk;
 mod end_verb;
 mod explain;
 mod help;
+mod help_parts;
 mod json;
 mod list;
+mod man_page;
 mod outcome;
 mod outlook;
 mod page;
@@ -68,8 +71,8 @@ fn run(words: &[String]) -> Result<Outcome, Trouble> {
         "desk" => desk::run(rest),
         "run" => run::run(rest),
         "explain" => explain::run(rest),
-        "help" => help::run(rest),
-        "--help" | "-h" => outcome::say(help::TOP),
+        help::VERB => help::run(rest),
+        verb if help::ASKS.contains(&verb) => outcome::say(help::TOP),
         "--version" | "-V" => outcome::say(&versions()),
         _ => Err(Trouble::usage(format!("there is no verb '{verb}'"), "")),
     }
