@@ -147,7 +147,8 @@ enum depot_refusal {
  *
  * The three do not overlap. Answers 0, or a refusal: 1 to 3, 19, 4 to 10, in this order. Refused, card and work are as before.
  *
- * The time grows steeply with the jobs and nothing interrupts the call: docs/FIRMWARE.md, 'Time'. Stack: DEPOT_PLAN_STACK.
+ * The time grows steeply with the jobs and nothing interrupts the call: docs/FIRMWARE.md, 'Time'. A task that is killed in it leaks nothing
+ * and leaves card and work half written; work may be lent again. Stack: DEPOT_PLAN_STACK.
  */
 DEPOT_MUST_USE
 uint32_t depot_plan(const uint8_t *sheet, size_t sheet_len, uint8_t *card, size_t card_len, uint8_t *work, size_t work_len);

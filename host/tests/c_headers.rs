@@ -15,6 +15,8 @@ const EVERY_HEADER: &str = "#include \"depot.h\"\n#include \"depot_card.h\"\n#in
 /// Those that are for every processor.
 const PORTABLE: &str = "#include \"depot_card.h\"\n#include \"depot_text.h\"\n";
 
+const CARDS: &str = "tests/c/cards.c";
+
 /// A compiler and a standard.
 #[derive(Clone, Copy, Debug)]
 struct Compiler {
@@ -56,23 +58,17 @@ impl Compiler {
         command.arg("-I").arg(top().join("include")).arg(source).output().expect("the compiler runs")
     }
 
-    /// What a program of `tests/c/` prints for this input.
-    fn prints(self, name: &str, input: &[u8]) -> String {
-        let program = file(&format!("{name}-{}{}", self.program, self.standard));
-        let source = top().join(format!("host/tests/c/{name}.c"));
+    /// The program of a file below `host/`, linked with the library.
+    fn program(self, source: &str, options: &[&str]) -> PathBuf {
+        let name = source.replace(['/', '.'], "-");
+        let program = file(&format!("{name}-{}{}{}", self.program, self.standard, options.len()));
         let mut command = Command::new(self.program);
-        command.arg(self.standard).args(STRICT).arg("-I").arg(top().join("include")).arg("-o").arg(&program);
-        command.args(["-x", if self.is_cpp() { "c++" } else { "c" }]).arg(source);
-        let said = command.output().expect("the compiler runs");
+        command.arg(self.standard).args(STRICT).args(options).arg("-I").arg(top().join("include")).arg("-o").arg(&program);
+        command.args(["-x", if self.is_cpp() { "c++" } else { "c" }]).arg(top().join("host").join(source));
+        let said =
+            command.args(["-x", "none"]).arg(top().join("target/staticlib/libdepot.a")).output().expect("the compiler runs");
         assert!(said.status.success(), "{self:?}: {}", String::from_utf8_lossy(&said.stderr));
-        let mut child = Command::new(program).stdin(Stdio::piped()).stdout(Stdio::piped()).spawn().expect("the program starts");
-        let mut stdin = child.stdin.take().expect("a piped input");
-        let output = thread::scope(|scope| {
-            scope.spawn(move || stdin.write_all(input).expect("the program reads"));
-            child.wait_with_output().expect("the program ends")
-        });
-        assert!(output.status.success(), "{self:?}");
-        String::from_utf8(output.stdout).expect("text")
+        program
     }
 
     fn takes(self, name: &str, text: &str, options: &[&str]) {
@@ -86,6 +82,21 @@ impl Compiler {
         let errors = String::from_utf8_lossy(&said.stderr);
         assert!(!said.status.success() && errors.contains(why), "{self:?} {options:?}: {errors}");
     }
+}
+
+/// What a program prints for this input. Sanitizers are not to look for leaks, which not every machine lets them do.
+fn printed(program: &Path, input: &[u8]) -> String {
+    let mut command = Command::new(program);
+    command.env("ASAN_OPTIONS", "detect_leaks=0").stdin(Stdio::piped()).stdout(Stdio::piped()).stderr(Stdio::piped());
+    let mut child = command.spawn().expect("the program starts");
+    let mut stdin = child.stdin.take().expect("a piped input");
+    let output = thread::scope(|scope| {
+        // a program may leave its input
+        scope.spawn(move || stdin.write_all(input).ok());
+        child.wait_with_output().expect("the program ends")
+    });
+    assert!(output.status.success(), "{}: {}", program.display(), String::from_utf8_lossy(&output.stderr));
+    String::from_utf8(output.stdout).expect("text")
 }
 
 #[test]
@@ -182,20 +193,48 @@ fn decoded(bytes: &[u8]) -> String {
     line + "\n"
 }
 
-/// What `depot_card.h` reads from cards is what the wrapper's decoder does, and it knows bytes that are none.
-#[test]
-fn cards_are_read_as_the_wrapper_reads_them() {
+/// Cards, and bytes that are none.
+fn cards() -> Vec<Vec<u8>> {
     let mut random = Random::new(1);
     let mut cards = [real_cards(&mut random), any_cards(&mut random)].concat();
     cards.extend(cards.clone().iter().map(|card| spoilt(&mut random, card)));
     cards.push([vec![0; 12 * 21 + 21], vec![252, 0, 0, 0, 0, 0, 21, 0]].concat());
+    cards
+}
+
+/// Cards as `tests/c/cards.c` takes them.
+fn stream(cards: &[Vec<u8>]) -> Vec<u8> {
+    cards.iter().flat_map(|card| [&(card.len() as u16).to_le_bytes()[..], card].concat()).collect()
+}
+
+/// What `depot_card.h` reads from cards is what the wrapper's decoder does, and it knows bytes that are none.
+#[test]
+fn cards_are_read_as_the_wrapper_reads_them() {
+    let cards = cards();
     let expected: Vec<String> = cards.iter().map(|card| decoded(card)).collect();
     let none = expected.iter().filter(|line| *line == "no card\n").count();
     assert!(none > 1_000 && cards.len() - none > 2_000, "{none} of {} are no cards", cards.len());
-    let input: Vec<u8> = cards.iter().flat_map(|card| [&(card.len() as u16).to_le_bytes()[..], card].concat()).collect();
     for compiler in compilers() {
-        let printed = compiler.prints("cards", &input);
-        assert!(printed == expected.concat(), "{compiler:?} prints other lines");
+        let lines = printed(&compiler.program(CARDS, &[]), &stream(&cards));
+        assert!(lines == expected.concat(), "{compiler:?} prints other lines");
+    }
+}
+
+/// Where a compiler has sanitizers, the programs in C run clean under them. They do not see into the library: pages that may not be
+/// touched lie beside what it is lent in the other tests.
+#[test]
+fn programs_are_clean_under_sanitizers() {
+    const SANITIZED: [&str; 2] = ["-fsanitize=address,undefined", "-fno-sanitize-recover=all"];
+    let nothing = file("nothing.c");
+    fs::write(&nothing, "int main(void)\n{\n    return 0;\n}\n").expect("a program");
+    for compiler in compilers().into_iter().filter(|compiler| compiler.standard == "-std=c99") {
+        let linked = Command::new(compiler.program).args(SANITIZED).arg(&nothing).arg("-o").arg(file("nothing")).output();
+        if !linked.expect("the compiler runs").status.success() {
+            continue;
+        }
+        for (source, input) in [("c/example.c", vec![]), ("c/follow.c", vec![]), (CARDS, stream(&cards()))] {
+            assert!(!printed(&compiler.program(source, &SANITIZED), &input).is_empty(), "{compiler:?} {source}");
+        }
     }
 }
 
@@ -207,6 +246,10 @@ fn refusals_have_the_wrapper_s_words() {
     let expected: Vec<String> = ["done".to_string()].into_iter().chain(words).chain(no_refusal).collect();
     assert_eq!(expected.len(), 29);
     for compiler in compilers() {
-        assert_eq!(compiler.prints("refusals", b"").lines().collect::<Vec<_>>(), expected, "{compiler:?}");
+        assert_eq!(
+            printed(&compiler.program("tests/c/refusals.c", &[]), b"").lines().collect::<Vec<_>>(),
+            expected,
+            "{compiler:?}"
+        );
     }
 }

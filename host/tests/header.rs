@@ -330,6 +330,19 @@ fn archive_has_the_declared_names() {
     assert_eq!(needed, ["memcpy", "memmove", "memset"]);
 }
 
+/// Every file that a header names is in the repository, but for the archive, which is made.
+#[test]
+fn named_files_are_there() {
+    for header in ["depot.h", "depot_card.h", "depot_text.h"] {
+        let text = fs::read_to_string(top().join("include").join(header)).expect("the header is there");
+        let words = text.split(|c: char| c.is_whitespace() || "();:,'\"".contains(c)).map(|word| word.trim_end_matches('.'));
+        for name in words.filter(|word| [".h", ".c", ".md", ".rs"].iter().any(|ending| word.ends_with(ending))) {
+            let places = ["", "include/"].map(|folder| top().join(format!("{folder}{name}")));
+            assert!(places.iter().any(|place| place.is_file()), "{header} names {name}");
+        }
+    }
+}
+
 /// `tests/edges.rs` calls every one of them.
 #[test]
 fn every_call_is_tested_at_its_edges() {
