@@ -156,8 +156,8 @@ fn plans_and_pictures() {
     for name in EXAMPLES {
         let list = format!("examples/{name}.csv");
         let picture = format!("examples/{name}.svg");
-        let [svg, html, card] = ["svg", "html", "card"].map(|kind| file(&format!("{name}.{kind}"), b""));
-        let ran = depot(&["plan", &list, "--svg", &svg, "--html", &html, "--card", &card], b"");
+        let [svg, html, sheet, card] = ["svg", "html", "sheet", "card"].map(|kind| file(&format!("{name}.{kind}"), b""));
+        let ran = depot(&["plan", &list, "--svg", &svg, "--html", &html, "--sheet", &sheet, "--card", &card], b"");
         assert!(ran.status == 0 && faults(&ran).is_empty(), "{}", ran.errors);
         same(&format!("host/tests/golden/plan-{name}.txt"), &ran.output);
         let drawn = fs::read(&svg).unwrap();
@@ -170,17 +170,19 @@ fn plans_and_pictures() {
             let elsewhere = page.replace("http://www.w3.org/2000/svg", "");
             assert!(!elsewhere.contains(outside), "{name}: the page asks for something outside: {outside}");
         }
-        card_is_the_library_s(&list, &fs::read(&card).unwrap());
+        card_is_the_library_s(&fs::read(&sheet).unwrap(), &fs::read(&card).unwrap());
+        let raw = depot(&["plan", &list, "--raw"], b"").output;
+        assert_eq!(depot(&["plan", &sheet, "--raw"], b"").output, raw, "the lines of the sheet that was planned");
+        assert_eq!(depot(&["plan", &list, "--by-line", "--sheet", &sheet, "--card", &card], b"").status, 0);
+        assert_eq!(depot(&["sheet", &list, "-o", "-"], b"").output, fs::read(&sheet).unwrap());
+        card_is_the_library_s(&fs::read(&sheet).unwrap(), &fs::read(&card).unwrap());
     }
 }
 
-/// The card's bytes are those of the planning call, and the picture has every start and end of them.
-fn card_is_the_library_s(list: &str, card: &[u8]) {
-    let sheet = file("of-list.sheet", b"");
-    assert_eq!(depot(&["sheet", list, "-o", &sheet], b"").status, 0);
-    let sheet = fs::read(sheet).unwrap();
+/// The card's bytes are those of the planning call for the sheet.
+fn card_is_the_library_s(sheet: &[u8], card: &[u8]) {
     let mut expected = vec![0; card.len()];
-    plan(&sheet, &mut expected, &mut vec![0; 1 << 20]).unwrap();
+    plan(sheet, &mut expected, &mut vec![0; 1 << 20]).unwrap();
     assert_eq!(card, expected);
     let decoded = Card::of(card).unwrap();
     assert_eq!(card.len(), card_length(decoded.rows.len()));
@@ -281,11 +283,13 @@ fn slack() {
     for name in ["small-depot", "mixed-night", "on-the-road", "contactors"] {
         let list = format!("examples/{name}.csv");
         golden(&format!("slack-{name}.txt"), &["slack", &list], 0);
-        let raw = depot(&["slack", &list, "--raw"], b"").text();
-        let planned = depot(&["plan", &list, "--raw"], b"").text();
-        let start = |line: &str| line.split(' ').next().map(str::to_string);
-        let starts: Vec<_> = planned.lines().skip(1).map(start).collect();
-        assert_eq!(raw.lines().map(start).collect::<Vec<_>>(), starts, "the starts of the plan's lines");
+        for order in [&[][..], &["--by-line"]] {
+            let raw = depot(&[&["slack", &list, "--raw"], order].concat(), b"").text();
+            let planned = depot(&[&["plan", &list, "--json"], order].concat(), b"").text();
+            let starts: Vec<&str> = planned.split("\"start\": ").skip(1).filter_map(|rest| rest.split(',').next()).collect();
+            let in_lines: Vec<&str> = raw.lines().filter_map(|line| line.split(' ').next()).collect();
+            assert_eq!(in_lines, starts, "the plan's starts");
+        }
     }
     golden("slack-mixed-night.json", &["slack", "examples/mixed-night.csv", "--json"], 0);
     let list = file("waits.csv", WAITS.as_bytes());
@@ -348,7 +352,10 @@ fn nights() {
 /// A controller that breaks a condition: its plan comes to a halt, or goes on later. The limit holds all the same.
 #[test]
 fn disturbed_nights() {
-    let run = |script: &str| depot(&["run", "examples/small-depot.csv", "--script", &file("night.desk", script.as_bytes())], b"");
+    let run = |script: &str| {
+        let script = file("night.desk", script.as_bytes());
+        depot(&["run", "examples/small-depot.csv", "--by-line", "--script", &script], b"")
+    };
     // the yard's own claim: later there is no room for a claim of the plan
     let own = run("open 360 yard=8x30/360 workshop=0/360\n10 claim yard 60\n20 claim workshop 60\n121 claim workshop 30\n");
     same("host/tests/golden/run-halted.txt", &own.output);
@@ -648,8 +655,8 @@ fn modules_that_rest() {
     let e1 = "cabinet,2\nlabel,modules,minutes,departure\nA,1,10,30\nB,2,20,25\nC,1,10,30\n";
     let plan = |text: &str| {
         let (list, svg, html) = (file("e1.csv", text.as_bytes()), file("e1.svg", b""), file("e1.html", b""));
-        let table = depot(&["plan", &list, "--svg", &svg, "--html", &html], b"").text();
-        let json = depot(&["plan", &list, "--json"], b"").text();
+        let table = depot(&["plan", &list, "--by-line", "--svg", &svg, "--html", &html], b"").text();
+        let json = depot(&["plan", &list, "--by-line", "--json"], b"").text();
         [table, json, fs::read_to_string(svg).unwrap(), fs::read_to_string(html).unwrap()]
     };
     let without = plan(e1);
@@ -667,21 +674,69 @@ fn modules_that_rest() {
     }
 }
 
+/// A list whose lines make buses late, in the order of departures, and with nobody late at a later end.
+#[test]
+fn buses_that_need_not_be_late() {
+    let late = |words: &[&str]| {
+        let said = depot(&[&["plan"], words].concat(), b"").text();
+        let end = said.split("full at minute ").nth(1).and_then(|rest| rest.split(',').next()).unwrap().to_string();
+        (end, said.lines().nth(1).unwrap().to_string(), said)
+    };
+    let everybody = "Every bus is full by its departure.";
+    for (name, by_line) in
+        [("small-depot", "B23 (20 min late)"), ("mixed-night", "S8 (15 min late)"), ("hard-night", "N414 (10 min late)")]
+    {
+        let list = format!("examples/{name}.csv");
+        let (end, said, _) = late(&[&list]);
+        assert_eq!(said, everybody, "{name}");
+        let (same_end, said, all) = late(&[&list, "--by-line"]);
+        assert_eq!((same_end, said), (end, format!("1 bus is full only after its departure: {by_line}.")));
+        assert!(all.contains("\nNo plan ends earlier; of those that end alike the order of the lines decides.\n"), "{all}");
+    }
+    let tight = file("tight.csv", b"cabinet,3\nlabel,modules,minutes,departure\nA,2,30,60\nB,1,90,300\nC,2,30,70\nD,1,30,70\n");
+    let (end, said, all) = late(&[&tight]);
+    assert_eq!((end.as_str(), said.as_str()), ("90", "1 bus is full only after its departure: D (20 min late)."));
+    let later =
+        "\nSome bus is late in every plan that ends by then. The first plan in which nobody is late ends at minute 120, 30 min \
+                 later: --on-time shows it.\n";
+    assert!(all.contains(later), "{all}");
+    assert!(depot(&["plan", &tight, "--json"], b"").text().ends_with("\"on_time_end\": 120}\n"));
+    let (sheet, card) = (file("tight.sheet", b""), file("tight.card", b""));
+    let (end, said, all) = late(&[&tight, "--on-time", "--sheet", &sheet, "--card", &card]);
+    assert_eq!((end.as_str(), said.as_str()), ("120", everybody));
+    assert!(all.contains("\nNo valid plan in which nobody is late ends earlier. "), "{all}");
+    card_is_the_library_s(&fs::read(&sheet).unwrap(), &fs::read(&card).unwrap());
+    golden("plan-on-time.txt", &["plan", &tight, "--on-time"], 0);
+    golden("slack-on-time.txt", &["slack", &tight, "--on-time"], 0);
+    assert_eq!(depot(&["run", &tight, "--on-time"], b"").status, 0);
+    let never = file("never.csv", b"cabinet,1\nlabel,modules,minutes,departure\nA,1,60,60\nB,1,60,60\n");
+    let (_, _, said) = late(&[&never]);
+    assert!(said.contains("\nSome bus is late in every plan, however late it ends. Of those"), "{said}");
+    let refused = depot(&["plan", &never, "--on-time"], b"");
+    assert_eq!((refused.status, refused.output.len()), (1, 0));
+    assert_eq!(refused.errors, format!("{never}: some bus is late in every plan, however late it ends\n"));
+    let json = depot(&["plan", &never, "--json"], b"").text();
+    assert!(json.ends_with("\"on_time_end\": null}\n"), "{json}");
+    let both = depot(&["plan", &never, "--on-time", "--by-line"], b"");
+    assert_eq!((both.status, both.output.len()), (2, 0));
+}
+
 /// A bus that starts only when another one has arrived, though there is room for it before, is named.
 #[test]
 fn buses_behind_one_on_the_road() {
     let e1 = "cabinet,2\nlabel,modules,minutes,departure,arrival\nA,1,10,30,25\nB,2,20,25\nC,1,10,30\n";
     let (list, page) = (file("behind.csv", e1.as_bytes()), file("behind.html", b""));
-    let said = depot(&["plan", &list, "--html", &page], b"").text();
+    let said = depot(&["plan", &list, "--by-line", "--html", &page], b"").text();
     let note = "C starts at minute 25, when A arrives, though there is room for it from minute 20 on.";
     assert!(said.contains(note), "{said}");
     assert!(fs::read_to_string(page).unwrap().contains(note));
     let above = e1.replace("A,1,10,30,25\n", "") + "A,1,10,30,25\n";
-    let said = depot(&["plan", &file("above.csv", above.as_bytes())], b"").text();
-    assert!(
-        said.contains("1 bus is full only after its departure: A (5 min late).") && !said.contains("arrives, though"),
-        "{said}"
-    );
+    let by_line = depot(&["plan", &file("above.csv", above.as_bytes()), "--by-line"], b"").text();
+    let by_departure = depot(&["plan", &list], b"").text();
+    for said in [by_line, by_departure] {
+        let late = "1 bus is full only after its departure: A (5 min late).";
+        assert!(said.contains(late) && !said.contains("arrives, though"), "{said}");
+    }
 }
 
 /// A fleet number with spaces, and how it is named in the column `after`: in double quotes, as a text or a spreadsheet has them.

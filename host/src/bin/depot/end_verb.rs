@@ -17,7 +17,7 @@ const TAKES: Takes = Takes {
 
 pub fn run(words: &[String]) -> Result<Outcome, Trouble> {
     let arguments = Arguments::read(&TAKES, words)?;
-    let Asked { form, start, memory } = Asked::by(&arguments)?;
+    let Asked { form, start, memory, .. } = Asked::by(&arguments)?;
     let yard = Yard::open(arguments.plain(0).expect("a file is needed"), start)?;
     let end = match search::end(&yard.sheet, memory) {
         Ok(end) => end,

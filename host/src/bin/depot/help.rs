@@ -96,16 +96,22 @@ other a job sheet; - is a sheet on standard input.
 const PLAN: &str = "\
 usage: depot plan LIST.csv|SHEET [OPTION..]
 
-Shows the plan that ends first of all valid plans, by the tie rule. A name that ends in .csv is a list, every other a job sheet;
-- is a sheet on standard input. Departures do not steer the plan; they tell who is late. Of plans that end alike the order of the lines
-decides: put buses that are there first, and those that are on the road behind them, by their arrivals.
+Shows the plan that ends first of all valid plans. A name that ends in .csv is a list, every other a job sheet; - is a sheet on standard
+input. Of plans that end alike the order of the jobs on the sheet decides, the tie rule. A list is put on its sheet in the order of its
+departures. Where that leaves a bus late, it is asked whether some plan that ends alike has nobody late; that one is shown then. If there is
+none, it is said when the first plan ends in which nobody is late. A job sheet is planned as it is.
 
+Table, page, picture and --json have the list's order and numbers; --raw, --card and --sheet those of the sheet that was planned.
+
+  --by-line        the list's jobs on the sheet in the order of its lines, as 'depot sheet' writes it
+  --on-time        the first plan in which nobody is late, though it may end later; on its sheet a bus may be held back
   --start HH:MM    the plan's start as a time of day, in place of the list's; the list's times of day count from it
   --raw            exactly the printing program's lines
   --json           for programs
   --svg OUT        a picture of the plan too
   --html OUT       a page with the picture and the table too
-  --card OUT       the plan card's bytes too
+  --sheet OUT      the job sheet that was planned too: a cabinet that plans it comes to this plan
+  --card OUT       the plan card's bytes too, of that sheet
   --memory BYTES   working memory of the search, with K or M (16M); 0 is allowed, and no length changes the answer
 ";
 
@@ -118,6 +124,8 @@ modules enough. Below it stand the waits in the list that others imply, with the
 waits for the same ones, and no further wait could go. A name that ends in .csv is a list, every other a job sheet; - is a sheet on
 standard input.
 
+  --by-line        the plan of 'depot plan --by-line'
+  --on-time        the plan of 'depot plan --on-time'
   --start HH:MM    the plan's start as a time of day, in place of the list's
   --raw            a line for each job in the list's order: start, latest start, slack, implied waits as a set of jobs, label
   --json           for programs
@@ -139,7 +147,9 @@ sheet; - is a sheet on standard input.
 const SHEET: &str = "\
 usage: depot sheet LIST.csv -o FILE [--start HH:MM]
 
-Writes the job sheet of a list: the bytes that a cabinet takes. FILE may be - for standard output, LIST.csv - for standard input.
+Writes the job sheet of a list: the bytes that a cabinet takes. FILE may be - for standard output, LIST.csv - for standard input. The jobs
+keep the order of the lines, so the plan of this sheet is that of 'depot plan LIST.csv --by-line'. 'depot plan LIST.csv --sheet FILE' writes
+the sheet of the plan that it shows.
 
   --start HH:MM    the plan's start as a time of day, in place of the list's; the list's times of day count from it
 ";
@@ -179,10 +189,10 @@ Exit status: 0 every call was answered; 1 some call was refused; 2 some line is 
 const RUN: &str = "\
 usage: depot run LIST.csv|SHEET [OPTION..]
 
-Plans a list and plays the night on a share desk, minute by minute: a runner makes the plan's hand-backs and claims, and before each of its
-minutes the other controllers call. Shows every call with its answer, what is held over time, and whether every call of the plan was
-granted: it is, whatever the others do, as long as the controller that follows the plan makes no other call and keeps the share that the
-plan needs. A name that ends in .csv is a list, every other a job sheet; - is a sheet on standard input.
+Plans a list as 'depot plan' does and plays the night on a share desk, minute by minute: a runner makes the plan's hand-backs and claims,
+and before each of its minutes the other controllers call. Shows every call with its answer, what is held over time, and whether every call
+of the plan was granted: it is, whatever the others do, as long as the controller that follows the plan makes no other call and keeps the
+share that the plan needs. A name that ends in .csv is a list, every other a job sheet; - is a sheet on standard input.
 
 Without a script the desk is that of a yard, assured of what its plan needs, and a neighbour, on a feeder with half as much again. The
 neighbour claims all that a look shows, every minute, and hands back at some minutes.
@@ -196,6 +206,8 @@ neighbour claims all that a look shows, every minute, and hands back at some min
                        23:10 back workshop 50
                      a line's call comes before the plan's calls of its minute
   --controller NAME  the controller that follows the plan, by name or number (the first)
+  --by-line          the plan of 'depot plan --by-line'
+  --on-time          the plan of 'depot plan --on-time'
   --start HH:MM      the plan's start as a time of day, in place of the list's
   --json             for programs
   --svg OUT          a picture of the night too

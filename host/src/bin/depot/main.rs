@@ -7,6 +7,7 @@ mod end_verb;
 mod explain;
 mod help;
 mod json;
+mod lateness;
 mod list;
 mod outcome;
 mod outlook;

@@ -2,7 +2,7 @@
 use crate::chart;
 use crate::plan_text::{columns, summary, Column};
 use crate::planned::{Planned, PlannedJob, OF_SLACK};
-use crate::road;
+use crate::{lateness, road};
 use depot_host::drawing::markup::escaped;
 
 const RULES: &str = "\
@@ -34,17 +34,18 @@ pub fn text(plan: &Planned) -> String {
     let rules = [chart::LIGHT, chart::DARK].map(|palette| chart::page_rules(plan, &palette));
     let late: Vec<bool> = plan.jobs.iter().map(PlannedJob::is_late).collect();
     let order: Vec<&str> = plan.order.iter().map(|job| plan.jobs[usize::from(*job)].label.as_str()).collect();
-    let notes = road::notes(plan).join(" ");
+    let notes = [lateness::notes(plan), road::notes(plan)].concat().join(" ");
     format!(
         "{}<body>\n<main>\n{}<section class=\"table\">\n<h2>{title}</h2>\n<p>{}</p>\n{}</section>\n</main>\n\
-         <footer>{}{}<p>No valid plan of this sheet ends earlier: start, end and modules of every job are those \
-         of the proved planner's card. {OF_SLACK}</p></footer>\n</body>\n</html>\n",
+         <footer>{}{}<p>{} Start, end and modules of every job are those of the proved planner's card. \
+         {OF_SLACK}</p></footer>\n</body>\n</html>\n",
         head(&title, &rules),
         chart::part(plan),
         escaped(&summary(plan).join(" ")),
         table_of(&columns(plan), &late),
         if order.is_empty() { String::new() } else { format!("<p>Starting order: {}.</p>", escaped(&order.join(", "))) },
-        if notes.is_empty() { String::new() } else { format!("<p>{}</p>", escaped(&notes)) }
+        if notes.is_empty() { String::new() } else { format!("<p>{}</p>", escaped(&notes)) },
+        plan.none_earlier()
     )
 }
 

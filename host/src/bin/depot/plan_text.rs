@@ -1,13 +1,13 @@
 //! The plan for eyes, and the printing program's lines.
 use crate::planned::{lateness_in_words, ranges, slack_in_words, Planned, PlannedJob, OF_SLACK};
-use crate::road;
 use crate::style::Style;
+use crate::{lateness, road};
 use std::fmt::Write;
 
-/// Exactly the printing program's lines.
+/// Exactly the printing program's lines for the sheet that was planned.
 pub fn raw(plan: &Planned) -> String {
     let mut text = format!("plan {} {} {}\n", plan.end, plan.jobs.len(), plan.modules);
-    for job in &plan.jobs {
+    for job in plan.numbering.jobs().iter().map(|number| &plan.jobs[*number]) {
         let row = &job.row;
         writeln!(text, "{} {} {} {:016X} {}", row.start, row.end, job.lateness(), row.modules, job.label).unwrap();
     }
@@ -126,8 +126,8 @@ pub fn table(plan: &Planned, style: Style) -> String {
         writeln!(text, "{line}").unwrap();
     }
     let order: Vec<&str> = plan.order.iter().map(|job| plan.jobs[usize::from(*job)].label.as_str()).collect();
-    writeln!(text, "\nStarting order: {}.\nNo valid plan of this sheet ends earlier. {OF_SLACK}", order.join(", ")).unwrap();
-    for note in road::notes(plan) {
+    writeln!(text, "\nStarting order: {}.\n{} {OF_SLACK}", order.join(", "), plan.none_earlier()).unwrap();
+    for note in lateness::notes(plan).into_iter().chain(road::notes(plan)) {
         writeln!(text, "{note}").unwrap();
     }
     text

@@ -2,7 +2,10 @@
 use crate::clock::Clock;
 use crate::list;
 use crate::outcome::{bytes_of, Trouble};
-use depot_host::{label_of, Card, Job, JobSlack, Reading, Refusal, Row};
+use crate::search::Found;
+use depot_host::on_time::{Deadlines, OnTime};
+use depot_host::order::Order;
+use depot_host::{label_of, Job, JobSlack, Reading, Refusal, Row};
 
 /// A job sheet, and what is known of it beside its bytes.
 pub struct Yard {
@@ -25,6 +28,10 @@ impl Yard {
         let refused = |refusal: Refusal| Trouble::List(format!("{file}: refused {}: {refusal}\n", refusal.number()));
         Ok(Yard { name: file.into(), sheet: list.sheet().map_err(refused)?, clock: list.clock, lines: list.lines })
     }
+
+    pub fn is_list(&self) -> bool {
+        !self.lines.is_empty()
+    }
 }
 
 /// Whether a file is a list by its name.
@@ -45,6 +52,8 @@ pub struct PlannedJob {
     pub row: Row,
     /// Where it was asked for.
     pub slack: Option<JobSlack>,
+    /// The end that no plan of it can be earlier than, where that is after its departure.
+    pub always_late: Option<u16>,
 }
 
 impl PlannedJob {
@@ -74,22 +83,36 @@ pub struct Planned {
     pub clock: Clock,
     /// Whether the clock's start was given; without it the clock shows hours and minutes since the start.
     pub has_start: bool,
+    /// How the jobs stand on the sheet that was planned.
+    pub numbering: Order,
+    /// What is known of plans in which nobody is late.
+    pub on_time: Option<OnTime>,
+    pub of_list: bool,
+    /// Whether nobody was to be late, even if the plan ends later.
+    pub on_time_asked: bool,
 }
 
 impl Planned {
-    pub fn new(yard: &Yard, reading: Reading, card: Card, slacks: Option<Vec<JobSlack>>) -> Planned {
+    pub fn new(yard: &Yard, found: Found) -> Planned {
+        let Found { reading, card, slacks, order: numbering, on_time, on_time_asked, .. } = found;
+        let always_late = Deadlines::of(&yard.sheet, &reading).always_late();
         let labels = labels(&yard.sheet, &reading);
-        let parts = labels.into_iter().zip(reading.jobs).zip(card.rows);
         let mut slacks = slacks.into_iter().flatten();
+        let parts = labels.into_iter().zip(reading.jobs).zip(card.rows).zip(always_late);
+        let job = |(((label, job), row), always_late)| PlannedJob { label, job, row, slack: slacks.next(), always_late };
         Planned {
             name: yard.name.rsplit('/').next().unwrap_or(&yard.name).into(),
             modules: reading.modules,
             changeover: reading.changeover,
-            jobs: parts.map(|((label, job), row)| PlannedJob { label, job, row, slack: slacks.next() }).collect(),
+            jobs: parts.map(job).collect(),
             order: card.order,
             end: card.end,
             clock: yard.clock.unwrap_or(Clock::FROM_ZERO),
             has_start: yard.clock.is_some(),
+            numbering,
+            on_time,
+            of_list: yard.is_list(),
+            on_time_asked,
         }
     }
 
@@ -119,6 +142,14 @@ impl Planned {
     /// How many of what, in words.
     pub fn size(&self) -> String {
         counted(self.jobs.len(), self.modules, self.changeover)
+    }
+
+    /// That no plan ends earlier; where one that is late might, of which plans none does.
+    pub fn none_earlier(&self) -> &'static str {
+        if self.on_time_asked {
+            return "No valid plan in which nobody is late ends earlier.";
+        }
+        "No valid plan of this sheet ends earlier."
     }
 
     /// The plan's end, in words.
