@@ -279,10 +279,20 @@ fn words() {
         &["plan", "a", "--start", "25:00"],
         "depot plan: --start: found '25:00'; allowed is a time of day, 00:00 to 23:59; 'depot plan --help' shows what it takes\n",
     );
+    for word in ["1T", "99999999M", "17G", "-1"] {
+        let allowed = "allowed is 0 to 16G, in bytes or with K, M or G behind the number";
+        let said = format!("depot plan: --memory: found '{word}'; {allowed}; 'depot plan --help' shows what it takes\n");
+        usage(&["plan", "a", "--memory", word], &said);
+    }
     usage(
-        &["plan", "a", "--memory", "1G"],
-        "depot plan: --memory: found '1G'; allowed is a number of bytes, or one with K or M; 'depot plan --help' shows what it takes\n",
+        &["plan", "a", "--svg", "-", "--html", "-"],
+        "depot plan: --svg - and --html - exclude each other; 'depot plan --help' shows what it takes\n",
     );
+    usage(
+        &["run", "a", "--html=-", "--json"],
+        "depot run: --html - and --json exclude each other; 'depot run --help' shows what it takes\n",
+    );
+    usage(&["pl\u{1b}[A"], "depot: there is no verb 'pl\\u{1b}[A'; 'depot --help' names the verbs\n");
     usage(
         &["plan", "a", "--start", "1:00", "--start", "2:00"],
         "depot plan: --start stands twice; 'depot plan --help' shows what it takes\n",
@@ -307,6 +317,19 @@ fn files() {
     let unwritable = depot(&["plan", "examples/small-depot.csv", "--svg", "no/such/folder.svg"], b"");
     assert_eq!((unwritable.status, unwritable.text().as_str()), (2, ""));
     assert_eq!(unwritable.errors, "depot: 'no/such/folder.svg' cannot be written: there is no such file or folder\n");
+}
+
+/// Keys that a terminal sends as control bytes are shown, not sent back.
+#[test]
+fn control_bytes() {
+    let ran = depot(&["desk"], b"open 10 4/10 3/10\nclaim\t0 1\n\x1b[Aclaim 0 1\x07\n");
+    let shown = "found '\\u{1b}[Aclaim 0 1\\u{7}'; allowed: a command in plain text, without keys such as the arrows";
+    assert_eq!((ran.status, ran.text().lines().last()), (2, Some(shown)));
+    assert!(ran.text().contains("\ngranted: claims 1 kW"), "a tab is a space");
+    let script = file("keys.desk", b"10\tclaim neighbour 1\n20 claim neighbour \x1b[D1\n");
+    let ran = depot(&["run", "examples/small-depot.csv", "--script", &script], b"");
+    assert_eq!((ran.status, ran.errors.lines().count()), (2, 1));
+    assert!(ran.errors.contains("line 2: found '\\u{1b}[D1'") && !ran.errors.contains('\x1b'), "{}", ran.errors);
 }
 
 /// A line that is no command is named, the others are still taken, and the status says it.

@@ -28,7 +28,7 @@ fn same(path: &str, found: &[u8]) {
 
 /// What a run said on standard error, but for how long it has been searching: that depends on what else the machine does.
 fn faults(ran: &Run) -> Vec<&str> {
-    let progress = ["a long search: ", "searching for the earliest end: ", "searched for "];
+    let progress = ["a long search: ", "searching for ", "searched for "];
     ran.errors.lines().filter(|line| !progress.iter().any(|start| line.starts_with(start))).collect()
 }
 
@@ -317,6 +317,21 @@ fn shorter_cells_change_nothing() {
     let implied = |text: String| text.lines().filter(|line| line.split(' ').nth(3) != Some("00000000")).count();
     assert_eq!((implied(raw(&long)), implied(raw(&short))), (3, 0));
     assert!(!depot(&["slack", &short], b"").text().contains("Not needed"));
+}
+
+/// A file that is standard output is all that goes there.
+#[test]
+fn files_to_standard_output() {
+    let list = "examples/small-depot.csv";
+    for (verb, option) in
+        [("plan", "--svg"), ("plan", "--html"), ("plan", "--sheet"), ("plan", "--card"), ("run", "--svg"), ("run", "--html")]
+    {
+        let target = file("one.out", b"");
+        assert_eq!(depot(&[verb, list, option, &target], b"").status, 0);
+        let ran = depot(&[verb, list, option, "-"], b"");
+        assert_eq!((ran.status, ran.errors.as_str()), (0, ""));
+        assert_eq!(ran.output, fs::read(&target).unwrap(), "{verb} {option} -");
+    }
 }
 
 /// Nights of the examples beside a greedy neighbour, and beside a workshop that has a script: every call of the plan is granted.

@@ -58,7 +58,7 @@ It takes less time than the plan. A name that ends in .csv is a list, every othe
   --start HH:MM    the plan's start as a time of day, in place of the list's
   --raw            the minute alone, counted from the start
   --json           for programs
-  --memory BYTES   working memory of the search, with K or M (16M); 0 is allowed, and no length changes the answer
+  --memory BYTES   working memory of the search, 0 to 16G, with K, M or G (16M); no length changes the answer
 ";
 
 const SIZE: &str = "\
@@ -75,7 +75,7 @@ standard input.
   --raw            the number of modules alone
   --json           for programs
   --card OUT       the bytes of the plan card for that many modules too
-  --memory BYTES   working memory of the search, with K or M (16M); 0 is allowed, and no length changes the answer
+  --memory BYTES   working memory of the search, 0 to 16G, with K, M or G (16M); no length changes the answer
 ";
 
 const USE: &str = "\
@@ -90,7 +90,7 @@ other a job sheet; - is a sheet on standard input.
   --start HH:MM    the plans' start as a time of day, in place of the lists'
   --raw            the per mille and the remainder alone, a line a list
   --json           for programs
-  --memory BYTES   working memory of the search, with K or M (16M); 0 is allowed, and no length changes the answer
+  --memory BYTES   working memory of the search, 0 to 16G, with K, M or G (16M); no length changes the answer
 ";
 
 const PLAN: &str = "\
@@ -111,8 +111,8 @@ Table, page, picture and --json have the list's order and numbers; --raw, --card
   --svg OUT        a picture of the plan too
   --html OUT       a page with the picture and the table too
   --sheet OUT      the job sheet that was planned too: a cabinet that plans it comes to this plan
-  --card OUT       the plan card's bytes too, of that sheet
-  --memory BYTES   working memory of the search, with K or M (16M); 0 is allowed, and no length changes the answer
+  --card OUT       the plan card's bytes too, of that sheet; of these files one may be -, standard output, and is then all that goes there
+  --memory BYTES   working memory of the search, 0 to 16G, with K, M or G (16M); no length changes the answer
 ";
 
 const SLACK: &str = "\
@@ -129,7 +129,7 @@ standard input.
   --start HH:MM    the plan's start as a time of day, in place of the list's
   --raw            a line for each job in the list's order: start, latest start, slack, implied waits as a set of jobs, label
   --json           for programs
-  --memory BYTES   working memory of the search, with K or M (16M); 0 is allowed, and no length changes the answer
+  --memory BYTES   working memory of the search, 0 to 16G, with K, M or G (16M); no length changes the answer
 ";
 
 const SETS: &str = "\
@@ -211,8 +211,9 @@ neighbour claims all that a look shows, every minute, and hands back at some min
   --start HH:MM      the plan's start as a time of day, in place of the list's
   --json             for programs
   --svg OUT          a picture of the night too
-  --html OUT         a page with the night's picture, the plan's and the calls too
-  --memory BYTES     working memory of the search, with K or M (16M); 0 is allowed, and no length changes the answer
+  --html OUT         a page with the night's picture, the plan's and the calls too; one of the two may be -, standard output, and is
+                     then all that goes there
+  --memory BYTES     working memory of the search, 0 to 16G, with K, M or G (16M); no length changes the answer
 
 Exit status: 0 every call of the plan was granted; 1 the start or a call of the plan was refused, or the list has faults; 2 wrong usage, or
 some line of the script is no call.

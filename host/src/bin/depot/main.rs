@@ -5,6 +5,7 @@ mod clock;
 mod desk;
 mod end_verb;
 mod explain;
+mod files;
 mod help;
 mod json;
 mod lateness;
@@ -72,6 +73,6 @@ fn run(words: &[String]) -> Result<Outcome, Trouble> {
         "help" => help::run(rest),
         "--help" | "-h" => outcome::say(help::TOP),
         "--version" | "-V" => outcome::say(&versions()),
-        _ => Err(Trouble::usage(format!("there is no verb '{verb}'"), "")),
+        _ => Err(Trouble::usage(format!("there is no verb '{}'", outcome::visible(verb)), "")),
     }
 }

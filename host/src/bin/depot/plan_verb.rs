@@ -1,7 +1,8 @@
 //! `depot plan`: from a list or a sheet to the plan, as a table, lines, JSON, a picture, a page, a card.
 use crate::arguments::{Arguments, Takes};
 use crate::clock::{Clock, START_ALLOWED};
-use crate::outcome::{put, say, Outcome, Trouble};
+use crate::files::Files;
+use crate::outcome::{say, Outcome, Trouble};
 use crate::planned::{Planned, Yard};
 use crate::search::{By, Failed, Found};
 use crate::style::Style;
@@ -17,7 +18,13 @@ const TAKES: Takes = Takes {
     more: false,
 };
 
+/// The search's working memory where none is asked for, and the most that may be.
 const MEMORY: usize = 16 << 20;
+const MOST_MEMORY: usize = 16 << 30;
+const MEMORY_ALLOWED: &str = "0 to 16G, in bytes or with K, M or G behind the number";
+
+/// So many searches run at the same time.
+const SEARCHES: usize = 2;
 
 /// What is printed on standard output.
 #[derive(Clone, Copy, PartialEq, Eq)]
@@ -30,6 +37,7 @@ pub enum Form {
 pub fn run(words: &[String]) -> Result<Outcome, Trouble> {
     let arguments = Arguments::read(&TAKES, words)?;
     let asked = Asked::by(&arguments)?;
+    let files = Files::of(&arguments, &["--sheet", "--card", "--svg", "--html"])?;
     let yard = Yard::open(arguments.plain(0).expect("a file is needed"), asked.start)?;
     let with_slack = asked.form != Form::Raw || arguments.value("--html").is_some();
     let found = match asked.plan(&yard, with_slack) {
@@ -38,12 +46,11 @@ pub fn run(words: &[String]) -> Result<Outcome, Trouble> {
     };
     let (sheet, bytes) = (found.sheet.clone(), found.bytes.clone());
     let plan = Planned::new(&yard, found);
-    let file = |option, bytes: &dyn Fn() -> Vec<u8>| arguments.value(option).map_or(Ok(()), |file| put(file, &bytes()));
-    file("--sheet", &|| sheet.clone())?;
-    file("--card", &|| bytes.clone())?;
-    file("--svg", &|| chart::file(&plan).into_bytes())?;
-    file("--html", &|| page::text(&plan).into_bytes())?;
-    say(&match asked.form {
+    files.write("--sheet", || sheet)?;
+    files.write("--card", || bytes)?;
+    files.write("--svg", || chart::file(&plan).into_bytes())?;
+    files.write("--html", || page::text(&plan).into_bytes())?;
+    files.then_say(|| match asked.form {
         Form::Table => plan_text::table(&plan, Style::of_output()),
         Form::Raw => plan_text::raw(&plan),
         Form::Json => plan_json::text(&plan),
@@ -62,14 +69,18 @@ impl Asked {
     pub fn by(arguments: &Arguments) -> Result<Asked, Trouble> {
         let form = form(arguments)?;
         let start = arguments.read_value("--start", Clock::starting, START_ALLOWED)?;
-        let memory = arguments.read_value("--memory", units::bytes, "a number of bytes, or one with K or M")?;
+        let bytes = |word: &str| units::bytes(word).filter(|bytes| *bytes <= MOST_MEMORY);
+        let memory = arguments.read_value("--memory", bytes, MEMORY_ALLOWED)?.unwrap_or(MEMORY);
+        if Vec::<u8>::new().try_reserve_exact(SEARCHES * memory).is_err() {
+            return Err(Trouble::usage("--memory: this machine does not give so much", arguments.verb()));
+        }
         let by = match (arguments.has("--by-line"), arguments.has("--on-time")) {
             (true, true) => return Err(Trouble::usage("--by-line and --on-time exclude each other", arguments.verb())),
             (true, false) => Some(By::Line),
             (false, true) => Some(By::OnTime),
             (false, false) => None,
         };
-        Ok(Asked { form, start, memory: memory.unwrap_or(MEMORY), by })
+        Ok(Asked { form, start, memory, by })
     }
 
     /// The plan of a yard: where nothing else is asked for that of a list by its departures, and a sheet as it is.

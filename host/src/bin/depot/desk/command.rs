@@ -1,5 +1,6 @@
 //! A line's command.
 use crate::clock::whole;
+use crate::outcome::visible;
 use depot_host::units::power;
 use depot_host::Refusal;
 
@@ -31,6 +32,9 @@ pub enum Command {
 
 /// The command of a line, or why it is none; `names` are the controllers'.
 pub fn read(line: &str, names: &[String]) -> Result<Command, String> {
+    if line.chars().any(|c| c.is_control() && c != '\t') {
+        return Err(format!("found '{}'; allowed: a command in plain text, without keys such as the arrows", visible(line)));
+    }
     let words: Vec<&str> = line.split_whitespace().collect();
     match &words[..] {
         ["open", limit, places @ ..] => open(limit, places),

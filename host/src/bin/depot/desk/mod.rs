@@ -5,7 +5,7 @@ mod reasons;
 mod session;
 
 use crate::arguments::{Arguments, Takes};
-use crate::outcome::{bytes_of, say, Outcome, Trouble};
+use crate::outcome::{bytes_of, say, visible, Outcome, Trouble};
 use crate::{help, json};
 use depot_host::{Desk, Refusal};
 use session::{Answer, Session};
@@ -36,7 +36,7 @@ pub fn run(words: &[String]) -> Result<Outcome, Trouble> {
         let bytes = bytes_of(file)?;
         for (place, line) in String::from_utf8_lossy(&bytes).lines().enumerate() {
             let silent = as_json || line.trim().is_empty();
-            say(&if silent { String::new() } else { format!("> {line}\n") })?;
+            say(&if silent { String::new() } else { format!("> {}\n", visible(line)) })?;
             if !lines.take(&mut session, line, as_json, &format!("{file}, line {}: ", place + 1))? {
                 break;
             }

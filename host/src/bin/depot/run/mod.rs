@@ -10,7 +10,8 @@ mod words;
 use crate::arguments::{Arguments, Takes};
 use crate::clock::whole;
 use crate::desk::{named_controller, Place};
-use crate::outcome::{put, say, Outcome, Trouble};
+use crate::files::Files;
+use crate::outcome::{say, Outcome, Trouble};
 use crate::plan_verb::{not_planned, Asked, Form};
 use crate::planned::{Planned, Yard};
 use crate::style::Style;
@@ -35,6 +36,7 @@ pub fn run(words: &[String]) -> Result<Outcome, Trouble> {
     let arguments = Arguments::read(&TAKES, words)?;
     let asked = Asked::by(&arguments)?;
     let form = asked.form;
+    let files = Files::of(&arguments, &["--svg", "--html"])?;
     let kilowatts = |option| arguments.read_value(option, |word| units::power(word).ok(), "kW in whole hundreds of watts");
     let (size, limit) = (kilowatts("--size")?.unwrap_or(SIZE), kilowatts("--limit")?);
     let yard = Yard::open(arguments.plain(0).expect("a file is needed"), asked.start)?;
@@ -52,10 +54,9 @@ pub fn run(words: &[String]) -> Result<Outcome, Trouble> {
         Ok(night) => night,
         Err((refusal, why)) => return told(&yard.name, refusal, &why, form),
     };
-    let file = |option, bytes: &dyn Fn() -> Vec<u8>| arguments.value(option).map_or(Ok(()), |file| put(file, &bytes()));
-    file("--svg", &|| picture::file(&night).into_bytes())?;
-    file("--html", &|| page::text(&night).into_bytes())?;
-    say(&if form == Form::Json { in_json::text(&night) } else { words::text(&night, Style::of_output()) })?;
+    files.write("--svg", || picture::file(&night).into_bytes())?;
+    files.write("--html", || page::text(&night).into_bytes())?;
+    files.then_say(|| if form == Form::Json { in_json::text(&night) } else { words::text(&night, Style::of_output()) })?;
     Ok(if night.is_granted() { Outcome::Answered } else { Outcome::Refused })
 }
 

@@ -1,7 +1,7 @@
 //! What the other controllers do: a script's calls at their minutes, or a greedy neighbour.
 use crate::clock::whole;
 use crate::desk::{command, Command, Place};
-use crate::outcome::{bytes_of, Trouble};
+use crate::outcome::{bytes_of, visible, Trouble};
 use crate::planned::Planned;
 use depot_host::random::Random;
 use depot_host::Desk;
@@ -87,7 +87,7 @@ impl Script {
             if line.is_empty() || line.starts_with('#') {
                 continue;
             }
-            if let Err(why) = script.take(line, plan) {
+            if let Err(why) = script.take(&visible(&line.replace('\t', " ")), plan) {
                 faults.push(format!("{file}, line {}: {why}", place + 1));
             }
         }
