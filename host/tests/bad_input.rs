@@ -38,8 +38,10 @@ fn fields() {
     for word in ["2881", "x"] {
         row(&format!("A,1,10,,{word}"), &format!("line 3, column 5 (departure): found '{word}'; allowed: {}", number(0, 2880)));
     }
-    let before_start = "a minute from 0 to 2880; a time of day only behind a line 'start,hh:mm'";
-    row("A,1,10,,05:30", &format!("line 3, column 5 (departure): found '05:30'; allowed: {before_start}"));
+    let before_start = "a minute from 0 to 2880; a time of day, hh:mm, only behind a line 'start,hh:mm'";
+    for word in ["05:30", "4.10", "4h10", "1.5"] {
+        row(&format!("A,1,10,,{word}"), &format!("line 3, column 5 (departure): found '{word}'; allowed: {before_start}"));
+    }
 }
 
 #[test]
@@ -49,11 +51,11 @@ fn arrivals() {
         let line = if start.is_empty() { 3 } else { 4 };
         assert_eq!(faults(list.as_bytes()), [format!("line {line}, column 5 (arrival): found '{word}'; allowed: {allowed}")]);
     };
-    for word in ["1441", "x", "-1", "1.5"] {
+    for word in ["1441", "x", "-1"] {
         fault("", word, "a whole number from 0 to 1440");
     }
-    fault("", "20:30", "a minute from 0 to 1440; a time of day only behind a line 'start,hh:mm'");
-    for word in ["24:00", "5:3", "21:01+1", "20:00+0", "05:30+2"] {
+    fault("", "20:30", "a minute from 0 to 1440; a time of day, hh:mm, only behind a line 'start,hh:mm'");
+    for word in ["24:01", "5:3", "21:01+1", "20:00+0", "05:30+2", "4.10", "4h10", "x"] {
         let allowed = "a minute from 0 to 1440, or a time hh:mm (hh:mm+1 on the next day) within 24 hours from the start";
         fault("start,21:00\n", word, allowed);
     }
@@ -62,7 +64,7 @@ fn arrivals() {
 #[test]
 fn times_of_day() {
     let allowed = "a minute from 0 to 2880, or a time hh:mm (hh:mm+1 on the next day) within 48 hours from the start";
-    for word in ["24:00", "5:3", "05:30+3", "20:00+0", "21:01+2"] {
+    for word in ["24:01", "5:3", "05:30+3", "20:00+0", "21:01+2", "4.10", "4h10", "04:10:30", "soon"] {
         let list = format!("start,21:00\n{HEAD}A,1,10,,{word}\n");
         let fault = format!("line 4, column 5 (departure): found '{word}'; allowed: {allowed}");
         assert_eq!(faults(list.as_bytes()), [fault]);
@@ -113,10 +115,8 @@ fn names_in_after() {
 fn the_cabinet() {
     for (word, found) in [("0", "'0'"), ("65", "'65'"), ("x", "'x'"), ("-3", "'-3'")] {
         let fault = format!("line 1, column 2 (modules of the cabinet): found {found}; allowed: a whole number from 1 to 64");
-        let missing =
-            "line 2: found no line 'cabinet' with a number of modules before the header; allowed: 'cabinet,N', N from 1 to 64";
         let list = format!("cabinet,{word}\nlabel,modules,minutes,departure\n");
-        assert_eq!(faults(list.as_bytes()), [&fault, missing]);
+        assert_eq!(faults(list.as_bytes()), [fault]);
     }
     let missing =
         "line 1: found no line 'cabinet' with a number of modules before the header; allowed: 'cabinet,N', N from 1 to 64";
@@ -139,16 +139,28 @@ fn the_changeover() {
     }
     let twice = format!("line 3: found a second line 'changeover'; allowed: {once}");
     assert_eq!(faults(list("changeover,5\nchangeover,0\n").as_bytes()), [twice]);
-    // behind the header it is a job's label, with too little behind it
-    let behind = faults(b"cabinet,16\nlabel,modules,minutes,departure\nchangeover,5\n");
-    assert_eq!(behind.len(), 2, "{behind:?}");
+}
+
+/// Lines that are meant for settings and stand in the wrong place, or have another name: the others are still read.
+#[test]
+fn settings_out_of_place() {
+    let below = |name: &str| format!("found '{name}' below the header; allowed: a line '{name}' above the header");
+    let list = b"label;modules;minutes;departure\ncabinet;16\nA;1;10;30\nstart;21:00\nChangeover;5\nB;0;10;30\n";
+    let number = "line 6, column 2 (modules): found '0'; allowed: a whole number from 1 to 255";
+    let [cabinet, start, changeover] = ["cabinet", "start", "changeover"].map(below);
+    let expected = [format!("line 2: {cabinet}"), format!("line 4: {start}"), format!("line 5: {changeover}"), number.into()];
+    assert_eq!(faults(list), expected);
+    let word = faults(b"Schrank;32;;;\nlabel;modules;minutes;departure\nA;1;10;30\nB;0;10;30\n");
+    let allowed = "'cabinet,N', 'changeover,C', 'start,hh:mm' or the header line";
+    let number = "line 4, column 2 (modules): found '0'; allowed: a whole number from 1 to 255";
+    assert_eq!(word, [&format!("line 1: found 'Schrank;32'; allowed: {allowed}"), number]);
+    // with figures behind it, it is a job's label
+    let labels = b"cabinet,4\nlabel,modules,minutes,departure\nstart,1,10,30\ncabinet,1,10,30\n";
+    assert_eq!(depot(&["sheet", "-", "-o", "-"], labels).status, 0);
 }
 
 #[test]
 fn columns() {
-    let all = "the columns label, modules, minutes, after, departure, arrival";
-    let unknown = faults(b"cabinet,4\nlabel,modules,minutes,departure,price\nA,1,10,30\n");
-    assert_eq!(unknown, [format!("line 2, column 5 (header): found 'price'; allowed: {all}")]);
     let needed =
         "a header line with label, modules, minutes, departure; after where jobs wait for others; arrival where buses are \
                   still on the road";
@@ -179,8 +191,9 @@ fn columns() {
 fn whole_lists() {
     let many = format!("{HEAD}{}", "A,1,10,,30\n".repeat(21));
     assert_eq!(faults(many.as_bytes()), ["line 23: found job 21 of 21; allowed: up to 20 jobs"]);
-    let no_text = [HEAD.as_bytes(), b"A,1,10,,30\n\xff\xfe,1,10,,30\n"].concat();
-    assert_eq!(faults(&no_text), ["line 4: found bytes that are no text; allowed: text in UTF-8"]);
+    let windows = [HEAD.as_bytes(), b"# K\xfchler\nA,1,10,,30\nB\xfc1,1,10,,30\n"].concat();
+    let plain = "plain letters, digits, signs and spaces (bytes 32 to 126)";
+    assert_eq!(faults(&windows), [format!("line 5, column 1 (label): found 'Bü1' with 'ü' in it; allowed: {plain}")]);
     let header = "found no header line; allowed: a line with the columns label,modules,minutes,after,departure,arrival";
     assert_eq!(faults(b"cabinet,4\n"), [format!("line 1: {header}")]);
     assert_eq!(faults(b"").len(), 2);
@@ -242,17 +255,6 @@ fn sheets_that_do_not_read() {
             assert_eq!((json.status, json.errors.as_str()), (1, ""));
             assert!(json.text().starts_with(&format!("{{\"refused\": {number}, \"why\": ")));
         }
-    }
-}
-
-/// A list by another name is taken for a sheet; what is said helps.
-#[test]
-fn a_list_taken_for_a_sheet() {
-    for verb in ["plan", "list"] {
-        let ran = depot(&[verb, "-"], format!("{HEAD}A,1,10,,30\n").as_bytes());
-        assert_eq!(ran.status, 1);
-        let help = "  this looks like a list: 'depot plan' and 'depot sheet' take it by a name that ends in .csv";
-        assert_eq!(ran.errors.lines().nth(1), Some(help), "{}", ran.errors);
     }
 }
 

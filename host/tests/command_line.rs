@@ -618,6 +618,53 @@ fn lists_as_people_write_them() {
     }
 }
 
+/// Lists by any name and on standard input, in the codings and with the signs of spreadsheets: every verb takes them, and sheets.
+#[test]
+fn lists_by_any_name() {
+    let plain = "cabinet,4\nstart,20:00\nlabel,modules,minutes,after,departure\nA,1,10,,00:00\nB,2,20,A,04:10\n";
+    let sheet = depot(&["sheet", &file("plain.csv", plain.as_bytes()), "-o", "-"], b"").output;
+    let tabs = plain.replace(',', "\t");
+    let utf_16 = |text: &str| [&[0xFF, 0xFE][..], &text.encode_utf16().flat_map(u16::to_le_bytes).collect::<Vec<u8>>()].concat();
+    let windows = [b"# K\xfchler\n", plain.as_bytes()].concat();
+    let seconds = plain.replace("00:00", "24:00").replace("04:10", "04:10:00");
+    for list in [plain.as_bytes(), tabs.as_bytes(), &utf_16(plain), &utf_16(&tabs), &windows, seconds.as_bytes()] {
+        for name in ["-", &file("list.txt", list), &file("list", list), &file("list.csv", list)] {
+            let ran = depot(&["sheet", name, "-o", "-"], list);
+            assert_eq!((ran.status, ran.errors.as_str()), (0, ""), "{}", String::from_utf8_lossy(list));
+            assert_eq!(ran.output, sheet, "{}", String::from_utf8_lossy(list));
+        }
+    }
+    for words in [&["plan"][..], &["end"], &["slack"], &["use"], &["sets"], &["run"], &["size", "--by", "300"], &["list"]] {
+        let of = |name: &str, input: &[u8]| depot(&[&words[..1], &[name], &words[1..]].concat(), input);
+        let (typed, named) = (of("-", plain.as_bytes()), of(&file("list.txt", plain.as_bytes()), b""));
+        assert_eq!((typed.status, named.status), (0, 0), "{words:?}: {}", typed.errors);
+        assert_eq!(typed.text().replace("-: ", "list.txt: "), named.text(), "{words:?}");
+        assert_eq!(of(&file("sheet.csv", &sheet), b"").status, 0, "a sheet by a list's name");
+    }
+    assert_eq!(depot(&["list", "-"], plain.as_bytes()).text(), plain.replace("00:00", "00:00+1").replace("04:10", "04:10+1"));
+    assert_eq!(depot(&["sheet", "-", "-o", "-"], &sheet).output, sheet);
+}
+
+/// What is taken though it may not be meant is said on standard error.
+#[test]
+fn lists_that_are_worth_a_word() {
+    let said = |text: &str| {
+        let list = file("word.csv", text.as_bytes());
+        let ran = depot(&["plan", &list, "--raw"], b"");
+        assert_eq!(ran.status, 0, "{}", ran.errors);
+        ran.errors.replace(&list, "LIST")
+    };
+    let columns = "cabinet;4\nlabel;driver;modules;minutes;;departure;notes\nA;M\u{fc}ller;1;10;x;30;\"a; b\"\nB;;1;10;;30\n";
+    assert_eq!(said(columns), "LIST: passed over the columns driver, notes\n");
+    assert_eq!(said("cabinet,4\nlabel,modules,minutes,departure,afte\nA,1,10,30,B\n"), "LIST: passed over the column afte\n");
+    let past = "cabinet,4\nstart,22:00\nlabel,modules,minutes,departure,arrival\nE1,1,10,21:30,\nE2,1,10,14:00,\nE3,1,10,21:30+1,21:59\n";
+    assert_eq!(
+        said(past),
+        "LIST, line 4: E1 departs at 21:30; with a start at 22:00 that is taken for 21:30+1, 23 h 30 min later\n\
+         LIST, line 6: E3 arrives at 21:59; with a start at 22:00 that is taken for 21:59+1, 23 h 59 min later\n"
+    );
+}
+
 /// Arrivals as minutes, as times of day, as empty cells or in no column at all.
 #[test]
 fn arrivals_as_people_write_them() {

@@ -18,7 +18,7 @@ impl Clock {
 
     /// The clock of a plan that starts at this time of day.
     pub fn starting(word: &str) -> Option<Clock> {
-        time_of_day(word).map(|start| Clock { start: Some(start) })
+        time_of_day(word).map(|start| Clock { start: Some(start % DAY) })
     }
 
     /// `21:05`; past the start's day `05:20+1`, with the days since then. Without a start the hours run on: `26:30`.
@@ -58,13 +58,15 @@ fn hours(minutes: u32) -> String {
     format!("{:02}:{:02}", minutes / 60, minutes % 60)
 }
 
+/// The minutes of `7:05`, `07:05` or, as spreadsheets write it, `07:05:00`; `24:00` is the day's end.
 fn time_of_day(word: &str) -> Option<u32> {
     let (hour, minute) = word.split_once(':')?;
+    let minute = minute.strip_suffix(":00").unwrap_or(minute);
     if hour.is_empty() || hour.len() > 2 || minute.len() != 2 {
         return None;
     }
     let (hour, minute) = (whole(hour)?, whole(minute)?);
-    (hour < 24 && minute < 60).then_some(60 * hour + minute)
+    (hour < 24 && minute < 60 || hour == 24 && minute == 0).then_some(60 * hour + minute)
 }
 
 /// A number written in digits alone.
@@ -87,6 +89,8 @@ mod tests {
         assert_eq!(clock.minute("05:20"), Some(470));
         assert_eq!(clock.minute("21:29"), Some(1439));
         assert_eq!(clock.minute("9:05"), Some(695));
+        assert_eq!(["24:00", "24:00+1", "09:05:00"].map(|word| clock.minute(word)), [Some(150), Some(1590), Some(695)]);
+        assert_eq!(Clock::starting("24:00"), Clock::starting("00:00"));
         assert_eq!([0, 90, 1590].map(|minute| Clock::FROM_ZERO.time(minute)), ["0:00", "1:30", "26:30"]);
     }
 
@@ -104,12 +108,25 @@ mod tests {
     #[test]
     fn what_is_no_time() {
         let clock = Clock::starting("21:30").unwrap();
-        for word in
-            ["", ":", "24:00", "12:60", "1:5", "12:5", "123:00", "-1:00", "12:00+", "12:00+x", "12:00+100", "a:00", "20:00+0"]
-        {
+        for word in [
+            "",
+            ":",
+            "24:01",
+            "12:60",
+            "1:5",
+            "12:5",
+            "123:00",
+            "-1:00",
+            "12:00+",
+            "12:00+x",
+            "12:00+100",
+            "a:00",
+            "20:00+0",
+            "1:00:01",
+        ] {
             assert_eq!(clock.minute(word), None, "{word}");
         }
-        for word in ["", "24:00", "7", "07:00+1", "07.00"] {
+        for word in ["", "24:30", "7", "07:00+1", "07.00"] {
             assert_eq!(Clock::starting(word), None, "{word}");
         }
     }

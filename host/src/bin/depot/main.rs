@@ -2,6 +2,7 @@
 mod arguments;
 mod chart;
 mod clock;
+mod coding;
 mod desk;
 mod end_verb;
 mod explain;

@@ -18,13 +18,14 @@ pub struct Yard {
 }
 
 impl Yard {
-    /// The yard of a list, where the name ends in `.csv`, or of a sheet; a given start stands in place of the list's.
+    /// The yard of a list or of a sheet, which their bytes tell; a given start stands in place of the list's.
     pub fn open(file: &str, start: Option<Clock>) -> Result<Yard, Trouble> {
         let bytes = bytes_of(file)?;
-        if !is_list(file) {
+        if !list::is_list(file, &bytes) {
             return Ok(Yard { name: file.into(), sheet: bytes, clock: start, lines: Vec::new() });
         }
         let list = list::read(file, &bytes, start)?;
+        list.notes.iter().for_each(|note| eprintln!("{note}"));
         let refused = |refusal: Refusal| Trouble::List(format!("{file}: refused {}: {refusal}\n", refusal.number()));
         Ok(Yard { name: file.into(), sheet: list.sheet().map_err(refused)?, clock: list.clock, lines: list.lines })
     }
@@ -32,11 +33,6 @@ impl Yard {
     pub fn is_list(&self) -> bool {
         !self.lines.is_empty()
     }
-}
-
-/// Whether a file is a list by its name.
-pub fn is_list(file: &str) -> bool {
-    file.to_ascii_lowercase().ends_with(".csv")
 }
 
 /// The labels of a sheet, from what reading it answered.
