@@ -337,7 +337,8 @@ fn control_bytes() {
 /// A line that is no command is named, the others are still taken, and the status says it.
 #[test]
 fn desk_lines() {
-    let lines = [
+    let all = "open, change, claim, back, look, show, save, load, log, undo, explain, help, quit";
+    let lines: [(&str, &str); 29] = [
         ("claim 0 1", "there is no desk yet; open one first, as 'open 500 yard=240/420 workshop=100/200'"),
         ("open", "found 'open' alone; allowed: open LIMIT SHARE/CEILING .., as 'open 500 yard=240/420 workshop=100/200'"),
         ("open x 1/2 1/2", "found 'x'; allowed: kW, as 30 or 12.5, or modules of a size, as 3x30"),
@@ -346,7 +347,7 @@ fn desk_lines() {
         ("open 10 4/10.25 3/10", "found '10.25'; allowed: whole hundreds of watts, so 10.2 or 10.3 kW"),
         ("open 10 a=4/10 a=3/10", "found the name 'a' twice; allowed: a name for each controller"),
         ("claim 0", "found 'claim 0'; allowed: claim CONTROLLER KW, as 'claim 0 12.5'"),
-        ("claim yard 1", "found 'yard'; allowed: a controller's number"),
+        ("claim yard 1", "there is no desk yet; open one first, as 'open 500 yard=240/420 workshop=100/200'"),
         ("claim 0 -1", "found '-1'; allowed: kW, as 30 or 12.5, or modules of a size, as 3x30"),
         ("claim 0 0.05", "found '0.05'; allowed: whole hundreds of watts, so 0 or 0.1 kW"),
         ("back 0 429496729.6", "found '429496729.6'; allowed: kW, up to 40000"),
@@ -355,15 +356,31 @@ fn desk_lines() {
         ("explain x", "found 'x'; allowed: a refusal's number, 1 to 26"),
         ("change", "found 'change' alone; allowed: change LIMIT SHARE/CEILING .., as 'change 400 yard=180/360 workshop=100/200'"),
         ("change 10 4/10 3/10", "there is no desk yet; open one first, as 'open 500 yard=240/420 workshop=100/200'"),
-        ("change 10 yard=4/10 3/10", "found 'yard'; allowed: a controller's number"),
-        ("grab 1 1", "found 'grab 1 1'; allowed: open, change, claim, back, look, show, explain, help, quit"),
+        ("change 10 yard=4/10 3/10", "there is no desk yet; open one first, as 'open 500 yard=240/420 workshop=100/200'"),
+        ("save x", "there is no desk yet; open one first, as 'open 500 yard=240/420 workshop=100/200'"),
+        ("save", "found 'save'; allowed: save FILE, a name without a space"),
+        ("log a b", "found 'log a b'; allowed: log FILE, a name without a space"),
+        ("load -", "found 'load -'; allowed: load FILE, a name of its own"),
+        ("load Cargo.toml", "'Cargo.toml' cannot be read: there is no such file or folder"),
+        ("load host/Cargo.toml", "'host/Cargo.toml' is no desk; allowed: a file that 'save' wrote, or the 104 bytes of a desk"),
+        ("log no/such/folder", "'no/such/folder' cannot be written: there is no such file or folder"),
+        ("undo", "no command has changed the desk; there is nothing to undo"),
+        ("grab 1 1", &format!("found 'grab 1 1'; allowed: {all}; did you mean 'claim'?")),
+        ("hand back yard 2", &format!("found 'hand back yard 2'; allowed: {all}; did you mean 'back'?")),
+        ("hello", &format!("found 'hello'; allowed: {all}")),
     ];
     let script = file("wrong.desk", lines.map(|(line, _)| line).join("\n").as_bytes());
     let ran = depot(&["desk", &script], b"");
-    assert_eq!((ran.status, ran.errors.as_str()), (2, "depot: 19 lines are no command\n"));
+    assert_eq!((ran.status, ran.errors.as_str()), (2, "depot: 29 lines are no command; the exit status is 2\n"));
     let said: Vec<String> = ran.text().lines().filter(|line| !line.starts_with('>')).map(String::from).collect();
     let expected = lines.iter().enumerate().map(|(place, (_, why))| format!("{script}, line {}: {why}", place + 1));
     assert_eq!(said, expected.collect::<Vec<_>>());
+    let pairs = depot(&["desk"], b"open 10 yard=4/10 shop=3/10\nclaim yard=2 1\nCLAIM yard 2\n");
+    assert!(
+        pairs.text().contains("\nfound 'yard=2'; allowed: a controller and then kW, as 'yard 2'\ngranted: claims 2 kW"),
+        "{}",
+        pairs.text()
+    );
     let json = depot(&["desk", "--json"], b"grab\nopen 10 4/10 3/10\n");
     assert_eq!(json.status, 2);
     assert!(json.text().starts_with("{\"error\": \"found 'grab'; ") && json.text().contains("\"call\": \"open\""));

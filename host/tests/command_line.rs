@@ -828,8 +828,11 @@ fn fleet_numbers() {
 
 #[test]
 fn desk() {
-    golden("desk.txt", &["desk", SCRIPT], 1);
-    golden("desk.json", &["desk", SCRIPT, "--json"], 1);
+    for (name, words) in [("desk.txt", &["desk", SCRIPT][..]), ("desk.json", &["desk", SCRIPT, "--json"])] {
+        let ran = depot(words, b"");
+        assert_eq!((ran.status, ran.errors.as_str()), (1, "depot: 5 calls were refused; the exit status is 1\n"));
+        same(&format!("host/tests/golden/{name}"), &ran.output);
+    }
     let script = fs::read(top().join(SCRIPT)).unwrap();
     let typed = depot(&["desk"], &script);
     let shown = depot(&["desk", SCRIPT], b"").text();
@@ -837,6 +840,75 @@ fn desk() {
     assert_eq!(typed.text().lines().collect::<Vec<_>>(), answers);
     let calm = depot(&["desk"], b"open 10 4/10 3/10\nclaim 0 6.5\nback 0 6.5\nquit\nclaim 0 99\n");
     assert_eq!((calm.status, calm.text().lines().last()), (0, Some("done: hands back 6.5 kW; controller 0 now holds 0")));
+}
+
+/// A desk is not forgotten by mistake, and a mistake is taken back.
+#[test]
+fn desks_that_are_kept() {
+    let said = |script: &str| {
+        let ran = depot(&["desk"], script.as_bytes());
+        (ran.status, ran.text())
+    };
+    let open = "open 10 yard=4/10 shop=3/10\n";
+    let (status, held) = said(&format!("{open}claim yard 5\n{open}show\n"));
+    let refused = "this desk holds power, which would be forgotten: yard 5 kW; allowed: back first, or 'open!' to forget it";
+    assert_eq!(status, 2);
+    assert!(held.contains(refused) && held.contains("holds 5, assured 4"), "{held}");
+    let (status, anew) = said(&format!("{open}claim yard 5\nopen! 20 1/2 3/4\nshow\nback 0 0.1\n"));
+    assert!(status == 1 && anew.contains("controller 0") && anew.contains("refused 18"), "{anew}");
+    let (status, again) = said(&format!("{open}{open}"));
+    assert_eq!((status, again.matches("opened\n").count()), (0, 2), "nothing is held");
+    let (status, undone) = said(&format!("{open}claim yard 5\nclaim yard 9\nlook\nundo\nundo\nundo\n"));
+    assert_eq!(status, 2, "{undone}");
+    let lines = [
+        "undone: claim yard 5. Tell whoever acted on it",
+        "undone: open 10 yard=4/10 shop=3/10. ",
+        "no desk is open\n",
+        "nothing to undo",
+    ];
+    assert!(lines.iter().all(|line| undone.contains(line)), "{undone}");
+
+    let kept = file("kept.desk-bytes", b"");
+    let before = said(&format!("{open}claim yard 5\nsave {kept}\nshow\n"));
+    let bytes = fs::read(&kept).unwrap();
+    assert_eq!(
+        (before.0, bytes.len(), &bytes[..8], &bytes[104..]),
+        (0, 104 + 10, &[2, 0, 0, 0, 100, 0, 0, 0][..], &b"yard\nshop\n"[..])
+    );
+    let after = said(&format!("load {kept}\n"));
+    let bars = |text: &str| text.lines().filter(|line| line.contains('[')).map(String::from).collect::<Vec<_>>();
+    assert_eq!((after.0, bars(&after.1)), (0, bars(&before.1)[3..].to_vec()));
+    let firmware_s = file("firmware.desk-bytes", &bytes[..104]);
+    assert!(said(&format!("load {firmware_s}\n")).1.contains("controller 1"));
+    let twice = said(&format!("load {kept}\nload {kept}\nload! {kept}\n"));
+    assert!(
+        twice.0 == 2 && twice.1.contains("'load!' to forget it") && twice.1.matches("loaded from ").count() == 2,
+        "{}",
+        twice.1
+    );
+    let mut spoilt = bytes.clone();
+    spoilt[8] = 200;
+    for wrong in [&bytes[..103], &bytes[..109], &spoilt, b""] {
+        let no_desk = file("no.desk-bytes", wrong);
+        assert!(said(&format!("load {no_desk}\n")).1.contains("is no desk; allowed: "), "{wrong:02x?}");
+    }
+
+    let log = file("night.log", b"");
+    assert_eq!(said(&format!("{open}log {log}\nclaim yard 5\nclaim yard 9\nclam\n")).0, 2);
+    let logged = fs::read_to_string(&log).unwrap();
+    assert!(logged.lines().all(|line| line.starts_with("    ") || line.starts_with("20") && line.contains(" UTC ")), "{logged}");
+    let entries: Vec<&str> = logged.lines().filter_map(|line| line.split(" UTC ").nth(1)).collect();
+    assert_eq!(entries, [&format!("log {log}"), "claim yard 5", "claim yard 9", "clam"]);
+    assert!(
+        logged.contains("    granted: claims 5 kW")
+            && logged.contains("    refused 16: ")
+            && logged.contains("did you mean 'claim'?")
+    );
+
+    let marked = depot(&["desk", &file("marked.desk", format!("\u{feff}{open}").as_bytes())], b"");
+    assert_eq!((marked.status, marked.errors.as_str()), (0, ""));
+    let help = depot(&["desk"], b"help\n").text();
+    assert!(help.starts_with("Commands:\n  open LIMIT") && !help.contains("usage") && !help.contains("--json"), "{help}");
 }
 
 /// Each refusal of the desk, with its sums.
@@ -847,7 +919,7 @@ fn desk_refusals() {
                    change 10 4/10\nchange 10 4/11 3/10\nchange 10 6/10 5/10\nchange 10 4/4.9 3/10\nchange 8 2/8 6/8\n\
                    change 8 5/8 3/8\nchange 9 1=3/9 0=5/9\nclaim 0 1\nclaim 0 2\n";
     let ran = depot(&["desk"], script);
-    assert_eq!((ran.status, ran.errors.as_str()), (1, ""));
+    assert_eq!((ran.status, ran.errors.as_str()), (1, "depot: 22 calls were refused; the exit status is 1\n"));
     same("host/tests/golden/desk-refusals.txt", &ran.output);
     for number in [11, 12, 13, 14, 15, 16, 17, 18, 21, 22] {
         assert!(ran.text().contains(&format!("refused {number}: ")), "no refusal {number}");

@@ -16,7 +16,7 @@ usage: depot VERB ..
   depot sets LIST.csv            how large the search will be, without planning
   depot sheet LIST.csv -o FILE   a list to a job sheet, the bytes that a cabinet takes
   depot list FILE                a job sheet back to a list
-  depot desk                     an interactive share desk: open, change, claim, back, look, show
+  depot desk                     an interactive share desk: open, change, claim, back, look, show, undo, save
   depot run LIST.csv             the plan followed on a share desk, minute by minute, beside others
   depot explain N                what refusal N means and what to do
   depot VERB --help              the options of a verb, and the list's format
@@ -98,8 +98,8 @@ const PLAN: &str = "\
 usage: depot plan LIST|SHEET [OPTION..]
 
 Shows the plan that ends first of all valid plans. Of plans that end alike the order of the jobs on the sheet decides, the tie rule. A list
-is put on its sheet in the order of its departures. Where that leaves a bus late, it is asked whether some plan that ends alike has nobody late; that one is shown then. If there is
-none, it is said when the first plan ends in which nobody is late. A job sheet is planned as it is.
+is put on its sheet in the order of its departures. Where that leaves a bus late, it is asked whether some plan that ends alike has nobody
+late; that one is shown then. If there is none, it is said when the first plan ends in which nobody is late. A job sheet is planned as it is.
 
 Table, page, picture and --json have the list's order and numbers; --raw, --card and --sheet those of the sheet that was planned.
 
@@ -161,26 +161,38 @@ Shows a job sheet as a list, which 'depot sheet' takes back; a list as it is wri
   --json           for programs; 'after' has job numbers
 ";
 
-const DESK: &str = "\
-usage: depot desk [SCRIPT] [--json]
-
-A share desk that takes a command from each line of standard input, or of a script file:
-
+/// What `help` shows in a desk.
+pub const DESK_COMMANDS: &str = "\
+Commands:
   open LIMIT SHARE/CEILING ..   opens a desk for 2 to 8 controllers; NAME=SHARE/CEILING gives one a name
+  open! ..                      the same where power is held, which is forgotten: nobody else is told
   change LIMIT SHARE/CEILING .. gives the desk new figures; what is held stays; NAME=SHARE/CEILING for the controller of that name
   claim CONTROLLER KW           claims power
   back CONTROLLER KW            hands power back
   look [CONTROLLER]             the largest claim that would be granted now
   show                          a bar for each controller
+  undo                          takes back the last command that changed the desk; who acted on it must be told
+  save FILE, load FILE          the desk's bytes and its names, to a file and back; load! where power is held
+  log FILE                      adds every command from here on to a file, with its time and answer
   explain N                     what refusal N means
   help, quit
 
 LIMIT, SHARE, CEILING and KW are kilowatts in whole hundreds of watts: 30, 12.5; or so many modules of a size: 3x30 is three of 30 kW.
 A controller is named by its number, from 0, or by its name. Lines that begin with # are remarks.
+";
 
+const DESK: &str = "\
+usage: depot desk [SCRIPT] [--json]
+
+A share desk that takes a command from each line of standard input, or of a script file.
+
+";
+
+const DESK_OPTIONS: &str = "
   --json           an object for each command, for programs; figures in kW too
 
-Exit status: 0 every call was answered; 1 some call was refused; 2 some line is no command.
+Exit status of a script, from a file or a pipe: 0 every call was answered; 1 some call was refused; 2 some line is no command. Of a desk
+at a keyboard it is 0: who types has seen every answer.
 ";
 
 const RUN: &str = "\
@@ -238,7 +250,7 @@ pub fn of_verb(verb: &str) -> Option<String> {
         "sets" => format!("{SETS}{LIST_FORMAT}"),
         "sheet" => format!("{SHEET}{LIST_FORMAT}"),
         "list" => LIST.into(),
-        "desk" => DESK.into(),
+        "desk" => format!("{DESK}{DESK_COMMANDS}{DESK_OPTIONS}"),
         "run" => RUN.into(),
         "explain" => EXPLAIN.into(),
         "help" => TOP.into(),

@@ -41,6 +41,13 @@ impl Trouble {
             Trouble::List(faults) => eprint!("{faults}"),
         }
     }
+
+    /// What is wrong, alone.
+    pub fn text(self) -> String {
+        match self {
+            Trouble::Usage { why, .. } | Trouble::Input(why) | Trouble::List(why) => why,
+        }
+    }
 }
 
 /// Writes to standard output; a reader that has gone is no trouble.
@@ -61,7 +68,12 @@ pub fn bytes_of(file: &str) -> Result<Vec<u8>, Trouble> {
 /// Writes a file, or standard output where the name is `-`.
 pub fn put(file: &str, bytes: &[u8]) -> Result<(), Trouble> {
     let written = if file == "-" { io::stdout().lock().write_all(bytes) } else { fs::write(file, bytes) };
-    written.map_err(|why| Trouble::Input(format!("'{}' cannot be written: {}", visible(file), plain(&why))))
+    written.map_err(|why| Trouble::Input(unwritable(file, &why)))
+}
+
+/// Why a file was not written.
+pub fn unwritable(file: &str, why: &io::Error) -> String {
+    format!("'{}' cannot be written: {}", visible(file), plain(why))
 }
 
 /// A text in a message: what a terminal would not show, or take for a command, is escaped.
