@@ -32,6 +32,15 @@ impl Clock {
         format!("{}{marked}", hours(all % DAY))
     }
 
+    /// The minutes up to the last one at which the time of day, or the time since the start, is a whole number of steps; the start in front
+    /// of them where it is three quarters of a step away.
+    pub fn full_steps(self, step: u32, last: u32) -> Vec<u32> {
+        let start = self.start.unwrap_or(0);
+        let first = start.next_multiple_of(step) - start;
+        let at_start = (4 * first >= 3 * step).then_some(0);
+        at_start.into_iter().chain((first..=last).step_by(step as usize)).collect()
+    }
+
     /// A minute that may lie before the start: `20:50`, or `22:10-1` on the day before the start's; without a start `-0:40`.
     pub fn moment(self, minute: i32) -> String {
         let Ok(before) = u32::try_from(-i64::from(minute)) else { return self.time(minute.unsigned_abs()) };
@@ -69,6 +78,14 @@ fn time_of_day(word: &str) -> Option<u32> {
     (hour < 24 && minute < 60 || hour == 24 && minute == 0).then_some(60 * hour + minute)
 }
 
+/// So many minutes in words: `25 min`, `6 h 02`.
+pub fn how_long(minutes: u32) -> String {
+    match minutes {
+        0..60 => format!("{minutes} min"),
+        _ => format!("{} h {:02}", minutes / 60, minutes % 60),
+    }
+}
+
 /// A number written in digits alone.
 pub fn whole(word: &str) -> Option<u32> {
     word.bytes().all(|byte| byte.is_ascii_digit()).then(|| word.parse().ok())?
@@ -92,6 +109,21 @@ mod tests {
         assert_eq!(["24:00", "24:00+1", "09:05:00"].map(|word| clock.minute(word)), [Some(150), Some(1590), Some(695)]);
         assert_eq!(Clock::starting("24:00"), Clock::starting("00:00"));
         assert_eq!([0, 90, 1590].map(|minute| Clock::FROM_ZERO.time(minute)), ["0:00", "1:30", "26:30"]);
+    }
+
+    #[test]
+    fn words_of_minutes() {
+        assert_eq!([0, 59, 60, 362].map(how_long), ["0 min", "59 min", "1 h 00", "6 h 02"]);
+    }
+
+    #[test]
+    fn full_hours() {
+        let clock = Clock::starting("21:30").unwrap();
+        assert_eq!(clock.full_steps(60, 200), [30, 90, 150]);
+        assert_eq!(Clock::starting("21:15").unwrap().full_steps(60, 200), [0, 45, 105, 165]);
+        assert_eq!(clock.full_steps(120, 200), [30, 150]);
+        assert_eq!(clock.full_steps(15, 30), [0, 15, 30]);
+        assert_eq!(Clock::FROM_ZERO.full_steps(60, 130), [0, 60, 120]);
     }
 
     #[test]

@@ -1,6 +1,6 @@
 //! The plan for programs.
 use crate::json;
-use crate::planned::{Planned, PlannedJob};
+use crate::planned::{members as jobs_of, Planned, PlannedJob};
 use depot_host::on_time::OnTime;
 
 pub fn text(plan: &Planned) -> String {
@@ -42,6 +42,7 @@ fn job(plan: &Planned, number: usize, planned: &PlannedJob) -> String {
         ("job", number.to_string()),
         ("label", json::text(label)),
         ("modules", json::numbers(&row.module_numbers())),
+        ("after", json::numbers(&jobs_of(job.earlier))),
         ("start", row.start.to_string()),
         ("end", row.end.to_string()),
         ("departure", job.departure.to_string()),
@@ -52,7 +53,7 @@ fn job(plan: &Planned, number: usize, planned: &PlannedJob) -> String {
         members.extend([("latest_start", slack.latest_start.to_string()), ("slack", slack.slack.to_string())]);
     }
     if plan.has_rests() {
-        members.insert(5, ("hand_back", plan.free_from(planned).to_string()));
+        members.insert(6, ("hand_back", plan.free_from(planned).to_string()));
     }
     if plan.has_start {
         let times =

@@ -1,5 +1,5 @@
 //! What is planned: a job sheet from a file, and the plan on the card that the library left.
-use crate::clock::Clock;
+use crate::clock::{how_long, Clock};
 use crate::list;
 use crate::outcome::{bytes_of, Trouble};
 use crate::search::Found;
@@ -135,6 +135,18 @@ impl Planned {
         job.row.end + self.changeover
     }
 
+    /// The jobs that a job waits for, as the list's column `after` names them.
+    pub fn after(&self, job: &PlannedJob) -> String {
+        let labels: Vec<String> = self.jobs.iter().map(|job| job.label.clone()).collect();
+        list::after_cell(&members(job.job.earlier), &labels)
+    }
+
+    /// What `+1` behind a time means, where some time of the plan has it.
+    pub fn days_in_words(&self) -> Option<&'static str> {
+        let last = self.jobs.iter().map(|job| self.free_from(job).max(job.job.departure)).max()?;
+        (self.has_start && self.clock.time(last.into()).contains('+')).then_some(DAYS)
+    }
+
     /// How many of what, in words.
     pub fn size(&self) -> String {
         counted(self.jobs.len(), self.modules, self.changeover)
@@ -171,6 +183,14 @@ impl Planned {
     }
 }
 
+/// What `+1` behind a time means.
+pub const DAYS: &str = "+1 is the day after the start's.";
+
+/// The jobs of a set.
+pub fn members(set: u32) -> Vec<usize> {
+    (0..32).filter(|job| set >> job & 1 == 1).collect()
+}
+
 /// How many jobs, on how many modules, and the changeover where there is one.
 pub fn counted(jobs: usize, modules: u16, changeover: u16) -> String {
     let plural = |count: usize, one: &str| format!("{count} {one}{}", if count == 1 { "" } else { "s" });
@@ -183,8 +203,8 @@ pub fn counted(jobs: usize, modules: u16, changeover: u16) -> String {
 pub fn lateness_in_words(lateness: i32) -> String {
     match lateness {
         0 => "on time".into(),
-        minutes if minutes > 0 => format!("{minutes} min late"),
-        minutes => format!("{} min early", -minutes),
+        minutes if minutes > 0 => format!("{} late", how_long(minutes.unsigned_abs())),
+        minutes => format!("{} early", how_long(minutes.unsigned_abs())),
     }
 }
 
@@ -195,8 +215,8 @@ pub const OF_SLACK: &str = "Slack is by departures and waits alone, as if there 
 pub fn slack_in_words(slack: i32) -> String {
     match slack {
         0 => "cannot wait".into(),
-        minutes if minutes > 0 => format!("may wait {minutes} min"),
-        minutes => format!("{} min too late", -minutes),
+        minutes if minutes > 0 => format!("may wait {}", how_long(minutes.unsigned_abs())),
+        minutes => format!("{} too late", how_long(minutes.unsigned_abs())),
     }
 }
 
@@ -223,8 +243,8 @@ pub fn runs(numbers: &[u32]) -> Vec<(u32, u32)> {
 
 #[test]
 fn words_of_figures() {
-    assert_eq!([-20, 0, 5].map(lateness_in_words), ["20 min early", "on time", "5 min late"]);
-    assert_eq!([12, 0, -3].map(slack_in_words), ["may wait 12 min", "cannot wait", "3 min too late"]);
+    assert_eq!([-200, 0, 5].map(lateness_in_words), ["3 h 20 early", "on time", "5 min late"]);
+    assert_eq!([72, 0, -3].map(slack_in_words), ["may wait 1 h 12", "cannot wait", "3 min too late"]);
     assert_eq!(ranges(&[0, 1, 2, 5, 7, 8]), "0-2 5 7-8");
     assert_eq!(ranges(&[]), "");
 }

@@ -4,7 +4,7 @@ use crate::clock::Clock;
 use crate::outcome::{say, Outcome, Trouble};
 use crate::plan_text::{lines, Column};
 use crate::plan_verb::{not_planned, Asked, Form};
-use crate::planned::{counted, labels, slack_in_words, Yard, OF_SLACK};
+use crate::planned::{counted, labels, slack_in_words, Yard, DAYS, OF_SLACK};
 use crate::search::Found;
 use crate::style::Style;
 use crate::{json, list};
@@ -102,7 +102,8 @@ impl Waits {
             };
             writeln!(text, "{line}").unwrap();
         }
-        writeln!(text, "\n{OF_SLACK}").unwrap();
+        let days = if text.contains("+1") { format!(" {DAYS}") } else { String::new() };
+        writeln!(text, "\n{OF_SLACK}{days}").unwrap();
         text + &self.implied_in_words()
     }
 
