@@ -319,6 +319,26 @@ fn shorter_cells_change_nothing() {
     assert!(!depot(&["slack", &short], b"").text().contains("Not needed"));
 }
 
+/// The night's work by the clock, and the plan for a spreadsheet, which is a list with the same plan.
+#[test]
+fn work_lists_and_spreadsheets() {
+    for name in ["mixed-night", "on-the-road", "contactors"] {
+        let list = format!("examples/{name}.csv");
+        golden(&format!("work-{name}.txt"), &["plan", &list, "--work"], 0);
+        golden(&format!("plan-{name}.csv"), &["plan", &list, "--csv", "-"], 0);
+        let again = file("again.csv", &depot(&["plan", &list, "--csv", "-"], b"").output);
+        let planned = depot(&["plan", &again, "--json"], b"");
+        assert_eq!(planned.output, depot(&["plan", &list, "--json"], b"").output);
+        assert_eq!(planned.errors, format!("{again}: passed over the columns start, end, on, slack, lateness\n"));
+    }
+    let sheet = depot(&["sheet", "examples/small-depot.csv", "-o", "-"], b"").output;
+    let work = depot(&["plan", "-", "--work"], &sheet).text();
+    assert!(work.contains("0:00       0  plug B11 on modules 0-3, B12 on modules 4-7\n") && !work.contains("+1"), "{work}");
+    let none = depot(&["plan", "-", "--work"], &[0, 0, 0, 0, 0, 0, 1, 0, 0, 0]);
+    assert_eq!((none.status, none.text().lines().count()), (0, 3));
+    assert_eq!(depot(&["plan", "-", "--work", "--raw"], &sheet).status, 2);
+}
+
 /// A file that is standard output is all that goes there.
 #[test]
 fn files_to_standard_output() {

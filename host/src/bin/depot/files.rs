@@ -14,7 +14,7 @@ impl Files<'_> {
         if let [one, other, ..] = to_output[..] {
             return Err(Trouble::usage(format!("{one} - and {other} - exclude each other"), arguments.verb()));
         }
-        let form = ["--raw", "--json"].into_iter().find(|form| arguments.has(form));
+        let form = ["--raw", "--json", "--work"].into_iter().find(|form| arguments.has(form));
         if let (Some(one), Some(form)) = (to_output.first(), form) {
             return Err(Trouble::usage(format!("{one} - and {form} exclude each other"), arguments.verb()));
         }

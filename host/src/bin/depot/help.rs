@@ -106,10 +106,12 @@ Table, page, picture and --json have the list's order and numbers; --raw, --card
   --by-line        the list's jobs on the sheet in the order of its lines, as 'depot sheet' writes it
   --on-time        the first plan in which nobody is late, though it may end later; on its sheet a bus may be held back
   --start HH:MM    the plan's start as a time of day, in place of the list's; the list's times of day count from it
+  --work           the night's work by the clock in place of the table: who is plugged in and unplugged when, and on which modules
   --raw            exactly the printing program's lines
   --json           for programs
   --svg OUT        a picture of the plan too
-  --html OUT       a page with the picture and the table too
+  --html OUT       a page with the picture, the table and the work by the clock too
+  --csv OUT        the list with columns for start, end, modules, slack and lateness too, for a spreadsheet; it is a list again
   --sheet OUT      the job sheet that was planned too: a cabinet that plans it comes to this plan
   --card OUT       the plan card's bytes too, of that sheet; of these files one may be -, standard output, and is then all that goes there
   --memory BYTES   working memory of the search, 0 to 16G, with K, M or G (16M); no length changes the answer

@@ -14,6 +14,7 @@ mod list;
 mod outcome;
 mod outlook;
 mod page;
+mod plan_csv;
 mod plan_json;
 mod plan_text;
 mod plan_verb;
@@ -28,6 +29,7 @@ mod size_verb;
 mod slack_verb;
 mod style;
 mod use_verb;
+mod work_list;
 
 use outcome::{Outcome, Trouble};
 use std::{env, process};

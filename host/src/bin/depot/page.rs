@@ -2,6 +2,7 @@
 use crate::chart;
 use crate::plan_text::{columns, notes, summary, Column};
 use crate::planned::{Planned, PlannedJob, OF_SLACK};
+use crate::work_list;
 use depot_host::drawing::markup::escaped;
 
 const RULES: &str = "\
@@ -21,7 +22,7 @@ footer{font-size:13px;margin-top:14px}\
 table{font-size:12px}th,td{padding:2px 6px}}";
 
 /// Columns whose cells may take several lines.
-const WRAPPED: [&str; 2] = ["on", "after"];
+const WRAPPED: [&str; 3] = ["on", "after", "to do"];
 
 /// A page's front: its title, and the rules for light and for dark paper.
 pub fn head(title: &str, [light, dark]: &[String; 2]) -> String {
@@ -39,17 +40,28 @@ pub fn text(plan: &Planned) -> String {
     let order: Vec<&str> = plan.order.iter().map(|job| plan.jobs[usize::from(*job)].label.as_str()).collect();
     let notes = notes(plan).join(" ");
     format!(
-        "{}<body>\n<main>\n{}<section class=\"table\">\n<h2>{title}</h2>\n<p>{}</p>\n{}</section>\n</main>\n\
+        "{}<body>\n<main>\n{}<section class=\"table\">\n<h2>{title}</h2>\n<p>{}</p>\n{}</section>\n{}</main>\n\
          <footer>{}{}<p>{} Start, end and modules of every job are those of the proved planner's card. \
          {OF_SLACK}</p></footer>\n</body>\n</html>\n",
         head(&title, &rules),
         chart::part(plan),
         escaped(&summary(plan).join(" ")),
         table_of(&columns(plan), &late),
+        by_the_clock(plan),
         if order.is_empty() { String::new() } else { format!("<p>Starting order: {}.</p>", escaped(&order.join(", "))) },
         if notes.is_empty() { String::new() } else { format!("<p>{}</p>", escaped(&notes)) },
         plan.none_earlier()
     )
+}
+
+/// The night's work, for whoever plugs buses in.
+fn by_the_clock(plan: &Planned) -> String {
+    if plan.jobs.is_empty() {
+        return String::new();
+    }
+    let columns = work_list::columns(plan);
+    let turns = columns[0].cells.len() - 1;
+    format!("<section class=\"table\">\n<h2>By the clock</h2>\n{}</section>\n", table_of(&columns, &vec![false; turns]))
 }
 
 /// A table of these columns; the lines that are bad are marked.

@@ -6,13 +6,13 @@ use crate::outcome::{say, Outcome, Trouble};
 use crate::planned::{Planned, Yard};
 use crate::search::{By, Failed, Found};
 use crate::style::Style;
-use crate::{chart, json, lateness, page, plan_json, plan_text, pointer, search};
+use crate::{chart, json, lateness, page, plan_csv, plan_json, plan_text, pointer, search, work_list};
 use depot_host::{units, Refusal};
 
 const TAKES: Takes = Takes {
     verb: "plan",
-    flags: &["--raw", "--json", "--by-line", "--on-time"],
-    values: &["--start", "--svg", "--html", "--card", "--sheet", "--memory"],
+    flags: &["--raw", "--json", "--work", "--by-line", "--on-time"],
+    values: &["--start", "--svg", "--html", "--csv", "--card", "--sheet", "--memory"],
     plain: &["a list or a sheet"],
     needed: 1,
     more: false,
@@ -37,9 +37,9 @@ pub enum Form {
 pub fn run(words: &[String]) -> Result<Outcome, Trouble> {
     let arguments = Arguments::read(&TAKES, words)?;
     let asked = Asked::by(&arguments)?;
-    let files = Files::of(&arguments, &["--sheet", "--card", "--svg", "--html"])?;
+    let files = Files::of(&arguments, &["--sheet", "--card", "--svg", "--html", "--csv"])?;
     let yard = Yard::open(arguments.plain(0).expect("a file is needed"), asked.start)?;
-    let with_slack = asked.form != Form::Raw || arguments.value("--html").is_some();
+    let with_slack = asked.form != Form::Raw || ["--html", "--csv"].iter().any(|file| arguments.value(file).is_some());
     let found = match asked.plan(&yard, with_slack) {
         Ok(found) => found,
         Err(failed) => return not_planned(&yard, failed, asked.form),
@@ -50,7 +50,9 @@ pub fn run(words: &[String]) -> Result<Outcome, Trouble> {
     files.write("--card", || bytes)?;
     files.write("--svg", || chart::file(&plan).into_bytes())?;
     files.write("--html", || page::text(&plan).into_bytes())?;
+    files.write("--csv", || plan_csv::text(&plan).into_bytes())?;
     files.then_say(|| match asked.form {
+        Form::Table if arguments.has("--work") => work_list::text(&plan, Style::of_output()),
         Form::Table => plan_text::table(&plan, Style::of_output()),
         Form::Raw => plan_text::raw(&plan),
         Form::Json => plan_json::text(&plan),
@@ -92,11 +94,12 @@ impl Asked {
 
 /// The form that is asked for on the verb's command line.
 pub fn form(arguments: &Arguments) -> Result<Form, Trouble> {
-    match (arguments.has("--raw"), arguments.has("--json")) {
-        (true, true) => Err(Trouble::usage("--raw and --json exclude each other", arguments.verb())),
-        (true, false) => Ok(Form::Raw),
-        (false, true) => Ok(Form::Json),
-        (false, false) => Ok(Form::Table),
+    let forms = [("--raw", Form::Raw), ("--json", Form::Json), ("--work", Form::Table)];
+    let asked: Vec<(&str, Form)> = forms.into_iter().filter(|(option, _)| arguments.has(option)).collect();
+    match asked[..] {
+        [] => Ok(Form::Table),
+        [(_, form)] => Ok(form),
+        [(one, _), (other, _), ..] => Err(Trouble::usage(format!("{one} and {other} exclude each other"), arguments.verb())),
     }
 }
 

@@ -12,7 +12,7 @@ pub use after::cell as after_cell;
 use depot_host::{write, Job, Refusal, LONGEST_SHEET};
 pub use kind::is_list;
 pub use reader::read;
-pub use writer::text;
+pub use writer::{text, text_with};
 
 /// The columns of a list.
 pub const COLUMNS: [&str; 6] = ["label", "modules", "minutes", "after", "departure", "arrival"];
