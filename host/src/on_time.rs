@@ -251,17 +251,16 @@ impl Deadlines<'_> {
     }
 }
 
-/// The earliest end of each job beside those alone that it waits for: their modules rest first where it cannot do without them. No job waits
-/// for itself.
+/// The earliest end of each job beside those alone that it waits for: their modules rest first where it cannot do without them.
 fn earliest_ends(figures: &Reading) -> Vec<u16> {
     let jobs = &figures.jobs;
     let mut ends: Vec<u16> = jobs.iter().map(|job| job.arrival + job.minutes).collect();
     for _ in jobs {
         for (number, job) in jobs.iter().enumerate() {
             let meet = |i: usize| u16::from(jobs[i].modules) + u16::from(job.modules) > figures.modules;
-            let free = |i: usize| ends[i] + if meet(i) { figures.changeover } else { 0 };
+            let free = |i: usize| ends[i].saturating_add(if meet(i) { figures.changeover } else { 0 });
             let earlier = (0..jobs.len()).filter(|i| job.earlier >> i & 1 == 1).map(free).max();
-            ends[number] = earlier.unwrap_or(0).max(job.arrival) + job.minutes;
+            ends[number] = earlier.unwrap_or(0).max(job.arrival).saturating_add(job.minutes);
         }
     }
     ends
