@@ -192,9 +192,10 @@ impl Deadlines<'_> {
 
     /// The first minute from this one on at which a plan can end in which nobody is late, arrivals left aside.
     ///
-    /// Where the list mirrored at a minute ends later than that minute, no such plan ends by then, nor before the mirrored end: mirrored at a
-    /// later minute the list ends no earlier. So the first minute lies between such ends and a minute at which there is a plan. Behind the
-    /// last deadline every mirrored arrival moves with the minute, and so does the end: if there is no plan by then, there is none.
+    /// Where the list mirrored at a minute ends later than that minute, no such plan ends by then, nor before the mirrored end: mirrored
+    /// at a later minute the list ends no earlier. So the first minute lies between such ends and a minute at which there is a plan.
+    /// Behind the last deadline every mirrored arrival moves with the minute, and so does the end: if there is no plan by then, there
+    /// is none.
     fn mirrored(&self, from: u16, call: &mut impl FnMut(&[u8]) -> Result<Vec<u8>, Refusal>) -> Result<Mirrored, Refusal> {
         let mut low = match self.asked(from, call)? {
             None => return Ok(Mirrored::Unknown(from)),
@@ -224,8 +225,8 @@ impl Deadlines<'_> {
         Ok(Mirrored::Ends(high, starts))
     }
 
-    /// The starts of a plan that ends by a minute and in which nobody is late, arrivals left aside, or the minute before which none ends; none
-    /// where the mirrored list cannot be written.
+    /// The starts of a plan that ends by a minute and in which nobody is late, arrivals left aside, or the minute before which none ends.
+    /// None where the mirrored list cannot be written.
     fn asked(
         &self,
         at: u16,

@@ -86,8 +86,8 @@ pub fn measure(options: &Options) {
     );
 }
 
-/// Departures at any quarter of an hour between a job's own minutes, or half of the plan's end where that is later, and one and a half times
-/// the end.
+/// Departures at any quarter of an hour between a job's own minutes, or half of the plan's end where that is later, and one and a half
+/// times the end.
 fn draw_departures(random: &mut Random, jobs: &mut [Job], end: u16) {
     for job in jobs {
         let low = u32::from(job.minutes.max(end / 2)).div_ceil(15);

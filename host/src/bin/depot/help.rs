@@ -99,7 +99,8 @@ usage: depot plan LIST|SHEET [OPTION..]
 
 Shows the plan that ends first of all valid plans. Of plans that end alike the order of the jobs on the sheet decides, the tie rule. A list
 is put on its sheet in the order of its departures. Where that leaves a bus late, it is asked whether some plan that ends alike has nobody
-late; that one is shown then. If there is none, it is said when the first plan ends in which nobody is late. A job sheet is planned as it is.
+late; that one is shown then. If there is none, it is said when the first plan ends in which nobody is late. A job sheet is planned as
+it is.
 
 Table, page, picture and --json have the list's order and numbers; --raw, --card and --sheet those of the sheet that was planned.
 

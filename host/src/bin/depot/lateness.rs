@@ -43,7 +43,7 @@ pub fn of_none(yard: &Yard, known: OnTime) -> String {
         OnTime::Never => "some bus is late in every plan, however late it ends".into(),
         OnTime::This | OnTime::From(_) => "the first plan in which nobody is late cannot be shown: it lasts too long".into(),
         OnTime::NotBefore(at) => format!(
-            "no plan in which nobody is late was found; none ends before {}. Buses that are still on the road are in the way of knowing more",
+            "no plan in which nobody is late was found; none ends before {}, and buses on the road are in the way of knowing more",
             time(at)
         ),
     }

@@ -1,6 +1,6 @@
 //! The night's work by the clock: which bus arrives, which is unplugged and which is plugged in, minute by minute.
 use crate::plan_text::{lines, Column};
-use crate::planned::{ranges, Planned, PlannedJob};
+use crate::planned::{ranges, Planned, PlannedJob, DAYS};
 use crate::style::Style;
 
 /// What is to be done at a minute.
@@ -63,5 +63,8 @@ pub fn text(plan: &Planned, style: Style) -> String {
     if plan.has_rests() {
         text += &format!("\nModules are free for another bus {} min after the unplugging.\n", plan.changeover);
     }
-    plan.days_in_words().map_or(text.clone(), |days| format!("{text}\n{days}\n"))
+    if plan.has_start && plan.clock.time(plan.end.into()).contains('+') {
+        text += &format!("\n{DAYS}\n");
+    }
+    text
 }
