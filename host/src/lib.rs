@@ -16,6 +16,8 @@ pub mod drawing;
 pub mod families;
 pub mod guarded;
 pub mod lists;
+pub mod on_time;
+pub mod order;
 pub mod plain_search;
 pub mod random;
 pub mod raw_sheet;

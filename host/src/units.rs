@@ -1,14 +1,15 @@
 //! Figures on command lines.
 use crate::MOST_POWER;
 
-/// A number of bytes, in digits or with K or M behind them.
+/// A number of bytes, in digits or with K, M or G behind them.
 pub fn bytes(word: &str) -> Option<usize> {
-    let (digits, unit) = match word.as_bytes().last()? {
+    let (number, unit) = match word.as_bytes().last()? {
         b'K' => (&word[..word.len() - 1], 1 << 10),
         b'M' => (&word[..word.len() - 1], 1 << 20),
+        b'G' => (&word[..word.len() - 1], 1 << 30),
         _ => (word, 1),
     };
-    digits.parse::<usize>().ok()?.checked_mul(unit)
+    usize::try_from(digits(number)?).ok()?.checked_mul(unit)
 }
 
 /// The same the other way round.
@@ -73,6 +74,7 @@ fn kilowatts() {
 #[test]
 fn numbers_of_bytes() {
     assert_eq!(["0", "735", "64K", "16M"].map(bytes), [Some(0), Some(735), Some(64 << 10), Some(16 << 20)]);
-    assert_eq!(["", "K", "1G", "-1", "1.5M", "99999999999999999999M"].map(bytes), [None; 6]);
+    assert_eq!(bytes("5G"), Some(5 << 30));
+    assert_eq!(["", "K", "1T", "-1", "+1", "1.5M", "99999999999999999999M"].map(bytes), [None; 7]);
     assert_eq!([0, 735, 4096, 16 << 20].map(in_bytes), ["0", "735", "4K", "16M"]);
 }

@@ -38,8 +38,10 @@ fn fields() {
     for word in ["2881", "x"] {
         row(&format!("A,1,10,,{word}"), &format!("line 3, column 5 (departure): found '{word}'; allowed: {}", number(0, 2880)));
     }
-    let before_start = "a minute from 0 to 2880; a time of day only behind a line 'start,hh:mm'";
-    row("A,1,10,,05:30", &format!("line 3, column 5 (departure): found '05:30'; allowed: {before_start}"));
+    let before_start = "a minute from 0 to 2880; a time of day, hh:mm, only behind a line 'start,hh:mm'";
+    for word in ["05:30", "4.10", "4h10", "1.5"] {
+        row(&format!("A,1,10,,{word}"), &format!("line 3, column 5 (departure): found '{word}'; allowed: {before_start}"));
+    }
 }
 
 #[test]
@@ -49,11 +51,11 @@ fn arrivals() {
         let line = if start.is_empty() { 3 } else { 4 };
         assert_eq!(faults(list.as_bytes()), [format!("line {line}, column 5 (arrival): found '{word}'; allowed: {allowed}")]);
     };
-    for word in ["1441", "x", "-1", "1.5"] {
+    for word in ["1441", "x", "-1"] {
         fault("", word, "a whole number from 0 to 1440");
     }
-    fault("", "20:30", "a minute from 0 to 1440; a time of day only behind a line 'start,hh:mm'");
-    for word in ["24:00", "5:3", "21:01+1", "20:00+0", "05:30+2"] {
+    fault("", "20:30", "a minute from 0 to 1440; a time of day, hh:mm, only behind a line 'start,hh:mm'");
+    for word in ["24:01", "5:3", "21:01+1", "20:00+0", "05:30+2", "4.10", "4h10", "x"] {
         let allowed = "a minute from 0 to 1440, or a time hh:mm (hh:mm+1 on the next day) within 24 hours from the start";
         fault("start,21:00\n", word, allowed);
     }
@@ -62,7 +64,7 @@ fn arrivals() {
 #[test]
 fn times_of_day() {
     let allowed = "a minute from 0 to 2880, or a time hh:mm (hh:mm+1 on the next day) within 48 hours from the start";
-    for word in ["24:00", "5:3", "05:30+3", "20:00+0", "21:01+2"] {
+    for word in ["24:01", "5:3", "05:30+3", "20:00+0", "21:01+2", "4.10", "4h10", "04:10:30", "soon"] {
         let list = format!("start,21:00\n{HEAD}A,1,10,,{word}\n");
         let fault = format!("line 4, column 5 (departure): found '{word}'; allowed: {allowed}");
         assert_eq!(faults(list.as_bytes()), [fault]);
@@ -113,10 +115,8 @@ fn names_in_after() {
 fn the_cabinet() {
     for (word, found) in [("0", "'0'"), ("65", "'65'"), ("x", "'x'"), ("-3", "'-3'")] {
         let fault = format!("line 1, column 2 (modules of the cabinet): found {found}; allowed: a whole number from 1 to 64");
-        let missing =
-            "line 2: found no line 'cabinet' with a number of modules before the header; allowed: 'cabinet,N', N from 1 to 64";
         let list = format!("cabinet,{word}\nlabel,modules,minutes,departure\n");
-        assert_eq!(faults(list.as_bytes()), [&fault, missing]);
+        assert_eq!(faults(list.as_bytes()), [fault]);
     }
     let missing =
         "line 1: found no line 'cabinet' with a number of modules before the header; allowed: 'cabinet,N', N from 1 to 64";
@@ -139,16 +139,28 @@ fn the_changeover() {
     }
     let twice = format!("line 3: found a second line 'changeover'; allowed: {once}");
     assert_eq!(faults(list("changeover,5\nchangeover,0\n").as_bytes()), [twice]);
-    // behind the header it is a job's label, with too little behind it
-    let behind = faults(b"cabinet,16\nlabel,modules,minutes,departure\nchangeover,5\n");
-    assert_eq!(behind.len(), 2, "{behind:?}");
+}
+
+/// Lines that are meant for settings and stand in the wrong place, or have another name: the others are still read.
+#[test]
+fn settings_out_of_place() {
+    let below = |name: &str| format!("found '{name}' below the header; allowed: a line '{name}' above the header");
+    let list = b"label;modules;minutes;departure\ncabinet;16\nA;1;10;30\nstart;21:00\nChangeover;5\nB;0;10;30\n";
+    let number = "line 6, column 2 (modules): found '0'; allowed: a whole number from 1 to 255";
+    let [cabinet, start, changeover] = ["cabinet", "start", "changeover"].map(below);
+    let expected = [format!("line 2: {cabinet}"), format!("line 4: {start}"), format!("line 5: {changeover}"), number.into()];
+    assert_eq!(faults(list), expected);
+    let word = faults(b"Schrank;32;;;\nlabel;modules;minutes;departure\nA;1;10;30\nB;0;10;30\n");
+    let allowed = "'cabinet,N', 'changeover,C', 'start,hh:mm' or the header line";
+    let number = "line 4, column 2 (modules): found '0'; allowed: a whole number from 1 to 255";
+    assert_eq!(word, [&format!("line 1: found 'Schrank;32'; allowed: {allowed}"), number]);
+    // with figures behind it, it is a job's label
+    let labels = b"cabinet,4\nlabel,modules,minutes,departure\nstart,1,10,30\ncabinet,1,10,30\n";
+    assert_eq!(depot(&["sheet", "-", "-o", "-"], labels).status, 0);
 }
 
 #[test]
 fn columns() {
-    let all = "the columns label, modules, minutes, after, departure, arrival";
-    let unknown = faults(b"cabinet,4\nlabel,modules,minutes,departure,price\nA,1,10,30\n");
-    assert_eq!(unknown, [format!("line 2, column 5 (header): found 'price'; allowed: {all}")]);
     let needed =
         "a header line with label, modules, minutes, departure; after where jobs wait for others; arrival where buses are \
                   still on the road";
@@ -179,8 +191,9 @@ fn columns() {
 fn whole_lists() {
     let many = format!("{HEAD}{}", "A,1,10,,30\n".repeat(21));
     assert_eq!(faults(many.as_bytes()), ["line 23: found job 21 of 21; allowed: up to 20 jobs"]);
-    let no_text = [HEAD.as_bytes(), b"A,1,10,,30\n\xff\xfe,1,10,,30\n"].concat();
-    assert_eq!(faults(&no_text), ["line 4: found bytes that are no text; allowed: text in UTF-8"]);
+    let windows = [HEAD.as_bytes(), b"# K\xfchler\nA,1,10,,30\nB\xfc1,1,10,,30\n"].concat();
+    let plain = "plain letters, digits, signs and spaces (bytes 32 to 126)";
+    assert_eq!(faults(&windows), [format!("line 5, column 1 (label): found 'Bü1' with 'ü' in it; allowed: {plain}")]);
     let header = "found no header line; allowed: a line with the columns label,modules,minutes,after,departure,arrival";
     assert_eq!(faults(b"cabinet,4\n"), [format!("line 1: {header}")]);
     assert_eq!(faults(b"").len(), 2);
@@ -245,17 +258,6 @@ fn sheets_that_do_not_read() {
     }
 }
 
-/// A list by another name is taken for a sheet; what is said helps.
-#[test]
-fn a_list_taken_for_a_sheet() {
-    for verb in ["plan", "list"] {
-        let ran = depot(&[verb, "-"], format!("{HEAD}A,1,10,,30\n").as_bytes());
-        assert_eq!(ran.status, 1);
-        let help = "  this looks like a list: 'depot plan' and 'depot sheet' take it by a name that ends in .csv";
-        assert_eq!(ran.errors.lines().nth(1), Some(help), "{}", ran.errors);
-    }
-}
-
 /// A wrong command line: status 2, nothing on standard output, and what to read.
 #[test]
 fn words() {
@@ -279,10 +281,20 @@ fn words() {
         &["plan", "a", "--start", "25:00"],
         "depot plan: --start: found '25:00'; allowed is a time of day, 00:00 to 23:59; 'depot plan --help' shows what it takes\n",
     );
+    for word in ["1T", "99999999M", "17G", "-1"] {
+        let allowed = "allowed is 0 to 16G, in bytes or with K, M or G behind the number";
+        let said = format!("depot plan: --memory: found '{word}'; {allowed}; 'depot plan --help' shows what it takes\n");
+        usage(&["plan", "a", "--memory", word], &said);
+    }
     usage(
-        &["plan", "a", "--memory", "1G"],
-        "depot plan: --memory: found '1G'; allowed is a number of bytes, or one with K or M; 'depot plan --help' shows what it takes\n",
+        &["plan", "a", "--svg", "-", "--html", "-"],
+        "depot plan: --svg - and --html - exclude each other; 'depot plan --help' shows what it takes\n",
     );
+    usage(
+        &["run", "a", "--html=-", "--json"],
+        "depot run: --html - and --json exclude each other; 'depot run --help' shows what it takes\n",
+    );
+    usage(&["pl\u{1b}[A"], "depot: there is no verb 'pl\\u{1b}[A'; 'depot --help' names the verbs\n");
     usage(
         &["plan", "a", "--start", "1:00", "--start", "2:00"],
         "depot plan: --start stands twice; 'depot plan --help' shows what it takes\n",
@@ -309,10 +321,24 @@ fn files() {
     assert_eq!(unwritable.errors, "depot: 'no/such/folder.svg' cannot be written: there is no such file or folder\n");
 }
 
+/// Keys that a terminal sends as control bytes are shown, not sent back.
+#[test]
+fn control_bytes() {
+    let ran = depot(&["desk"], b"open 10 4/10 3/10\nclaim\t0 1\n\x1b[Aclaim 0 1\x07\n");
+    let shown = "found '\\u{1b}[Aclaim 0 1\\u{7}'; allowed: a command in plain text, without keys such as the arrows";
+    assert_eq!((ran.status, ran.text().lines().last()), (2, Some(shown)));
+    assert!(ran.text().contains("\ngranted: claims 1 kW"), "a tab is a space");
+    let script = file("keys.desk", b"10\tclaim neighbour 1\n20 claim neighbour \x1b[D1\n");
+    let ran = depot(&["run", "examples/small-depot.csv", "--script", &script], b"");
+    assert_eq!((ran.status, ran.errors.lines().count()), (2, 1));
+    assert!(ran.errors.contains("line 2: found '\\u{1b}[D1'") && !ran.errors.contains('\x1b'), "{}", ran.errors);
+}
+
 /// A line that is no command is named, the others are still taken, and the status says it.
 #[test]
 fn desk_lines() {
-    let lines = [
+    let all = "open, change, claim, back, look, show, save, load, log, undo, explain, help, quit";
+    let lines: [(&str, &str); 29] = [
         ("claim 0 1", "there is no desk yet; open one first, as 'open 500 yard=240/420 workshop=100/200'"),
         ("open", "found 'open' alone; allowed: open LIMIT SHARE/CEILING .., as 'open 500 yard=240/420 workshop=100/200'"),
         ("open x 1/2 1/2", "found 'x'; allowed: kW, as 30 or 12.5, or modules of a size, as 3x30"),
@@ -321,7 +347,7 @@ fn desk_lines() {
         ("open 10 4/10.25 3/10", "found '10.25'; allowed: whole hundreds of watts, so 10.2 or 10.3 kW"),
         ("open 10 a=4/10 a=3/10", "found the name 'a' twice; allowed: a name for each controller"),
         ("claim 0", "found 'claim 0'; allowed: claim CONTROLLER KW, as 'claim 0 12.5'"),
-        ("claim yard 1", "found 'yard'; allowed: a controller's number"),
+        ("claim yard 1", "there is no desk yet; open one first, as 'open 500 yard=240/420 workshop=100/200'"),
         ("claim 0 -1", "found '-1'; allowed: kW, as 30 or 12.5, or modules of a size, as 3x30"),
         ("claim 0 0.05", "found '0.05'; allowed: whole hundreds of watts, so 0 or 0.1 kW"),
         ("back 0 429496729.6", "found '429496729.6'; allowed: kW, up to 40000"),
@@ -330,15 +356,31 @@ fn desk_lines() {
         ("explain x", "found 'x'; allowed: a refusal's number, 1 to 26"),
         ("change", "found 'change' alone; allowed: change LIMIT SHARE/CEILING .., as 'change 400 yard=180/360 workshop=100/200'"),
         ("change 10 4/10 3/10", "there is no desk yet; open one first, as 'open 500 yard=240/420 workshop=100/200'"),
-        ("change 10 yard=4/10 3/10", "found 'yard'; allowed: a controller's number"),
-        ("grab 1 1", "found 'grab 1 1'; allowed: open, change, claim, back, look, show, explain, help, quit"),
+        ("change 10 yard=4/10 3/10", "there is no desk yet; open one first, as 'open 500 yard=240/420 workshop=100/200'"),
+        ("save x", "there is no desk yet; open one first, as 'open 500 yard=240/420 workshop=100/200'"),
+        ("save", "found 'save'; allowed: save FILE, a name without a space"),
+        ("log a b", "found 'log a b'; allowed: log FILE, a name without a space"),
+        ("load -", "found 'load -'; allowed: load FILE, a name of its own"),
+        ("load Cargo.toml", "'Cargo.toml' cannot be read: there is no such file or folder"),
+        ("load host/Cargo.toml", "'host/Cargo.toml' is no desk; allowed: a file that 'save' wrote, or the 104 bytes of a desk"),
+        ("log no/such/folder", "'no/such/folder' cannot be written: there is no such file or folder"),
+        ("undo", "no command has changed the desk; there is nothing to undo"),
+        ("grab 1 1", &format!("found 'grab 1 1'; allowed: {all}; did you mean 'claim'?")),
+        ("hand back yard 2", &format!("found 'hand back yard 2'; allowed: {all}; did you mean 'back'?")),
+        ("hello", &format!("found 'hello'; allowed: {all}")),
     ];
     let script = file("wrong.desk", lines.map(|(line, _)| line).join("\n").as_bytes());
     let ran = depot(&["desk", &script], b"");
-    assert_eq!((ran.status, ran.errors.as_str()), (2, "depot: 19 lines are no command\n"));
+    assert_eq!((ran.status, ran.errors.as_str()), (2, "depot: 29 lines are no command; the exit status is 2\n"));
     let said: Vec<String> = ran.text().lines().filter(|line| !line.starts_with('>')).map(String::from).collect();
     let expected = lines.iter().enumerate().map(|(place, (_, why))| format!("{script}, line {}: {why}", place + 1));
     assert_eq!(said, expected.collect::<Vec<_>>());
+    let pairs = depot(&["desk"], b"open 10 yard=4/10 shop=3/10\nclaim yard=2 1\nCLAIM yard 2\n");
+    assert!(
+        pairs.text().contains("\nfound 'yard=2'; allowed: a controller and then kW, as 'yard 2'\ngranted: claims 2 kW"),
+        "{}",
+        pairs.text()
+    );
     let json = depot(&["desk", "--json"], b"grab\nopen 10 4/10 3/10\n");
     assert_eq!(json.status, 2);
     assert!(json.text().starts_with("{\"error\": \"found 'grab'; ") && json.text().contains("\"call\": \"open\""));

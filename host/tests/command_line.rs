@@ -28,7 +28,7 @@ fn same(path: &str, found: &[u8]) {
 
 /// What a run said on standard error, but for how long it has been searching: that depends on what else the machine does.
 fn faults(ran: &Run) -> Vec<&str> {
-    let progress = ["a long search: ", "searching for the earliest end: ", "searched for "];
+    let progress = ["a long search: ", "searching for ", "searched for "];
     ran.errors.lines().filter(|line| !progress.iter().any(|start| line.starts_with(start))).collect()
 }
 
@@ -156,8 +156,8 @@ fn plans_and_pictures() {
     for name in EXAMPLES {
         let list = format!("examples/{name}.csv");
         let picture = format!("examples/{name}.svg");
-        let [svg, html, card] = ["svg", "html", "card"].map(|kind| file(&format!("{name}.{kind}"), b""));
-        let ran = depot(&["plan", &list, "--svg", &svg, "--html", &html, "--card", &card], b"");
+        let [svg, html, sheet, card] = ["svg", "html", "sheet", "card"].map(|kind| file(&format!("{name}.{kind}"), b""));
+        let ran = depot(&["plan", &list, "--svg", &svg, "--html", &html, "--sheet", &sheet, "--card", &card], b"");
         assert!(ran.status == 0 && faults(&ran).is_empty(), "{}", ran.errors);
         same(&format!("host/tests/golden/plan-{name}.txt"), &ran.output);
         let drawn = fs::read(&svg).unwrap();
@@ -170,17 +170,19 @@ fn plans_and_pictures() {
             let elsewhere = page.replace("http://www.w3.org/2000/svg", "");
             assert!(!elsewhere.contains(outside), "{name}: the page asks for something outside: {outside}");
         }
-        card_is_the_library_s(&list, &fs::read(&card).unwrap());
+        card_is_the_library_s(&fs::read(&sheet).unwrap(), &fs::read(&card).unwrap());
+        let raw = depot(&["plan", &list, "--raw"], b"").output;
+        assert_eq!(depot(&["plan", &sheet, "--raw"], b"").output, raw, "the lines of the sheet that was planned");
+        assert_eq!(depot(&["plan", &list, "--by-line", "--sheet", &sheet, "--card", &card], b"").status, 0);
+        assert_eq!(depot(&["sheet", &list, "-o", "-"], b"").output, fs::read(&sheet).unwrap());
+        card_is_the_library_s(&fs::read(&sheet).unwrap(), &fs::read(&card).unwrap());
     }
 }
 
-/// The card's bytes are those of the planning call, and the picture has every start and end of them.
-fn card_is_the_library_s(list: &str, card: &[u8]) {
-    let sheet = file("of-list.sheet", b"");
-    assert_eq!(depot(&["sheet", list, "-o", &sheet], b"").status, 0);
-    let sheet = fs::read(sheet).unwrap();
+/// The card's bytes are those of the planning call for the sheet.
+fn card_is_the_library_s(sheet: &[u8], card: &[u8]) {
     let mut expected = vec![0; card.len()];
-    plan(&sheet, &mut expected, &mut vec![0; 1 << 20]).unwrap();
+    plan(sheet, &mut expected, &mut vec![0; 1 << 20]).unwrap();
     assert_eq!(card, expected);
     let decoded = Card::of(card).unwrap();
     assert_eq!(card.len(), card_length(decoded.rows.len()));
@@ -281,11 +283,13 @@ fn slack() {
     for name in ["small-depot", "mixed-night", "on-the-road", "contactors"] {
         let list = format!("examples/{name}.csv");
         golden(&format!("slack-{name}.txt"), &["slack", &list], 0);
-        let raw = depot(&["slack", &list, "--raw"], b"").text();
-        let planned = depot(&["plan", &list, "--raw"], b"").text();
-        let start = |line: &str| line.split(' ').next().map(str::to_string);
-        let starts: Vec<_> = planned.lines().skip(1).map(start).collect();
-        assert_eq!(raw.lines().map(start).collect::<Vec<_>>(), starts, "the starts of the plan's lines");
+        for order in [&[][..], &["--by-line"]] {
+            let raw = depot(&[&["slack", &list, "--raw"], order].concat(), b"").text();
+            let planned = depot(&[&["plan", &list, "--json"], order].concat(), b"").text();
+            let starts: Vec<&str> = planned.split("\"start\": ").skip(1).filter_map(|rest| rest.split(',').next()).collect();
+            let in_lines: Vec<&str> = raw.lines().filter_map(|line| line.split(' ').next()).collect();
+            assert_eq!(in_lines, starts, "the plan's starts");
+        }
     }
     golden("slack-mixed-night.json", &["slack", "examples/mixed-night.csv", "--json"], 0);
     let list = file("waits.csv", WAITS.as_bytes());
@@ -313,6 +317,41 @@ fn shorter_cells_change_nothing() {
     let implied = |text: String| text.lines().filter(|line| line.split(' ').nth(3) != Some("00000000")).count();
     assert_eq!((implied(raw(&long)), implied(raw(&short))), (3, 0));
     assert!(!depot(&["slack", &short], b"").text().contains("Not needed"));
+}
+
+/// The night's work by the clock, and the plan for a spreadsheet, which is a list with the same plan.
+#[test]
+fn work_lists_and_spreadsheets() {
+    for name in ["mixed-night", "on-the-road", "contactors"] {
+        let list = format!("examples/{name}.csv");
+        golden(&format!("work-{name}.txt"), &["plan", &list, "--work"], 0);
+        golden(&format!("plan-{name}.csv"), &["plan", &list, "--csv", "-"], 0);
+        let again = file("again.csv", &depot(&["plan", &list, "--csv", "-"], b"").output);
+        let planned = depot(&["plan", &again, "--json"], b"");
+        assert_eq!(planned.output, depot(&["plan", &list, "--json"], b"").output);
+        assert_eq!(planned.errors, format!("{again}: passed over the columns start, end, on, slack, lateness\n"));
+    }
+    let sheet = depot(&["sheet", "examples/small-depot.csv", "-o", "-"], b"").output;
+    let work = depot(&["plan", "-", "--work"], &sheet).text();
+    assert!(work.contains("0:00       0  plug B11 on modules 0-3, B12 on modules 4-7\n") && !work.contains("+1"), "{work}");
+    let none = depot(&["plan", "-", "--work"], &[0, 0, 0, 0, 0, 0, 1, 0, 0, 0]);
+    assert_eq!((none.status, none.text().lines().count()), (0, 3));
+    assert_eq!(depot(&["plan", "-", "--work", "--raw"], &sheet).status, 2);
+}
+
+/// A file that is standard output is all that goes there.
+#[test]
+fn files_to_standard_output() {
+    let list = "examples/small-depot.csv";
+    for (verb, option) in
+        [("plan", "--svg"), ("plan", "--html"), ("plan", "--sheet"), ("plan", "--card"), ("run", "--svg"), ("run", "--html")]
+    {
+        let target = file("one.out", b"");
+        assert_eq!(depot(&[verb, list, option, &target], b"").status, 0);
+        let ran = depot(&[verb, list, option, "-"], b"");
+        assert_eq!((ran.status, ran.errors.as_str()), (0, ""));
+        assert_eq!(ran.output, fs::read(&target).unwrap(), "{verb} {option} -");
+    }
 }
 
 /// Nights of the examples beside a greedy neighbour, and beside a workshop that has a script: every call of the plan is granted.
@@ -348,7 +387,10 @@ fn nights() {
 /// A controller that breaks a condition: its plan comes to a halt, or goes on later. The limit holds all the same.
 #[test]
 fn disturbed_nights() {
-    let run = |script: &str| depot(&["run", "examples/small-depot.csv", "--script", &file("night.desk", script.as_bytes())], b"");
+    let run = |script: &str| {
+        let script = file("night.desk", script.as_bytes());
+        depot(&["run", "examples/small-depot.csv", "--by-line", "--script", &script], b"")
+    };
     // the yard's own claim: later there is no room for a claim of the plan
     let own = run("open 360 yard=8x30/360 workshop=0/360\n10 claim yard 60\n20 claim workshop 60\n121 claim workshop 30\n");
     same("host/tests/golden/run-halted.txt", &own.output);
@@ -596,6 +638,53 @@ fn lists_as_people_write_them() {
     }
 }
 
+/// Lists by any name and on standard input, in the codings and with the signs of spreadsheets: every verb takes them, and sheets.
+#[test]
+fn lists_by_any_name() {
+    let plain = "cabinet,4\nstart,20:00\nlabel,modules,minutes,after,departure\nA,1,10,,00:00\nB,2,20,A,04:10\n";
+    let sheet = depot(&["sheet", &file("plain.csv", plain.as_bytes()), "-o", "-"], b"").output;
+    let tabs = plain.replace(',', "\t");
+    let utf_16 = |text: &str| [&[0xFF, 0xFE][..], &text.encode_utf16().flat_map(u16::to_le_bytes).collect::<Vec<u8>>()].concat();
+    let windows = [b"# K\xfchler\n", plain.as_bytes()].concat();
+    let seconds = plain.replace("00:00", "24:00").replace("04:10", "04:10:00");
+    for list in [plain.as_bytes(), tabs.as_bytes(), &utf_16(plain), &utf_16(&tabs), &windows, seconds.as_bytes()] {
+        for name in ["-", &file("list.txt", list), &file("list", list), &file("list.csv", list)] {
+            let ran = depot(&["sheet", name, "-o", "-"], list);
+            assert_eq!((ran.status, ran.errors.as_str()), (0, ""), "{}", String::from_utf8_lossy(list));
+            assert_eq!(ran.output, sheet, "{}", String::from_utf8_lossy(list));
+        }
+    }
+    for words in [&["plan"][..], &["end"], &["slack"], &["use"], &["sets"], &["run"], &["size", "--by", "300"], &["list"]] {
+        let of = |name: &str, input: &[u8]| depot(&[&words[..1], &[name], &words[1..]].concat(), input);
+        let (typed, named) = (of("-", plain.as_bytes()), of(&file("list.txt", plain.as_bytes()), b""));
+        assert_eq!((typed.status, named.status), (0, 0), "{words:?}: {}", typed.errors);
+        assert_eq!(typed.text().replace("-: ", "list.txt: "), named.text(), "{words:?}");
+        assert_eq!(of(&file("sheet.csv", &sheet), b"").status, 0, "a sheet by a list's name");
+    }
+    assert_eq!(depot(&["list", "-"], plain.as_bytes()).text(), plain.replace("00:00", "00:00+1").replace("04:10", "04:10+1"));
+    assert_eq!(depot(&["sheet", "-", "-o", "-"], &sheet).output, sheet);
+}
+
+/// What is taken though it may not be meant is said on standard error.
+#[test]
+fn lists_that_are_worth_a_word() {
+    let said = |text: &str| {
+        let list = file("word.csv", text.as_bytes());
+        let ran = depot(&["plan", &list, "--raw"], b"");
+        assert_eq!(ran.status, 0, "{}", ran.errors);
+        ran.errors.replace(&list, "LIST")
+    };
+    let columns = "cabinet;4\nlabel;driver;modules;minutes;;departure;notes\nA;M\u{fc}ller;1;10;x;30;\"a; b\"\nB;;1;10;;30\n";
+    assert_eq!(said(columns), "LIST: passed over the columns driver, notes\n");
+    assert_eq!(said("cabinet,4\nlabel,modules,minutes,departure,afte\nA,1,10,30,B\n"), "LIST: passed over the column afte\n");
+    let past = "cabinet,4\nstart,22:00\nlabel,modules,minutes,departure,arrival\nE1,1,10,21:30,\nE2,1,10,14:00,\nE3,1,10,21:30+1,21:59\n";
+    assert_eq!(
+        said(past),
+        "LIST, line 4: E1 departs at 21:30; with a start at 22:00 that is taken for 21:30+1, 23 h 30 min later\n\
+         LIST, line 6: E3 arrives at 21:59; with a start at 22:00 that is taken for 21:59+1, 23 h 59 min later\n"
+    );
+}
+
 /// Arrivals as minutes, as times of day, as empty cells or in no column at all.
 #[test]
 fn arrivals_as_people_write_them() {
@@ -648,8 +737,8 @@ fn modules_that_rest() {
     let e1 = "cabinet,2\nlabel,modules,minutes,departure\nA,1,10,30\nB,2,20,25\nC,1,10,30\n";
     let plan = |text: &str| {
         let (list, svg, html) = (file("e1.csv", text.as_bytes()), file("e1.svg", b""), file("e1.html", b""));
-        let table = depot(&["plan", &list, "--svg", &svg, "--html", &html], b"").text();
-        let json = depot(&["plan", &list, "--json"], b"").text();
+        let table = depot(&["plan", &list, "--by-line", "--svg", &svg, "--html", &html], b"").text();
+        let json = depot(&["plan", &list, "--by-line", "--json"], b"").text();
         [table, json, fs::read_to_string(svg).unwrap(), fs::read_to_string(html).unwrap()]
     };
     let without = plan(e1);
@@ -667,21 +756,69 @@ fn modules_that_rest() {
     }
 }
 
+/// A list whose lines make buses late, in the order of departures, and with nobody late at a later end.
+#[test]
+fn buses_that_need_not_be_late() {
+    let late = |words: &[&str]| {
+        let said = depot(&[&["plan"], words].concat(), b"").text();
+        let end = said.split("full at minute ").nth(1).and_then(|rest| rest.split(',').next()).unwrap().to_string();
+        (end, said.lines().nth(1).unwrap().to_string(), said)
+    };
+    let everybody = "Every bus is full by its departure.";
+    for (name, by_line) in
+        [("small-depot", "B23 (20 min late)"), ("mixed-night", "S8 (15 min late)"), ("hard-night", "N414 (10 min late)")]
+    {
+        let list = format!("examples/{name}.csv");
+        let (end, said, _) = late(&[&list]);
+        assert_eq!(said, everybody, "{name}");
+        let (same_end, said, all) = late(&[&list, "--by-line"]);
+        assert_eq!((same_end, said), (end, format!("1 bus is full only after its departure: {by_line}.")));
+        assert!(all.contains("\nNo plan ends earlier; of those that end alike the order of the lines decides.\n"), "{all}");
+    }
+    let tight = file("tight.csv", b"cabinet,3\nlabel,modules,minutes,departure\nA,2,30,60\nB,1,90,300\nC,2,30,70\nD,1,30,70\n");
+    let (end, said, all) = late(&[&tight]);
+    assert_eq!((end.as_str(), said.as_str()), ("90", "1 bus is full only after its departure: D (20 min late)."));
+    let later =
+        "\nSome bus is late in every plan that ends by then. The first plan in which nobody is late ends at minute 120, 30 min \
+                 later: --on-time shows it.\n";
+    assert!(all.contains(later), "{all}");
+    assert!(depot(&["plan", &tight, "--json"], b"").text().ends_with("\"on_time_end\": 120}\n"));
+    let (sheet, card) = (file("tight.sheet", b""), file("tight.card", b""));
+    let (end, said, all) = late(&[&tight, "--on-time", "--sheet", &sheet, "--card", &card]);
+    assert_eq!((end.as_str(), said.as_str()), ("120", everybody));
+    assert!(all.contains("\nNo valid plan in which nobody is late ends earlier. "), "{all}");
+    card_is_the_library_s(&fs::read(&sheet).unwrap(), &fs::read(&card).unwrap());
+    golden("plan-on-time.txt", &["plan", &tight, "--on-time"], 0);
+    golden("slack-on-time.txt", &["slack", &tight, "--on-time"], 0);
+    assert_eq!(depot(&["run", &tight, "--on-time"], b"").status, 0);
+    let never = file("never.csv", b"cabinet,1\nlabel,modules,minutes,departure\nA,1,60,60\nB,1,60,60\n");
+    let (_, _, said) = late(&[&never]);
+    assert!(said.contains("\nSome bus is late in every plan, however late it ends. Of those"), "{said}");
+    let refused = depot(&["plan", &never, "--on-time"], b"");
+    assert_eq!((refused.status, refused.output.len()), (1, 0));
+    assert_eq!(refused.errors, format!("{never}: some bus is late in every plan, however late it ends\n"));
+    let json = depot(&["plan", &never, "--json"], b"").text();
+    assert!(json.ends_with("\"on_time_end\": null}\n"), "{json}");
+    let both = depot(&["plan", &never, "--on-time", "--by-line"], b"");
+    assert_eq!((both.status, both.output.len()), (2, 0));
+}
+
 /// A bus that starts only when another one has arrived, though there is room for it before, is named.
 #[test]
 fn buses_behind_one_on_the_road() {
     let e1 = "cabinet,2\nlabel,modules,minutes,departure,arrival\nA,1,10,30,25\nB,2,20,25\nC,1,10,30\n";
     let (list, page) = (file("behind.csv", e1.as_bytes()), file("behind.html", b""));
-    let said = depot(&["plan", &list, "--html", &page], b"").text();
+    let said = depot(&["plan", &list, "--by-line", "--html", &page], b"").text();
     let note = "C starts at minute 25, when A arrives, though there is room for it from minute 20 on.";
     assert!(said.contains(note), "{said}");
     assert!(fs::read_to_string(page).unwrap().contains(note));
     let above = e1.replace("A,1,10,30,25\n", "") + "A,1,10,30,25\n";
-    let said = depot(&["plan", &file("above.csv", above.as_bytes())], b"").text();
-    assert!(
-        said.contains("1 bus is full only after its departure: A (5 min late).") && !said.contains("arrives, though"),
-        "{said}"
-    );
+    let by_line = depot(&["plan", &file("above.csv", above.as_bytes()), "--by-line"], b"").text();
+    let by_departure = depot(&["plan", &list], b"").text();
+    for said in [by_line, by_departure] {
+        let late = "1 bus is full only after its departure: A (5 min late).";
+        assert!(said.contains(late) && !said.contains("arrives, though"), "{said}");
+    }
 }
 
 /// A fleet number with spaces, and how it is named in the column `after`: in double quotes, as a text or a spreadsheet has them.
@@ -711,8 +848,11 @@ fn fleet_numbers() {
 
 #[test]
 fn desk() {
-    golden("desk.txt", &["desk", SCRIPT], 1);
-    golden("desk.json", &["desk", SCRIPT, "--json"], 1);
+    for (name, words) in [("desk.txt", &["desk", SCRIPT][..]), ("desk.json", &["desk", SCRIPT, "--json"])] {
+        let ran = depot(words, b"");
+        assert_eq!((ran.status, ran.errors.as_str()), (1, "depot: 5 calls were refused; the exit status is 1\n"));
+        same(&format!("host/tests/golden/{name}"), &ran.output);
+    }
     let script = fs::read(top().join(SCRIPT)).unwrap();
     let typed = depot(&["desk"], &script);
     let shown = depot(&["desk", SCRIPT], b"").text();
@@ -720,6 +860,98 @@ fn desk() {
     assert_eq!(typed.text().lines().collect::<Vec<_>>(), answers);
     let calm = depot(&["desk"], b"open 10 4/10 3/10\nclaim 0 6.5\nback 0 6.5\nquit\nclaim 0 99\n");
     assert_eq!((calm.status, calm.text().lines().last()), (0, Some("done: hands back 6.5 kW; controller 0 now holds 0")));
+}
+
+/// The picture of page twelve's feared case, and that of edges: no desk, a refused claim beyond all bounds, other limits, eight controllers.
+#[test]
+fn desk_pictures() {
+    const FEARED: &str = "examples/old-reading.desk";
+    let target = file("desk.svg", b"");
+    let ran = depot(&["desk", FEARED, "--svg", &target], b"");
+    assert_eq!((ran.status, ran.output), (1, depot(&["desk", FEARED], b"").output));
+    let drawn = fs::read(&target).unwrap();
+    same("examples/old-reading.svg", &drawn);
+    let alone = depot(&["desk", FEARED, "--svg", "-"], b"");
+    assert_eq!((alone.status, alone.output), (1, drawn.clone()));
+    let text = String::from_utf8(drawn).unwrap();
+    assert_eq!(text.matches("class=\"refused\"").count(), 2, "one refused claim, and its mark in the legend");
+    assert!(text.contains("refused 17") && text.contains("limit 480 kW"));
+
+    let eight = "open 40000 1/9 1/9 1/9 1/9 1/9 1/9 1/9 1/9\nclaim 7 40000\nclaim 0 429496729.5\nchange 20 1/9 1/9 1/9 1/9 1/9 1/9 1/9 1/9\n";
+    for script in ["", "claim 0 1\n", eight, "open 10 <b>&=4/10 \"=3/10\nclaim 0 7\nback 0 7\nlook\nshow\n"] {
+        let picture = depot(&["desk", "--svg", "-"], script.as_bytes()).text();
+        assert!(picture.starts_with("<svg ") && picture.ends_with("</svg>\n"), "{script}");
+        assert!(!["NaN", "inf", "<b>", "width=\"-"].iter().any(|wrong| picture.contains(wrong)), "{script}: {picture}");
+    }
+}
+
+/// A desk is not forgotten by mistake, and a mistake is taken back.
+#[test]
+fn desks_that_are_kept() {
+    let said = |script: &str| {
+        let ran = depot(&["desk"], script.as_bytes());
+        (ran.status, ran.text())
+    };
+    let open = "open 10 yard=4/10 shop=3/10\n";
+    let (status, held) = said(&format!("{open}claim yard 5\n{open}show\n"));
+    let refused = "this desk holds power, which would be forgotten: yard 5 kW; allowed: back first, or 'open!' to forget it";
+    assert_eq!(status, 2);
+    assert!(held.contains(refused) && held.contains("holds 5, assured 4"), "{held}");
+    let (status, anew) = said(&format!("{open}claim yard 5\nopen! 20 1/2 3/4\nshow\nback 0 0.1\n"));
+    assert!(status == 1 && anew.contains("controller 0") && anew.contains("refused 18"), "{anew}");
+    let (status, again) = said(&format!("{open}{open}"));
+    assert_eq!((status, again.matches("opened\n").count()), (0, 2), "nothing is held");
+    let (status, undone) = said(&format!("{open}claim yard 5\nclaim yard 9\nlook\nundo\nundo\nundo\n"));
+    assert_eq!(status, 2, "{undone}");
+    let lines = [
+        "undone: claim yard 5. Tell whoever acted on it",
+        "undone: open 10 yard=4/10 shop=3/10. ",
+        "no desk is open\n",
+        "nothing to undo",
+    ];
+    assert!(lines.iter().all(|line| undone.contains(line)), "{undone}");
+
+    let kept = file("kept.desk-bytes", b"");
+    let before = said(&format!("{open}claim yard 5\nsave {kept}\nshow\n"));
+    let bytes = fs::read(&kept).unwrap();
+    assert_eq!(
+        (before.0, bytes.len(), &bytes[..8], &bytes[104..]),
+        (0, 104 + 10, &[2, 0, 0, 0, 100, 0, 0, 0][..], &b"yard\nshop\n"[..])
+    );
+    let after = said(&format!("load {kept}\n"));
+    let bars = |text: &str| text.lines().filter(|line| line.contains('[')).map(String::from).collect::<Vec<_>>();
+    assert_eq!((after.0, bars(&after.1)), (0, bars(&before.1)[3..].to_vec()));
+    let firmware_s = file("firmware.desk-bytes", &bytes[..104]);
+    assert!(said(&format!("load {firmware_s}\n")).1.contains("controller 1"));
+    let twice = said(&format!("load {kept}\nload {kept}\nload! {kept}\n"));
+    assert!(
+        twice.0 == 2 && twice.1.contains("'load!' to forget it") && twice.1.matches("loaded from ").count() == 2,
+        "{}",
+        twice.1
+    );
+    let mut spoilt = bytes.clone();
+    spoilt[8] = 200;
+    for wrong in [&bytes[..103], &bytes[..109], &spoilt, b""] {
+        let no_desk = file("no.desk-bytes", wrong);
+        assert!(said(&format!("load {no_desk}\n")).1.contains("is no desk; allowed: "), "{wrong:02x?}");
+    }
+
+    let log = file("night.log", b"");
+    assert_eq!(said(&format!("{open}log {log}\nclaim yard 5\nclaim yard 9\nclam\n")).0, 2);
+    let logged = fs::read_to_string(&log).unwrap();
+    assert!(logged.lines().all(|line| line.starts_with("    ") || line.starts_with("20") && line.contains(" UTC ")), "{logged}");
+    let entries: Vec<&str> = logged.lines().filter_map(|line| line.split(" UTC ").nth(1)).collect();
+    assert_eq!(entries, [&format!("log {log}"), "claim yard 5", "claim yard 9", "clam"]);
+    assert!(
+        logged.contains("    granted: claims 5 kW")
+            && logged.contains("    refused 16: ")
+            && logged.contains("did you mean 'claim'?")
+    );
+
+    let marked = depot(&["desk", &file("marked.desk", format!("\u{feff}{open}").as_bytes())], b"");
+    assert_eq!((marked.status, marked.errors.as_str()), (0, ""));
+    let help = depot(&["desk"], b"help\n").text();
+    assert!(help.starts_with("Commands:\n  open LIMIT") && !help.contains("usage") && !help.contains("--json"), "{help}");
 }
 
 /// Each refusal of the desk, with its sums.
@@ -730,7 +962,7 @@ fn desk_refusals() {
                    change 10 4/10\nchange 10 4/11 3/10\nchange 10 6/10 5/10\nchange 10 4/4.9 3/10\nchange 8 2/8 6/8\n\
                    change 8 5/8 3/8\nchange 9 1=3/9 0=5/9\nclaim 0 1\nclaim 0 2\n";
     let ran = depot(&["desk"], script);
-    assert_eq!((ran.status, ran.errors.as_str()), (1, ""));
+    assert_eq!((ran.status, ran.errors.as_str()), (1, "depot: 22 calls were refused; the exit status is 1\n"));
     same("host/tests/golden/desk-refusals.txt", &ran.output);
     for number in [11, 12, 13, 14, 15, 16, 17, 18, 21, 22] {
         assert!(ran.text().contains(&format!("refused {number}: ")), "no refusal {number}");

@@ -44,9 +44,20 @@ pub fn order_checks(sheet: &Sheet) -> Result<(), u32> {
 
 /// The plan of a sheet of which 1 to 9 and 19 do not fail.
 pub fn best(sheet: &Sheet) -> Finished {
-    let mut best = None;
-    try_every_order(sheet, &mut Vec::new(), &mut best);
+    let mut best: Option<Finished> = None;
+    every_list_plan(sheet, &mut |slots| {
+        let end = slots.iter().map(|slot| slot.end).max().unwrap_or(0);
+        let order: Vec<usize> = slots.iter().map(|slot| slot.job).collect();
+        if best.as_ref().is_none_or(|found| (end, &order) < (found.end, &found.order)) {
+            best = Some(Finished { end, order, slots: slots.to_vec() });
+        }
+    });
     best.expect("jobs of which none precedes itself have an order")
+}
+
+/// Shows the list plan of every order, its jobs in that order.
+pub fn every_list_plan(sheet: &Sheet, show: &mut impl FnMut(&[Slot])) {
+    try_every_order(sheet, &mut Vec::new(), show);
 }
 
 /// Whether some job would have to end before itself, directly or through others.
@@ -88,21 +99,16 @@ impl Finished {
 }
 
 /// Goes on from the jobs placed so far to every order of all jobs in which each follows its earlier jobs.
-fn try_every_order(sheet: &Sheet, placed: &mut Vec<Slot>, best: &mut Option<Finished>) {
+fn try_every_order(sheet: &Sheet, placed: &mut Vec<Slot>, show: &mut impl FnMut(&[Slot])) {
     if placed.len() == sheet.jobs.len() {
-        let end = placed.iter().map(|slot| slot.end).max().unwrap_or(0);
-        let order: Vec<usize> = placed.iter().map(|slot| slot.job).collect();
-        if best.as_ref().is_none_or(|found| (end, &order) < (found.end, &found.order)) {
-            *best = Some(Finished { end, order, slots: placed.clone() });
-        }
-        return;
+        return show(placed);
     }
     for job in 0..sheet.jobs.len() {
         let is_placed = |j: usize| placed.iter().any(|slot| slot.job == j);
         if !is_placed(job) && sheet.jobs[job].earlier.iter().all(|e| is_placed(*e)) {
             let slot = next_slot(sheet, placed, job);
             placed.push(slot);
-            try_every_order(sheet, placed, best);
+            try_every_order(sheet, placed, show);
             placed.pop();
         }
     }

@@ -2,6 +2,7 @@
 mod ablation;
 mod child;
 mod clock;
+mod departures;
 mod desk_calls;
 mod ends;
 mod gecode;
@@ -40,6 +41,7 @@ fn main() {
             Part::Changeovers => planning::measure_changeovers(&options),
             Part::Ends => ends::measure(&options),
             Part::Sizes => sizes::measure(&options),
+            Part::Departures => departures::measure(&options),
             Part::Ablation => ablation::measure(&options),
             Part::Gecode => gecode::measure(&options),
             Part::Stack => stack_need::measure(),

@@ -9,6 +9,7 @@ parts; plans, stack, sheets and desk where none is named:
   changeovers      planning of lists whose modules rest between two jobs, and what each rule that looks at the changeover pays
   ends             the end alone beside planning, family by family: their ends are the same, and the ratio of their times
   sizes            the least module count beside planning, for the end in the list's own cabinet, 4/5 and 3/5 of it
+  departures       who is late in lists of depots with departures at random, by the order of the jobs on the sheet
   ablation         what each rule of the search pays: the search in plain Rust with one rule left out
   gecode           the earliest end by MiniZinc's solver Gecode beside planning, where minizinc is installed
   stack            the stack that each call needs, planning at 20 jobs

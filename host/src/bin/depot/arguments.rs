@@ -1,5 +1,5 @@
 //! The words behind a verb: options with and without values, and files.
-use crate::outcome::Trouble;
+use crate::outcome::{visible, Trouble};
 
 /// What a verb takes.
 pub struct Takes<'a> {
@@ -45,9 +45,9 @@ impl Arguments {
             } else if takes.flags.contains(&name) && joined.is_none() {
                 read.flags.push(name.into());
             } else if name.len() > 1 && name.starts_with('-') {
-                return wrong(format!("there is no option '{word}'"));
+                return wrong(format!("there is no option '{}'", visible(word)));
             } else if read.plain.len() == takes.plain.len() && !takes.more {
-                return wrong(format!("'{word}' is one word too many"));
+                return wrong(format!("'{}' is one word too many", visible(word)));
             } else {
                 read.plain.push(word.clone());
             }
@@ -81,7 +81,7 @@ impl Arguments {
     /// The value of an option as something else; what is allowed is said where it is not.
     pub fn read_value<T>(&self, option: &str, read: impl Fn(&str) -> Option<T>, allowed: &str) -> Result<Option<T>, Trouble> {
         let Some(word) = self.value(option) else { return Ok(None) };
-        let wrong = || Trouble::usage(format!("{option}: found '{word}'; allowed is {allowed}"), &self.verb);
+        let wrong = || Trouble::usage(format!("{option}: found '{}'; allowed is {allowed}", visible(word)), &self.verb);
         read(word).map(Some).ok_or_else(wrong)
     }
 }

@@ -6,7 +6,7 @@ use crate::{json, search};
 use depot_host::read;
 
 pub fn run(words: &[String]) -> Result<Outcome, Trouble> {
-    let (Asked { form, memory, .. }, yard) = Asked::of_a_list("end", words)?;
+    let (Asked { form, memory, .. }, yard) = Asked::of_a_list("end", &["--raw", "--json"], words)?;
     let end = match search::end(&yard.sheet, memory) {
         Ok(end) => end,
         Err(refusal) => return refused(&yard, refusal, form),

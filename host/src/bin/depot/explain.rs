@@ -44,12 +44,12 @@ const TO_DO: [(Refusal, &str, &str); 26] = [
          a refused start gave: start one anew, and keep what each step hands back.",
     ),
     (Refusal::ForNothing, "claims, hand-backs", "Name 0.1 kW or more: the desk counts in hundreds of watts."),
-    (Refusal::PassesCeiling, "claims, steps of a runner", "Claim less, or hand back first: the ceiling is this controller's own bound, whatever the others hold. Look for the figure."),
+    (Refusal::PassesCeiling, "claims, steps of a runner", "Claim less, or hand back first: the ceiling is this controller's own bound, whatever the others hold. A look gives the figure."),
     (
         Refusal::DoesNotFit,
         "claims, steps of a runner",
         "Claim less, or wait until another controller hands back: what others hold, and what is assured to them, is not given away. \
-         Look for the figure.",
+         A look gives the figure.",
     ),
     (Refusal::ExceedsHolding, "hand-backs, steps of a runner", "Hand back no more than the controller holds: 'show' has the figure."),
     (

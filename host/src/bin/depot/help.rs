@@ -17,11 +17,13 @@ usage: depot VERB ..
   depot sets LIST.csv            how large the search will be, without planning
   depot sheet LIST.csv -o FILE   a list to a job sheet, the bytes that a cabinet takes
   depot list FILE                a job sheet back to a list
-  depot desk                     an interactive share desk: open, change, claim, back, look, show
+  depot desk                     an interactive share desk: open, change, claim, back, look, show, undo, save
   depot run LIST.csv             the plan followed on a share desk, minute by minute, beside others
   depot explain N                what refusal N means and what to do
   depot VERB --help              the options of a verb, and the list's format
   depot --version                the versions of the command line and of the library
+
+Every verb that takes a list takes a job sheet too: the bytes of a file tell which it is, whatever its name. - is standard input.
 
 Exit status: 0 answered; 1 refused, or the list has faults; 2 wrong usage, or a file cannot be read or written.
 ";
@@ -43,33 +45,33 @@ A list is a text with a line for each job:
   after      labels of jobs that must have ended first, or their numbers (#0 is the first job), with a space between them;
              a label with a space in it stands in double quotes: \"N 417 B\" B101; the column may be left out
   departure  a minute counted from the start, 0 to 2880; with a line 'start' also a time: 05:30 is the first from the start on,
-             05:30+1 the one on the day after the start's
+             05:30+1 the one on the day after the start's; 05:30:00 and 24:00 are times too
   arrival    the minute before which the job does not start, 0 to 1440, or a time as for the departure; nothing is 0, and the column
              may be left out; a departure may lie before the arrival
 
-Up to 20 jobs. Fields are separated by commas, or all by semicolons; one with such a sign or a double quote in it stands in double
-quotes, with a double quote written twice. Lines that begin with # and a space are remarks.
+Up to 20 jobs. Other columns are passed over, and named on standard error; so is a time of day that lies more than 16 hours after the start.
+Fields are separated by commas, or all by semicolons or tabs; one with such a sign or a double quote in it stands in double quotes, with a
+double quote written twice. Lines that begin with # and a space are remarks. The text is UTF-8, UTF-16 or Windows' own.
 ";
 
 const END: &str = "\
-usage: depot end LIST.csv|SHEET [OPTION..]
+usage: depot end LIST|SHEET [OPTION..]
 
 Says when the last bus is full at the earliest: the end of the plan that 'depot plan' shows, and of no plan, whoever makes it, earlier.
-It takes less time than the plan. A name that ends in .csv is a list, every other a job sheet; - is a sheet on standard input.
+It takes less time than the plan.
 
   --start HH:MM    the plan's start as a time of day, in place of the list's
   --raw            the minute alone, counted from the start
   --json           for programs
-  --memory BYTES   working memory of the search, with K or M (16M); 0 is allowed, and no length changes the answer
+  --memory BYTES   working memory of the search, 0 to 16G, with K, M or G (16M); no length changes the answer
 ";
 
 const SIZE: &str = "\
-usage: depot size LIST.csv|SHEET --by TIME [OPTION..]
+usage: depot size LIST|SHEET --by TIME [OPTION..]
 
 Says how large a cabinet the list asks for: the least number of modules, up to 64, with which the last bus is full by TIME, and that no
 plan on fewer modules, whoever makes it, ends by then. The list's own cabinet does not count; a bus may need more modules than it has.
-Below stands the earliest end for the counts beside it. A name that ends in .csv is a list, every other a job sheet; - is a sheet on
-standard input.
+Below stands the earliest end for the counts beside it.
 
   --by TIME        a minute counted from the start, 0 to 65535, or a time of day where the start is known: 05:30 is the first from the
                    start on, 05:30+1 the one on the day after the start's
@@ -77,114 +79,130 @@ standard input.
   --raw            the number of modules alone
   --json           for programs
   --card OUT       the bytes of the plan card for that many modules too
-  --memory BYTES   working memory of the search, with K or M (16M); 0 is allowed, and no length changes the answer
+  --memory BYTES   working memory of the search, 0 to 16G, with K, M or G (16M); no length changes the answer
 ";
 
 const USE: &str = "\
-usage: depot use LIST.csv|SHEET .. [OPTION..]
+usage: depot use LIST|SHEET .. [OPTION..]
 
 Says how much of the cabinet the plan uses that 'depot plan' shows: the share of its module-minutes up to the plan's end in which jobs
 charge; modules that rest do not. The per mille is rounded down, and the remainder makes it exact: a thousand times the occupied
 module-minutes is the per mille times all of them plus the remainder. Of several lists a table, with a line a list and a total of their
-module-minutes; a list that is refused does not count in it. It takes as long as 'depot end'. A name that ends in .csv is a list, every
-other a job sheet; - is a sheet on standard input.
+module-minutes; a list that is refused does not count in it. It takes as long as 'depot end'.
 
   --start HH:MM    the plans' start as a time of day, in place of the lists'
   --raw            the per mille and the remainder alone, a line a list
   --json           for programs
-  --memory BYTES   working memory of the search, with K or M (16M); 0 is allowed, and no length changes the answer
+  --memory BYTES   working memory of the search, 0 to 16G, with K, M or G (16M); no length changes the answer
 ";
 
 const PLAN: &str = "\
-usage: depot plan LIST.csv|SHEET [OPTION..]
+usage: depot plan LIST|SHEET [OPTION..]
 
-Shows the plan that ends first of all valid plans, by the tie rule. A name that ends in .csv is a list, every other a job sheet;
-- is a sheet on standard input. Departures do not steer the plan; they tell who is late. Of plans that end alike the order of the lines
-decides: put buses that are there first, and those that are on the road behind them, by their arrivals.
+Shows the plan that ends first of all valid plans. Of plans that end alike the order of the jobs on the sheet decides, the tie rule. A list
+is put on its sheet in the order of its departures. Where that leaves a bus late, it is asked whether some plan that ends alike has nobody
+late; that one is shown then. If there is none, it is said when the first plan ends in which nobody is late. A job sheet is planned as
+it is.
 
+Table, page, picture and --json have the list's order and numbers; --raw, --card and --sheet those of the sheet that was planned.
+
+  --by-line        the list's jobs on the sheet in the order of its lines, as 'depot sheet' writes it
+  --on-time        the first plan in which nobody is late, though it may end later; on its sheet a bus may be held back
   --start HH:MM    the plan's start as a time of day, in place of the list's; the list's times of day count from it
+  --work           the night's work by the clock in place of the table: who is plugged in and unplugged when, and on which modules
   --raw            exactly the printing program's lines
   --json           for programs
   --svg OUT        a picture of the plan too
-  --html OUT       a page with the picture and the table too
-  --card OUT       the plan card's bytes too
-  --memory BYTES   working memory of the search, with K or M (16M); 0 is allowed, and no length changes the answer
+  --html OUT       a page with the picture, the table and the work by the clock too
+  --csv OUT        the list with columns for start, end, modules, slack and lateness too, for a spreadsheet; it is a list again
+  --sheet OUT      the job sheet that was planned too: a cabinet that plans it comes to this plan
+  --card OUT       the plan card's bytes too, of that sheet; of these files one may be -, standard output, and is then all that goes there
+  --memory BYTES   working memory of the search, 0 to 16G, with K, M or G (16M); no length changes the answer
 ";
 
 const SLACK: &str = "\
-usage: depot slack LIST.csv|SHEET [OPTION..]
+usage: depot slack LIST|SHEET [OPTION..]
 
 Shows which bus may wait, and which holds up a departure, least slack first: its start in the plan that 'depot plan' shows, and the latest
 start by which it and all buses that wait for it, directly or through others, would still be full by their departures if there were
 modules enough. Below it stand the waits in the list that others imply, with the shorter cells of the column 'after': every bus then
-waits for the same ones, and no further wait could go. A name that ends in .csv is a list, every other a job sheet; - is a sheet on
-standard input.
+waits for the same ones, and no further wait could go.
 
+  --by-line        the plan of 'depot plan --by-line'
+  --on-time        the plan of 'depot plan --on-time'
   --start HH:MM    the plan's start as a time of day, in place of the list's
   --raw            a line for each job in the list's order: start, latest start, slack, implied waits as a set of jobs, label
   --json           for programs
-  --memory BYTES   working memory of the search, with K or M (16M); 0 is allowed, and no length changes the answer
+  --memory BYTES   working memory of the search, 0 to 16G, with K, M or G (16M); no length changes the answer
 ";
 
 const SETS: &str = "\
-usage: depot sets LIST.csv|SHEET [OPTION]
+usage: depot sets LIST|SHEET [OPTION]
 
 Shows how many sets of jobs a part-plan can hold: those that have, with each job, all jobs that it waits for, the empty one and the full
 one included. A chain of n jobs has n + 1, n jobs of which none waits for another 2 to the power n. Nothing is planned. Below it stands
-how many of the benchmark's lists of that size were planned within half a second. A name that ends in .csv is a list, every other a job
-sheet; - is a sheet on standard input.
+how many of the benchmark's lists of that size were planned within half a second.
 
   --raw            the number alone
   --json           for programs
 ";
 
 const SHEET: &str = "\
-usage: depot sheet LIST.csv -o FILE [--start HH:MM]
+usage: depot sheet LIST|SHEET -o FILE [--start HH:MM]
 
-Writes the job sheet of a list: the bytes that a cabinet takes. FILE may be - for standard output, LIST.csv - for standard input.
+Writes the job sheet of a list: the bytes that a cabinet takes. FILE may be - for standard output. The jobs keep the order of the lines, so
+of plans that end alike the lines decide; 'depot plan' can write the sheet of the plan that it shows.
 
   --start HH:MM    the plan's start as a time of day, in place of the list's; the list's times of day count from it
 ";
 
 const LIST: &str = "\
-usage: depot list SHEET [--start HH:MM] [-o FILE] [--json]
+usage: depot list LIST|SHEET [--start HH:MM] [-o FILE] [--json]
 
-Shows a job sheet as a list, which 'depot sheet' takes back. - is standard input.
+Shows a job sheet as a list, which 'depot sheet' takes back; a list as it is written plainly.
 
   --start HH:MM    arrivals and departures as times of day, counted from this start
   -o FILE          to a file
   --json           for programs; 'after' has job numbers
 ";
 
+/// What `help` shows in a desk.
 const DESK: &str = "\
-usage: depot desk [SCRIPT] [--json]
+usage: depot desk [SCRIPT] [--svg OUT] [--json]
 
-A share desk that takes a command from each line of standard input, or of a script file:
+A share desk that takes a command from each line of standard input, or of a script file.
 
+Commands:
   open LIMIT SHARE/CEILING ..   opens a desk for 2 to 8 controllers; NAME=SHARE/CEILING gives one a name
+  open! ..                      the same where power is held, which is forgotten: nobody else is told
   change LIMIT SHARE/CEILING .. gives the desk new figures; what is held stays; NAME=SHARE/CEILING for the controller of that name
   claim CONTROLLER KW           claims power
   back CONTROLLER KW            hands power back
   look [CONTROLLER]             the largest claim that would be granted now
   show                          a bar for each controller
+  undo                          takes back the last command that changed the desk; who acted on it must be told
+  save FILE, load FILE          the desk's bytes and its names, to a file and back; load! where power is held
+  log FILE                      adds every command from here on to a file, with its time and answer
   explain N                     what refusal N means
   help, quit
 
 LIMIT, SHARE, CEILING and KW are kilowatts in whole hundreds of watts: 30, 12.5; or so many modules of a size: 3x30 is three of 30 kW.
 A controller is named by its number, from 0, or by its name. Lines that begin with # are remarks.
 
+  --svg OUT        a picture of the calls: what each controller holds behind each, what stays reserved, and the limit
   --json           an object for each command, for programs; figures in kW too
 
-Exit status: 0 every call was answered; 1 some call was refused; 2 some line is no command.
+Exit status of a script, from a file or a pipe: 0 every call was answered; 1 some call was refused; 2 some line is no command. Of a desk
+at a keyboard it is 0: who types has seen every answer.
 ";
 
 const RUN: &str = "\
-usage: depot run LIST.csv|SHEET [OPTION..]
+usage: depot run LIST|SHEET [OPTION..]
 
-Plans a list and plays the night on a share desk, minute by minute: a runner makes the plan's hand-backs and claims, and before each of its
-minutes the other controllers call. Shows every call with its answer, what is held over time, and whether every call of the plan was
-granted: it is, whatever the others do, as long as the controller that follows the plan makes no other call and keeps the share that the
-plan needs. A name that ends in .csv is a list, every other a job sheet; - is a sheet on standard input.
+Plans a list as 'depot plan' does and plays the night on a share desk, minute by minute: a runner makes the plan's hand-backs and claims,
+and before each of its minutes the other controllers call. Shows every call with its answer, what is held over time, and whether every call
+of the plan was granted: it is, whatever the others do, as long as the controller that follows the plan makes no other call and keeps the
+share that the plan needs.
 
 Without a script the desk is that of a yard, assured of what its plan needs, and a neighbour, on a feeder with half as much again. The
 neighbour claims all that a look shows, every minute, and hands back at some minutes.
@@ -198,11 +216,14 @@ neighbour claims all that a look shows, every minute, and hands back at some min
                        23:10 back workshop 50
                      a line's call comes before the plan's calls of its minute
   --controller NAME  the controller that follows the plan, by name or number (the first)
+  --by-line          the plan of 'depot plan --by-line'
+  --on-time          the plan of 'depot plan --on-time'
   --start HH:MM      the plan's start as a time of day, in place of the list's
   --json             for programs
   --svg OUT          a picture of the night too
-  --html OUT         a page with the night's picture, the plan's and the calls too
-  --memory BYTES     working memory of the search, with K or M (16M); 0 is allowed, and no length changes the answer
+  --html OUT         a page with the night's picture, the plan's and the calls too; one of the two may be -, standard output, and is
+                     then all that goes there
+  --memory BYTES     working memory of the search, 0 to 16G, with K, M or G (16M); no length changes the answer
 
 Exit status: 0 every call of the plan was granted; 1 the start or a call of the plan was refused, or the list has faults; 2 wrong usage, or
 some line of the script is no call.
@@ -236,6 +257,13 @@ pub const ASKS: [&str; 2] = ["--help", "-h"];
 /// Whether help is asked for among these words.
 pub fn asked_for(words: &[String]) -> bool {
     words.iter().any(|word| ASKS.contains(&word.as_str()))
+}
+
+/// The part of the desk's help that names its commands.
+pub fn desk_commands() -> &'static str {
+    let from = DESK.find("Commands:").expect("the desk's commands");
+    let to = DESK.find("\n  --svg").expect("the desk's options");
+    &DESK[from..to]
 }
 
 /// The help of a verb; with the list's format where it takes a list.

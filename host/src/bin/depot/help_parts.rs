@@ -2,7 +2,7 @@
 use crate::help;
 
 /// What stands for a file in the help.
-const FILES: [&str; 5] = ["LIST.csv", "SHEET", "FILE", "OUT", "SCRIPT"];
+const FILES: [&str; 5] = ["LIST", "SHEET", "FILE", "OUT", "SCRIPT"];
 
 /// An option as the help shows it.
 #[derive(Clone, Debug, PartialEq, Eq)]

@@ -2,18 +2,22 @@
 mod arguments;
 mod chart;
 mod clock;
+mod coding;
 mod completions;
 mod desk;
 mod end_verb;
 mod explain;
+mod files;
 mod help;
 mod help_parts;
 mod json;
+mod lateness;
 mod list;
 mod man_page;
 mod outcome;
 mod outlook;
 mod page;
+mod plan_csv;
 mod plan_json;
 mod plan_text;
 mod plan_verb;
@@ -28,6 +32,7 @@ mod size_verb;
 mod slack_verb;
 mod style;
 mod use_verb;
+mod work_list;
 
 use outcome::{Outcome, Trouble};
 use std::{env, process};
@@ -74,6 +79,6 @@ fn run(words: &[String]) -> Result<Outcome, Trouble> {
         help::VERB => help::run(rest),
         verb if help::ASKS.contains(&verb) => outcome::say(help::TOP),
         "--version" | "-V" => outcome::say(&versions()),
-        _ => Err(Trouble::usage(format!("there is no verb '{verb}'"), "")),
+        _ => Err(Trouble::usage(format!("there is no verb '{}'", outcome::visible(verb)), "")),
     }
 }

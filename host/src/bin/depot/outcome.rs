@@ -41,6 +41,13 @@ impl Trouble {
             Trouble::List(faults) => eprint!("{faults}"),
         }
     }
+
+    /// What is wrong, alone.
+    pub fn text(self) -> String {
+        match self {
+            Trouble::Usage { why, .. } | Trouble::Input(why) | Trouble::List(why) => why,
+        }
+    }
 }
 
 /// Writes to standard output; a reader that has gone is no trouble.
@@ -55,13 +62,23 @@ pub fn say(text: &str) -> Result<Outcome, Trouble> {
 /// The bytes of a file, or of standard input where the name is `-`.
 pub fn bytes_of(file: &str) -> Result<Vec<u8>, Trouble> {
     let read = if file == "-" { io::stdin().lock().bytes().collect() } else { fs::read(file) };
-    read.map_err(|why| Trouble::Input(format!("'{file}' cannot be read: {}", plain(&why))))
+    read.map_err(|why| Trouble::Input(format!("'{}' cannot be read: {}", visible(file), plain(&why))))
 }
 
 /// Writes a file, or standard output where the name is `-`.
 pub fn put(file: &str, bytes: &[u8]) -> Result<(), Trouble> {
     let written = if file == "-" { io::stdout().lock().write_all(bytes) } else { fs::write(file, bytes) };
-    written.map_err(|why| Trouble::Input(format!("'{file}' cannot be written: {}", plain(&why))))
+    written.map_err(|why| Trouble::Input(unwritable(file, &why)))
+}
+
+/// Why a file was not written.
+pub fn unwritable(file: &str, why: &io::Error) -> String {
+    format!("'{}' cannot be written: {}", visible(file), plain(why))
+}
+
+/// A text in a message: what a terminal would not show, or take for a command, is escaped.
+pub fn visible(text: &str) -> String {
+    text.chars().map(|c| if c.is_control() { c.escape_debug().to_string() } else { c.to_string() }).collect()
 }
 
 fn plain(why: &io::Error) -> String {
@@ -71,4 +88,9 @@ fn plain(why: &io::Error) -> String {
         io::ErrorKind::IsADirectory => "it is a folder".into(),
         _ => why.to_string(),
     }
+}
+
+#[test]
+fn control_bytes_are_shown() {
+    assert_eq!(visible("B\u{1b}[A\t'é'\0"), "B\\u{1b}[A\\t'é'\\0");
 }

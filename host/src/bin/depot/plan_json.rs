@@ -1,6 +1,7 @@
 //! The plan for programs.
 use crate::json;
-use crate::planned::{Planned, PlannedJob};
+use crate::planned::{members as jobs_of, Planned, PlannedJob};
+use depot_host::on_time::OnTime;
 
 pub fn text(plan: &Planned) -> String {
     let jobs = plan.jobs.iter().enumerate().map(|(number, planned)| job(plan, number, planned));
@@ -17,7 +18,18 @@ pub fn text(plan: &Planned) -> String {
     if !plan.has_start {
         members.remove(1);
     }
+    members.extend(plan.on_time.and_then(first_on_time));
     json::object(&members) + "\n"
+}
+
+/// The end of the first plan in which nobody is late, or a minute before which none of them ends; null where there is none.
+fn first_on_time(known: OnTime) -> Option<(&'static str, String)> {
+    match known {
+        OnTime::This => None,
+        OnTime::From(at) => Some(("on_time_end", at.to_string())),
+        OnTime::NotBefore(at) => Some(("on_time_not_before", at.to_string())),
+        OnTime::Never => Some(("on_time_end", "null".into())),
+    }
 }
 
 fn time(plan: &Planned, minute: u16) -> String {
@@ -25,11 +37,12 @@ fn time(plan: &Planned, minute: u16) -> String {
 }
 
 fn job(plan: &Planned, number: usize, planned: &PlannedJob) -> String {
-    let PlannedJob { label, job, row, slack } = planned;
+    let PlannedJob { label, job, row, slack, .. } = planned;
     let mut members = vec![
         ("job", number.to_string()),
         ("label", json::text(label)),
         ("modules", json::numbers(&row.module_numbers())),
+        ("after", json::numbers(&jobs_of(job.earlier))),
         ("start", row.start.to_string()),
         ("end", row.end.to_string()),
         ("departure", job.departure.to_string()),
@@ -40,7 +53,7 @@ fn job(plan: &Planned, number: usize, planned: &PlannedJob) -> String {
         members.extend([("latest_start", slack.latest_start.to_string()), ("slack", slack.slack.to_string())]);
     }
     if plan.has_rests() {
-        members.insert(5, ("hand_back", plan.free_from(planned).to_string()));
+        members.insert(6, ("hand_back", plan.free_from(planned).to_string()));
     }
     if plan.has_start {
         let times =

@@ -1,13 +1,13 @@
 //! The plan for eyes, and the printing program's lines.
 use crate::planned::{lateness_in_words, ranges, slack_in_words, Planned, PlannedJob, OF_SLACK};
-use crate::road;
 use crate::style::Style;
+use crate::{lateness, road};
 use std::fmt::Write;
 
-/// Exactly the printing program's lines.
+/// Exactly the printing program's lines for the sheet that was planned.
 pub fn raw(plan: &Planned) -> String {
     let mut text = format!("plan {} {} {}\n", plan.end, plan.jobs.len(), plan.modules);
-    for job in &plan.jobs {
+    for job in plan.numbering.jobs().iter().map(|number| &plan.jobs[*number]) {
         let row = &job.row;
         writeln!(text, "{} {} {} {:016X} {}", row.start, row.end, job.lateness(), row.modules, job.label).unwrap();
     }
@@ -74,8 +74,8 @@ pub fn lines(columns: &[Column]) -> Vec<String> {
     (0..rows).map(line).collect()
 }
 
-/// The columns of the table; the last is the lateness. Arrivals have theirs where some bus is still on the road at the start, and the
-/// minutes from which on modules are free again where they rest.
+/// The columns of the table; the last is the lateness. Arrivals have theirs where some bus is still on the road at the start, waits where
+/// some bus waits for another, and the minutes from which on modules are free again where they rest.
 pub fn columns(plan: &Planned) -> Vec<Column> {
     let column = |head: &str, right: bool, cell: &dyn Fn(usize, &PlannedJob) -> String| {
         let cells = plan.jobs.iter().enumerate().map(|(number, job)| cell(number, job));
@@ -100,11 +100,20 @@ pub fn columns(plan: &Planned) -> Vec<Column> {
         columns.extend(moment("free", &|job| plan.free_from(job)));
     }
     columns.extend(moment("departs", &|job| job.job.departure));
+    if plan.jobs.iter().any(|job| job.job.earlier != 0) {
+        columns.push(column("after", false, &|_, job| plan.after(job)));
+    }
     if plan.jobs.iter().any(|job| job.slack.is_some()) {
         columns.push(column("slack", true, &|_, job| job.slack.map_or(String::new(), |slack| slack_in_words(slack.slack))));
     }
     columns.push(column("lateness", true, &|_, job| lateness_in_words(job.lateness())));
     columns
+}
+
+/// What is said below the table.
+pub fn notes(plan: &Planned) -> Vec<String> {
+    let days = plan.days_in_words().map(String::from).into_iter().collect();
+    [lateness::notes(plan), road::notes(plan), days].concat()
 }
 
 /// The plan as a table for people.
@@ -126,8 +135,8 @@ pub fn table(plan: &Planned, style: Style) -> String {
         writeln!(text, "{line}").unwrap();
     }
     let order: Vec<&str> = plan.order.iter().map(|job| plan.jobs[usize::from(*job)].label.as_str()).collect();
-    writeln!(text, "\nStarting order: {}.\nNo valid plan of this sheet ends earlier. {OF_SLACK}", order.join(", ")).unwrap();
-    for note in road::notes(plan) {
+    writeln!(text, "\nStarting order: {}.\n{} {OF_SLACK}", order.join(", "), plan.none_earlier()).unwrap();
+    for note in notes(plan) {
         writeln!(text, "{note}").unwrap();
     }
     text

@@ -1,22 +1,30 @@
 //! `depot plan`: from a list or a sheet to the plan, as a table, lines, JSON, a picture, a page, a card.
 use crate::arguments::{Arguments, Takes};
 use crate::clock::{Clock, START_ALLOWED};
-use crate::outcome::{put, say, Outcome, Trouble};
+use crate::files::Files;
+use crate::outcome::{say, Outcome, Trouble};
 use crate::planned::{Planned, Yard};
+use crate::search::{By, Failed, Found};
 use crate::style::Style;
-use crate::{chart, json, page, plan_json, plan_text, pointer, search};
+use crate::{chart, json, lateness, page, plan_csv, plan_json, plan_text, pointer, search, work_list};
 use depot_host::{units, Refusal};
 
 const TAKES: Takes = Takes {
     verb: "plan",
-    flags: &["--raw", "--json"],
-    values: &["--start", "--svg", "--html", "--card", "--memory"],
+    flags: &["--raw", "--json", "--work", "--by-line", "--on-time"],
+    values: &["--start", "--svg", "--html", "--csv", "--card", "--sheet", "--memory"],
     plain: &["a list or a sheet"],
     needed: 1,
     more: false,
 };
 
+/// The search's working memory where none is asked for, and the most that may be.
 const MEMORY: usize = 16 << 20;
+const MOST_MEMORY: usize = 16 << 30;
+const MEMORY_ALLOWED: &str = "0 to 16G, in bytes or with K, M or G behind the number";
+
+/// So many searches run at the same time.
+const SEARCHES: usize = 2;
 
 /// What is printed on standard output.
 #[derive(Clone, Copy, PartialEq, Eq)]
@@ -28,19 +36,23 @@ pub enum Form {
 
 pub fn run(words: &[String]) -> Result<Outcome, Trouble> {
     let arguments = Arguments::read(&TAKES, words)?;
-    let Asked { form, start, memory } = Asked::by(&arguments)?;
-    let yard = Yard::open(arguments.plain(0).expect("a file is needed"), start)?;
-    let with_slack = form != Form::Raw || arguments.value("--html").is_some();
-    let search::Found { reading, bytes, card, slacks } = match search::run(&yard.sheet, memory, with_slack) {
+    let asked = Asked::by(&arguments)?;
+    let files = Files::of(&arguments, &["--sheet", "--card", "--svg", "--html", "--csv"])?;
+    let yard = Yard::open(arguments.plain(0).expect("a file is needed"), asked.start)?;
+    let with_slack = asked.form != Form::Raw || ["--html", "--csv"].iter().any(|file| arguments.value(file).is_some());
+    let found = match asked.plan(&yard, with_slack) {
         Ok(found) => found,
-        Err(refusal) => return refused(&yard, refusal, form),
+        Err(failed) => return not_planned(&yard, failed, asked.form),
     };
-    let plan = Planned::new(&yard, reading, card, slacks);
-    let file = |option, bytes: &dyn Fn() -> Vec<u8>| arguments.value(option).map_or(Ok(()), |file| put(file, &bytes()));
-    file("--card", &|| bytes.clone())?;
-    file("--svg", &|| chart::file(&plan).into_bytes())?;
-    file("--html", &|| page::text(&plan).into_bytes())?;
-    say(&match form {
+    let (sheet, bytes) = (found.sheet.clone(), found.bytes.clone());
+    let plan = Planned::new(&yard, found);
+    files.write("--sheet", || sheet)?;
+    files.write("--card", || bytes)?;
+    files.write("--svg", || chart::file(&plan).into_bytes())?;
+    files.write("--html", || page::text(&plan).into_bytes())?;
+    files.write("--csv", || plan_csv::text(&plan).into_bytes())?;
+    files.then_say(|| match asked.form {
+        Form::Table if arguments.has("--work") => work_list::text(&plan, Style::of_output()),
         Form::Table => plan_text::table(&plan, Style::of_output()),
         Form::Raw => plan_text::raw(&plan),
         Form::Json => plan_json::text(&plan),
@@ -52,26 +64,37 @@ pub struct Asked {
     pub form: Form,
     pub start: Option<Clock>,
     pub memory: usize,
+    by: Option<By>,
 }
 
 impl Asked {
     pub fn by(arguments: &Arguments) -> Result<Asked, Trouble> {
         let form = form(arguments)?;
         let start = arguments.read_value("--start", Clock::starting, START_ALLOWED)?;
-        let memory = arguments.read_value("--memory", units::bytes, "a number of bytes, or one with K or M")?;
-        Ok(Asked { form, start, memory: memory.unwrap_or(MEMORY) })
+        let bytes = |word: &str| units::bytes(word).filter(|bytes| *bytes <= MOST_MEMORY);
+        let memory = arguments.read_value("--memory", bytes, MEMORY_ALLOWED)?.unwrap_or(MEMORY);
+        if Vec::<u8>::new().try_reserve_exact(SEARCHES * memory).is_err() {
+            return Err(Trouble::usage("--memory: this machine does not give so much", arguments.verb()));
+        }
+        let by = match (arguments.has("--by-line"), arguments.has("--on-time")) {
+            (true, true) => return Err(Trouble::usage("--by-line and --on-time exclude each other", arguments.verb())),
+            (true, false) => Some(By::Line),
+            (false, true) => Some(By::OnTime),
+            (false, false) => None,
+        };
+        Ok(Asked { form, start, memory, by })
     }
 
-    /// What is asked of a verb that takes one list and no options but these, and the list.
-    pub fn of_a_list(verb: &str, words: &[String]) -> Result<(Asked, Yard), Trouble> {
-        let takes = Takes {
-            verb,
-            flags: &["--raw", "--json"],
-            values: &["--start", "--memory"],
-            plain: &["a list or a sheet"],
-            needed: 1,
-            more: false,
-        };
+    /// The plan of a yard: where nothing else is asked for that of a list by its departures, and a sheet as it is.
+    pub fn plan(&self, yard: &Yard, with_slack: bool) -> Result<Found, Failed> {
+        let usual = if yard.is_list() { By::Departure } else { By::Line };
+        search::run(&yard.sheet, self.by.unwrap_or(usual), self.memory, with_slack)
+    }
+
+    /// What is asked of a verb that takes one list, these flags, a start and the search's memory; and the list.
+    pub fn of_a_list(verb: &str, flags: &[&str], words: &[String]) -> Result<(Asked, Yard), Trouble> {
+        let takes =
+            Takes { verb, flags, values: &["--start", "--memory"], plain: &["a list or a sheet"], needed: 1, more: false };
         let arguments = Arguments::read(&takes, words)?;
         let asked = Asked::by(&arguments)?;
         let yard = Yard::open(arguments.plain(0).expect("a file is needed"), asked.start)?;
@@ -81,11 +104,23 @@ impl Asked {
 
 /// The form that is asked for on the verb's command line.
 pub fn form(arguments: &Arguments) -> Result<Form, Trouble> {
-    match (arguments.has("--raw"), arguments.has("--json")) {
-        (true, true) => Err(Trouble::usage("--raw and --json exclude each other", arguments.verb())),
-        (true, false) => Ok(Form::Raw),
-        (false, true) => Ok(Form::Json),
-        (false, false) => Ok(Form::Table),
+    let forms = [("--raw", Form::Raw), ("--json", Form::Json), ("--work", Form::Table)];
+    let asked: Vec<(&str, Form)> = forms.into_iter().filter(|(option, _)| arguments.has(option)).collect();
+    match asked[..] {
+        [] => Ok(Form::Table),
+        [(_, form)] => Ok(form),
+        [(one, _), (other, _), ..] => Err(Trouble::usage(format!("{one} and {other} exclude each other"), arguments.verb())),
+    }
+}
+
+/// Says why there is no plan to show.
+pub fn not_planned(yard: &Yard, failed: Failed, form: Form) -> Result<Outcome, Trouble> {
+    match failed {
+        Failed::Refused(refusal) => refused(yard, refusal, form),
+        Failed::Late(known) => {
+            eprintln!("{}: {}", yard.name, lateness::of_none(yard, known));
+            Ok(Outcome::Refused)
+        }
     }
 }
 

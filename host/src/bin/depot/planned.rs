@@ -1,8 +1,11 @@
 //! What is planned: a job sheet from a file, and the plan on the card that the library left.
-use crate::clock::Clock;
+use crate::clock::{how_long, Clock};
 use crate::list;
 use crate::outcome::{bytes_of, Trouble};
-use depot_host::{label_of, Card, Job, JobSlack, Reading, Refusal, Row};
+use crate::search::Found;
+use depot_host::on_time::{Deadlines, OnTime};
+use depot_host::order::Order;
+use depot_host::{label_of, Job, JobSlack, Reading, Refusal, Row};
 
 /// A job sheet, and what is known of it beside its bytes.
 pub struct Yard {
@@ -15,21 +18,21 @@ pub struct Yard {
 }
 
 impl Yard {
-    /// The yard of a list, where the name ends in `.csv`, or of a sheet; a given start stands in place of the list's.
+    /// The yard of a list or of a sheet, which their bytes tell; a given start stands in place of the list's.
     pub fn open(file: &str, start: Option<Clock>) -> Result<Yard, Trouble> {
         let bytes = bytes_of(file)?;
-        if !is_list(file) {
+        if !list::is_list(file, &bytes) {
             return Ok(Yard { name: file.into(), sheet: bytes, clock: start, lines: Vec::new() });
         }
         let list = list::read(file, &bytes, start)?;
+        list.notes.iter().for_each(|note| eprintln!("{note}"));
         let refused = |refusal: Refusal| Trouble::List(format!("{file}: refused {}: {refusal}\n", refusal.number()));
         Ok(Yard { name: file.into(), sheet: list.sheet().map_err(refused)?, clock: list.clock, lines: list.lines })
     }
-}
 
-/// Whether a file is a list by its name.
-pub fn is_list(file: &str) -> bool {
-    file.to_ascii_lowercase().ends_with(".csv")
+    pub fn is_list(&self) -> bool {
+        !self.lines.is_empty()
+    }
 }
 
 /// The labels of a sheet, from what reading it answered.
@@ -45,6 +48,8 @@ pub struct PlannedJob {
     pub row: Row,
     /// Where it was asked for.
     pub slack: Option<JobSlack>,
+    /// The end that no plan of it can be earlier than, where that is after its departure.
+    pub always_late: Option<u16>,
 }
 
 impl PlannedJob {
@@ -74,22 +79,36 @@ pub struct Planned {
     pub clock: Clock,
     /// Whether the clock's start was given; without it the clock shows hours and minutes since the start.
     pub has_start: bool,
+    /// How the jobs stand on the sheet that was planned.
+    pub numbering: Order,
+    /// What is known of plans in which nobody is late.
+    pub on_time: Option<OnTime>,
+    pub of_list: bool,
+    /// Whether nobody was to be late, even if the plan ends later.
+    pub on_time_asked: bool,
 }
 
 impl Planned {
-    pub fn new(yard: &Yard, reading: Reading, card: Card, slacks: Option<Vec<JobSlack>>) -> Planned {
+    pub fn new(yard: &Yard, found: Found) -> Planned {
+        let Found { reading, card, slacks, order: numbering, on_time, on_time_asked, .. } = found;
+        let always_late = Deadlines::of(&yard.sheet, &reading).always_late();
         let labels = labels(&yard.sheet, &reading);
-        let parts = labels.into_iter().zip(reading.jobs).zip(card.rows);
         let mut slacks = slacks.into_iter().flatten();
+        let parts = labels.into_iter().zip(reading.jobs).zip(card.rows).zip(always_late);
+        let job = |(((label, job), row), always_late)| PlannedJob { label, job, row, slack: slacks.next(), always_late };
         Planned {
             name: yard.name.rsplit('/').next().unwrap_or(&yard.name).into(),
             modules: reading.modules,
             changeover: reading.changeover,
-            jobs: parts.map(|((label, job), row)| PlannedJob { label, job, row, slack: slacks.next() }).collect(),
+            jobs: parts.map(job).collect(),
             order: card.order,
             end: card.end,
             clock: yard.clock.unwrap_or(Clock::FROM_ZERO),
             has_start: yard.clock.is_some(),
+            numbering,
+            on_time,
+            of_list: yard.is_list(),
+            on_time_asked,
         }
     }
 
@@ -116,9 +135,29 @@ impl Planned {
         job.row.end + self.changeover
     }
 
+    /// The jobs that a job waits for, as the list's column `after` names them.
+    pub fn after(&self, job: &PlannedJob) -> String {
+        let labels: Vec<String> = self.jobs.iter().map(|job| job.label.clone()).collect();
+        list::after_cell(&members(job.job.earlier), &labels)
+    }
+
+    /// What `+1` behind a time means, where some time of the plan has it.
+    pub fn days_in_words(&self) -> Option<&'static str> {
+        let last = self.jobs.iter().map(|job| self.free_from(job).max(job.job.departure)).max()?;
+        (self.has_start && self.clock.time(last.into()).contains('+')).then_some(DAYS)
+    }
+
     /// How many of what, in words.
     pub fn size(&self) -> String {
         counted(self.jobs.len(), self.modules, self.changeover)
+    }
+
+    /// That no plan ends earlier; where one that is late might, of which plans none does.
+    pub fn none_earlier(&self) -> &'static str {
+        if self.on_time_asked {
+            return "No valid plan in which nobody is late ends earlier.";
+        }
+        "No valid plan of this sheet ends earlier."
     }
 
     /// The plan's end, in words.
@@ -144,6 +183,14 @@ impl Planned {
     }
 }
 
+/// What `+1` behind a time means.
+pub const DAYS: &str = "+1 is the day after the start's.";
+
+/// The jobs of a set.
+pub fn members(set: u32) -> Vec<usize> {
+    (0..32).filter(|job| set >> job & 1 == 1).collect()
+}
+
 /// How many jobs, on how many modules, and the changeover where there is one.
 pub fn counted(jobs: usize, modules: u16, changeover: u16) -> String {
     let plural = |count: usize, one: &str| format!("{count} {one}{}", if count == 1 { "" } else { "s" });
@@ -156,8 +203,8 @@ pub fn counted(jobs: usize, modules: u16, changeover: u16) -> String {
 pub fn lateness_in_words(lateness: i32) -> String {
     match lateness {
         0 => "on time".into(),
-        minutes if minutes > 0 => format!("{minutes} min late"),
-        minutes => format!("{} min early", -minutes),
+        minutes if minutes > 0 => format!("{} late", how_long(minutes.unsigned_abs())),
+        minutes => format!("{} early", how_long(minutes.unsigned_abs())),
     }
 }
 
@@ -168,8 +215,8 @@ pub const OF_SLACK: &str = "Slack is by departures and waits alone, as if there 
 pub fn slack_in_words(slack: i32) -> String {
     match slack {
         0 => "cannot wait".into(),
-        minutes if minutes > 0 => format!("may wait {minutes} min"),
-        minutes => format!("{} min too late", -minutes),
+        minutes if minutes > 0 => format!("may wait {}", how_long(minutes.unsigned_abs())),
+        minutes => format!("{} too late", how_long(minutes.unsigned_abs())),
     }
 }
 
@@ -196,8 +243,8 @@ pub fn runs(numbers: &[u32]) -> Vec<(u32, u32)> {
 
 #[test]
 fn words_of_figures() {
-    assert_eq!([-20, 0, 5].map(lateness_in_words), ["20 min early", "on time", "5 min late"]);
-    assert_eq!([12, 0, -3].map(slack_in_words), ["may wait 12 min", "cannot wait", "3 min too late"]);
+    assert_eq!([-200, 0, 5].map(lateness_in_words), ["3 h 20 early", "on time", "5 min late"]);
+    assert_eq!([72, 0, -3].map(slack_in_words), ["may wait 1 h 12", "cannot wait", "3 min too late"]);
     assert_eq!(ranges(&[0, 1, 2, 5, 7, 8]), "0-2 5 7-8");
     assert_eq!(ranges(&[]), "");
 }

@@ -10,9 +10,9 @@ pub fn tell(file: &str, refusal: Refusal, help: &[String]) {
     eprintln!("  'depot explain {number}' says what to do");
 }
 
-/// Lines that point at jobs of the sheet, or at what the file seems to be.
+/// Lines that point at jobs of the sheet.
 pub fn lines(yard: &Yard, refusal: Refusal) -> Vec<String> {
-    let Ok(reading) = read(&yard.sheet) else { return of_file(&yard.sheet) };
+    let Ok(reading) = read(&yard.sheet) else { return Vec::new() };
     let labels = labels(&yard.sheet, &reading);
     let name = |job: usize| name(yard, &labels, job);
     match refusal {
@@ -88,15 +88,6 @@ fn longest_chain(jobs: &[Job]) -> (u32, Vec<usize>) {
     }
     chain.reverse();
     (end_of(last), chain)
-}
-
-/// A list that was taken for a sheet.
-pub fn of_file(bytes: &[u8]) -> Vec<String> {
-    let text = String::from_utf8_lossy(bytes).to_ascii_lowercase();
-    if text.contains("cabinet,") || text.contains("label,") || text.contains(",label") {
-        return vec!["this looks like a list: 'depot plan' and 'depot sheet' take it by a name that ends in .csv".into()];
-    }
-    Vec::new()
 }
 
 /// Jobs of which each waits for the next and the last for the first; none where there is no such circle.

@@ -31,7 +31,7 @@ pub fn notes(plan: &Planned) -> Vec<String> {
     if held.len() > NAMED {
         notes.push(format!("So do {} more.", held.len() - NAMED));
     }
-    if let Some(first) = held.first() {
+    if let Some(first) = held.first().filter(|_| plan.numbering.is_the_list_s()) {
         notes.push(format!(
             "Of orders that end alike the one is taken that comes first by the lines of the list: with the line of {} above that of {} \
              the plan may be another.",
@@ -48,7 +48,8 @@ fn held(plan: &Planned) -> Vec<Held> {
     for (place, job) in order.iter().enumerate() {
         let start = plan.jobs[*job].row.start;
         let in_front = order[..place].iter().rev().take_while(|other| plan.jobs[**other].row.start == start);
-        let arriving = in_front.into_iter().find(|other| *other < job && plan.jobs[**other].job.arrival == start);
+        let stands_first = |other: usize| plan.numbering.place(other) < plan.numbering.place(*job);
+        let arriving = in_front.into_iter().find(|other| stands_first(**other) && plan.jobs[**other].job.arrival == start);
         let room_from = room_from(plan, *job);
         if let Some(behind) = arriving.filter(|_| room_from < start) {
             held.push(Held { job: *job, behind: *behind, room_from });
@@ -77,6 +78,7 @@ fn room_from(plan: &Planned, job: usize) -> u16 {
 mod tests {
     use super::*;
     use crate::clock::Clock;
+    use depot_host::order::Order;
     use depot_host::{Job, Row};
 
     /// Jobs of modules, minutes, arrival, start and a module set.
@@ -86,6 +88,7 @@ mod tests {
             job: Job { modules: *modules, minutes: *minutes, arrival: *arrival, departure: 30, ..Job::default() },
             row: Row { start: *start, end: start + minutes, modules: *set },
             slack: None,
+            always_late: None,
         };
         Planned {
             name: String::new(),
@@ -96,6 +99,10 @@ mod tests {
             end: 35,
             clock: Clock::FROM_ZERO,
             has_start: false,
+            numbering: Order::as_listed(jobs.len()),
+            on_time: None,
+            of_list: true,
+            on_time_asked: false,
         }
     }
 

@@ -1,8 +1,8 @@
-//! `depot sheet` and `depot list`: from a list to a job sheet and back.
+//! `depot sheet` and `depot list`: from a list to a job sheet and back; each takes either.
 use crate::arguments::{Arguments, Takes};
 use crate::clock::{Clock, START_ALLOWED};
-use crate::outcome::{bytes_of, put, say, Outcome, Trouble};
-use crate::planned::labels;
+use crate::outcome::{put, say, Outcome, Trouble};
+use crate::planned::{labels, Yard};
 use crate::{json, list, pointer};
 use depot_host::{read, Reading, Refusal};
 
@@ -16,28 +16,26 @@ pub fn sheet(words: &[String]) -> Result<Outcome, Trouble> {
         return Err(Trouble::usage("-o FILE is missing", "sheet"));
     };
     let start = arguments.read_value("--start", Clock::starting, START_ALLOWED)?;
-    let file = arguments.plain(0).expect("a list is needed");
-    let list = list::read(file, &bytes_of(file)?, start)?;
-    match list.sheet() {
-        Ok(sheet) => put(target, &sheet).map(|()| Outcome::Answered),
-        Err(refusal) => refused(file, refusal, &[]),
+    let yard = Yard::open(arguments.plain(0).expect("a list is needed"), start)?;
+    match read(&yard.sheet) {
+        Ok(_) => put(target, &yard.sheet).map(|()| Outcome::Answered),
+        Err(refusal) => refused(&yard.name, refusal),
     }
 }
 
 pub fn list(words: &[String]) -> Result<Outcome, Trouble> {
     let arguments = Arguments::read(&LIST, words)?;
     let start = arguments.read_value("--start", Clock::starting, START_ALLOWED)?;
-    let file = arguments.plain(0).expect("a sheet is needed");
-    let sheet = bytes_of(file)?;
+    let Yard { name, sheet, clock, .. } = Yard::open(arguments.plain(0).expect("a sheet is needed"), start)?;
     let as_json = arguments.has("--json");
     let text = match read(&sheet) {
         Ok(reading) if as_json => in_json(&reading, &labels(&sheet, &reading)),
-        Ok(reading) => list::text(&reading, &labels(&sheet, &reading), start),
+        Ok(reading) => list::text(&reading, &labels(&sheet, &reading), clock),
         Err(refusal) if as_json => {
             say(&(json::refusal(refusal) + "\n"))?;
             return Ok(Outcome::Refused);
         }
-        Err(refusal) => return refused(file, refusal, &pointer::of_file(&sheet)),
+        Err(refusal) => return refused(&name, refusal),
     };
     match arguments.value("-o") {
         Some(target) => put(target, text.as_bytes()).map(|()| Outcome::Answered),
@@ -45,8 +43,8 @@ pub fn list(words: &[String]) -> Result<Outcome, Trouble> {
     }
 }
 
-fn refused(file: &str, refusal: Refusal, help: &[String]) -> Result<Outcome, Trouble> {
-    pointer::tell(file, refusal, help);
+fn refused(file: &str, refusal: Refusal) -> Result<Outcome, Trouble> {
+    pointer::tell(file, refusal, &[]);
     Ok(Outcome::Refused)
 }
 

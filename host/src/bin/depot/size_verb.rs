@@ -1,12 +1,13 @@
 //! `depot size`: how large a cabinet a list asks for, so that the last bus is full by a minute. For whoever sells cabinets.
 use crate::arguments::{Arguments, Takes};
 use crate::clock::{whole, Clock};
-use crate::outcome::{put, say, Outcome, Trouble};
+use crate::files::Files;
+use crate::outcome::{say, Outcome, Trouble};
 use crate::plan_verb::{refused, Asked, Form};
 use crate::planned::{labels, Yard};
 use crate::style::Style;
 use crate::{json, pointer, search};
-use depot_host::{read, write, Reading, Refusal, LONGEST_SHEET, MOST_MODULES};
+use depot_host::{read, write, Card, Reading, Refusal, LONGEST_SHEET, MOST_MODULES};
 use std::cmp::Ordering;
 use std::fmt::Write;
 
@@ -39,7 +40,8 @@ struct Answer {
 
 pub fn run(words: &[String]) -> Result<Outcome, Trouble> {
     let arguments = Arguments::read(&TAKES, words)?;
-    let Asked { form, start, memory } = Asked::by(&arguments)?;
+    let Asked { form, start, memory, .. } = Asked::by(&arguments)?;
+    let files = Files::of(&arguments, &["--card"])?;
     let yard = Yard::open(arguments.plain(0).expect("a file is needed"), start)?;
     let by = arguments.read_value("--by", |word| minute(word, yard.clock), BY_ALLOWED)?;
     let by = by.ok_or_else(|| Trouble::usage("--by is missing: the minute by which the last bus is to be full", "size"))?;
@@ -51,15 +53,23 @@ pub fn run(words: &[String]) -> Result<Outcome, Trouble> {
         }
         Err(refusal) => return refused(&yard, refusal, form),
     };
-    arguments.value("--card").map_or(Ok(()), |file| put(file, &card.bytes))?;
+    files.write("--card", || card.clone())?;
     if form == Form::Raw {
         return say(&format!("{modules}\n"));
     }
     let reading = read(&yard.sheet).expect("a sheet that was sized reads");
     let ends = counts(modules, &reading).map(|count| (count, end_on(&yard.sheet, &reading, count, memory))).collect();
     let widest = too_wide_for(&yard, &reading, modules - 1);
-    let answer = Answer { modules, by, end: card.card.end, reading, clock: yard.clock, ends, widest };
-    say(&if form == Form::Json { answer.in_json() } else { answer.in_words(Style::of_output()) })
+    let answer = Answer {
+        modules,
+        by,
+        end: Card::of(&card).expect("an answered call leaves a card").end,
+        reading,
+        clock: yard.clock,
+        ends,
+        widest,
+    };
+    files.then_say(|| if form == Form::Json { answer.in_json() } else { answer.in_words(Style::of_output()) })
 }
 
 /// The minute of a word: a number, or a time of day where the clock has a start.

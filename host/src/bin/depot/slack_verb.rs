@@ -2,21 +2,22 @@
 use crate::clock::Clock;
 use crate::outcome::{say, Outcome, Trouble};
 use crate::plan_text::{lines, Column};
-use crate::plan_verb::{refused, Asked, Form};
-use crate::planned::{counted, labels, slack_in_words, Yard, OF_SLACK};
+use crate::plan_verb::{not_planned, Asked, Form};
+use crate::planned::{counted, labels, slack_in_words, Yard, DAYS, OF_SLACK};
+use crate::search::Found;
 use crate::style::Style;
-use crate::{json, list, search};
-use depot_host::{read, JobSlack, Reading};
+use crate::{json, list};
+use depot_host::{JobSlack, Reading};
 use std::fmt::Write;
 
 pub fn run(words: &[String]) -> Result<Outcome, Trouble> {
-    let (Asked { form, memory, .. }, yard) = Asked::of_a_list("slack", words)?;
-    let slacks = match search::slacks(&yard.sheet, memory) {
-        Ok(slacks) => slacks,
-        Err(refusal) => return refused(&yard, refusal, form),
+    let (asked, yard) = Asked::of_a_list("slack", &["--raw", "--json", "--by-line", "--on-time"], words)?;
+    let found = match asked.plan(&yard, true) {
+        Ok(found) => found,
+        Err(failed) => return not_planned(&yard, failed, asked.form),
     };
-    let waits = Waits::of(&yard, slacks);
-    say(&match form {
+    let waits = Waits::of(&yard, found);
+    say(&match asked.form {
         Form::Table => waits.in_words(Style::of_output()),
         Form::Raw => waits.raw(),
         Form::Json => waits.in_json(),
@@ -33,8 +34,8 @@ struct Waits {
 }
 
 impl Waits {
-    fn of(yard: &Yard, slacks: Vec<JobSlack>) -> Waits {
-        let reading = read(&yard.sheet).expect("a sheet with slacks reads");
+    fn of(yard: &Yard, found: Found) -> Waits {
+        let (reading, slacks) = (found.reading, found.slacks.expect("slacks were asked for"));
         let labels = labels(&yard.sheet, &reading);
         let name = yard.name.rsplit('/').next().unwrap_or(&yard.name).into();
         Waits { name, reading, labels, slacks, clock: yard.clock }
@@ -89,7 +90,8 @@ impl Waits {
             };
             writeln!(text, "{line}").unwrap();
         }
-        writeln!(text, "\n{OF_SLACK}").unwrap();
+        let days = if text.contains("+1") { format!(" {DAYS}") } else { String::new() };
+        writeln!(text, "\n{OF_SLACK}{days}").unwrap();
         text + &self.implied_in_words()
     }
 

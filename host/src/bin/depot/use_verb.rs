@@ -79,7 +79,7 @@ type Answer = Result<Share, Refusal>;
 
 pub fn run(words: &[String]) -> Result<Outcome, Trouble> {
     let arguments = Arguments::read(&TAKES, words)?;
-    let Asked { form, start, memory } = Asked::by(&arguments)?;
+    let Asked { form, start, memory, .. } = Asked::by(&arguments)?;
     let yards = arguments.all_plain().iter().map(|file| Yard::open(file, start)).collect::<Result<Vec<_>, _>>()?;
     let answers: Vec<Answer> = yards.iter().map(|yard| Share::of(&yard.sheet, memory)).collect();
     match (&yards[..], &answers[..]) {

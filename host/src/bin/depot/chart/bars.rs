@@ -47,12 +47,17 @@ fn bearer(areas: &[Area]) -> &Area {
     areas.iter().rev().max_by(|a, b| a.high.total_cmp(&b.high)).expect("a job has modules")
 }
 
+/// The label of the rectangle that bears it, with the first detail that has room.
 fn label(plan: &Planned, job: &PlannedJob, area: &Area) -> Label {
+    let times = format!("{}–{}", plan.clock.time(job.row.start.into()), plan.clock.time(job.row.end.into()));
+    named(job, area, &if job.is_late() { vec![lateness_in_words(job.lateness()), "late".into()] } else { vec![times] })
+}
+
+/// A job's name in a rectangle, and a detail behind or below it.
+fn named(job: &PlannedJob, area: &Area, details: &[String]) -> Label {
     let name = job.label.clone();
     let fits = |text: &str, size: f64, room: f64| words::width(text, size) + 2.0 * INSET <= room;
     let name_fits = fits(&name, SIZE * BOLD, area.wide);
-    let times = format!("{}–{}", plan.clock.time(job.row.start.into()), plan.clock.time(job.row.end.into()));
-    let details = if job.is_late() { vec![lateness_in_words(job.lateness()), "late".into()] } else { vec![times] };
     if area.high >= TWO_LINES && name_fits {
         if let Some(detail) = details.iter().find(|detail| fits(detail, DETAIL, area.wide)) {
             return Label::Two(name, detail.clone());
@@ -111,8 +116,11 @@ pub fn draw(plan: &Planned, frame: &Frame) -> String {
     svg += &words::fan(&words, &from, frame.bottom(), Side::Below, frame::WORDS_LEFT, frame::words_right(plan));
     jobs().for_each(|(job, class)| {
         let areas = areas(plan, frame, job);
-        let area = bearer(&areas);
-        svg += &written(&label(plan, job, area), area, class);
+        let bearer = bearer(&areas);
+        for area in &areas {
+            let label = if std::ptr::eq(area, bearer) { label(plan, job, area) } else { named(job, area, &[]) };
+            svg += &written(&label, area, class);
+        }
     });
     svg
 }

@@ -33,7 +33,7 @@ fn times(plan: &Planned, frame: &Frame) -> String {
     let mut svg = String::new();
     let step = STEPS.into_iter().find(|step| frame.minutes / f64::from(*step) <= MOST_TICKS).unwrap_or(STEPS[14]);
     let axis = frame.axis();
-    for minute in (0..=frame.minutes as u32).step_by(step as usize) {
+    for minute in plan.clock.full_steps(step, frame.minutes as u32) {
         let x = frame::x(plan, minute.into());
         let (top, below) = (frame.top, axis + 4.0);
         writeln!(svg, "<line class=\"grid\" x1=\"{x:.1}\" y1=\"{top:.1}\" x2=\"{x:.1}\" y2=\"{below:.1}\"/>").unwrap();

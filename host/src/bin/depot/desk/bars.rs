@@ -11,7 +11,7 @@ pub fn may_claim(desk: &Desk, controller: usize) -> u32 {
 }
 
 /// What a controller is assured of and does not hold.
-fn unused_share(desk: &Desk, i: usize) -> u32 {
+pub fn unused_share(desk: &Desk, i: usize) -> u32 {
     desk.assured[i].saturating_sub(desk.held[i])
 }
 

@@ -1,12 +1,19 @@
-//! A line's fields: separated by commas, or by semicolons, as spreadsheets of some countries write them; spaces around them dropped.
+//! A line's fields: separated by commas, or by semicolons or tabs, as some spreadsheets write them; spaces around them dropped.
 //! In double quotes a field is taken as it stands, a double quote in it written twice.
 
-/// What separates the fields of a list with this first line.
-pub fn separator(line: &str) -> char {
-    if line.contains(';') && !line.contains(',') {
-        return ';';
-    }
-    ','
+/// What separates the fields of a list with this first line; none where the line has one field.
+pub fn separator(line: &str) -> Option<char> {
+    [',', ';', '\t'].into_iter().find(|sign| line.contains(*sign))
+}
+
+/// A text without the spaces at its edges; a separator is none.
+pub fn trimmed(text: &str, separator: char) -> &str {
+    text.trim_matches(|c: char| c.is_whitespace() && c != separator)
+}
+
+/// The same at its front alone.
+fn from_first(text: &str, separator: char) -> &str {
+    text.trim_start_matches(|c: char| c.is_whitespace() && c != separator)
 }
 
 /// A field, and whether it stood in double quotes.
@@ -20,14 +27,14 @@ pub struct Field {
 /// around some of its words.
 pub fn fields(line: &str, separator: char, names: Option<usize>) -> Result<Vec<Field>, (usize, &'static str)> {
     let mut fields = Vec::new();
-    let mut rest = line.trim_start();
+    let mut rest = from_first(line, separator);
     loop {
         let whole = field(rest, separator);
         let read = if names == Some(fields.len()) { whole.or_else(|_| parts(rest, separator)) } else { whole };
         let (field, behind) = read.map_err(|why| (fields.len() + 1, why))?;
         fields.push(field);
         match behind.strip_prefix(separator) {
-            Some(next) => rest = next.trim_start(),
+            Some(next) => rest = from_first(next, separator),
             None => return Ok(fields),
         }
     }
@@ -76,7 +83,7 @@ fn closed(text: &str, separator: char) -> Result<(String, &str), &'static str> {
             None => break,
         }
     }
-    rest = rest.trim_start();
+    rest = from_first(rest, separator);
     if rest.is_empty() || rest.starts_with(separator) {
         return Ok((field, rest));
     }
@@ -126,9 +133,11 @@ mod tests {
     }
 
     #[test]
-    fn semicolons() {
-        assert_eq!(["cabinet;16", "cabinet,16", "a;b,c", "label"].map(separator), [';', ',', ',', ',']);
+    fn semicolons_and_tabs() {
+        let signs = [Some(';'), Some(','), Some(','), Some('\t'), None];
+        assert_eq!(["cabinet;16", "cabinet,16", "a;b,c", "a\tb", "label"].map(separator), signs);
         assert_eq!(texts("a,b;\"c;d\" ;", ';'), ["a,b", "c;d", ""]);
+        assert_eq!(texts("\ta \t \"b\"\t\tc", '\t'), ["", "a", "b", "", "c"]);
     }
 
     #[test]

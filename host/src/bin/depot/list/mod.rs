@@ -2,6 +2,7 @@
 mod after;
 mod csv;
 mod fault;
+mod kind;
 mod reader;
 mod words;
 mod writer;
@@ -9,8 +10,9 @@ mod writer;
 use crate::clock::Clock;
 pub use after::cell as after_cell;
 use depot_host::{write, Job, Refusal, LONGEST_SHEET};
+pub use kind::is_list;
 pub use reader::read;
-pub use writer::text;
+pub use writer::{text, text_with};
 
 /// The columns of a list.
 pub const COLUMNS: [&str; 6] = ["label", "modules", "minutes", "after", "departure", "arrival"];
@@ -29,6 +31,8 @@ pub struct List {
     pub labels: Vec<u8>,
     /// The line of each job.
     pub lines: Vec<usize>,
+    /// What is worth a word though nothing is wrong.
+    pub notes: Vec<String>,
 }
 
 impl List {

@@ -5,7 +5,8 @@ use super::words::{label_fault, shown};
 use super::{after, csv};
 use super::{List, COLUMNS};
 use crate::clock::{whole, Clock, START_ALLOWED};
-use crate::outcome::Trouble;
+use crate::coding::text_of;
+use crate::outcome::{visible, Trouble};
 use depot_host::{Job, MOST_JOBS};
 
 /// Columns that may be left out: then no job waits for another, and all buses are there from the start.
@@ -30,11 +31,15 @@ struct Setting {
 const CABINET: Setting = Setting { name: "cabinet", sign: "N", means: "modules of the cabinet", low: 1, high: 64 };
 const CHANGEOVER: Setting = Setting { name: "changeover", sign: "C", means: "minutes of the changeover", low: 0, high: 30 };
 
-/// The column of each field, and where each column stands.
+/// Where each column stands, how many fields the header has, and its line.
 struct Header {
     columns: Vec<Option<usize>>,
+    fields: usize,
     line: usize,
 }
+
+/// A time of day this many minutes after the start is said to be taken for one of the next day.
+const FAR: u32 = 16 * 60;
 
 /// A job's line before the jobs that it waits for are looked up.
 struct Entry {
@@ -45,7 +50,11 @@ struct Entry {
 }
 
 struct Reader {
+    file: String,
     faults: Faults,
+    notes: Vec<String>,
+    /// Whether the list says something of its cabinet, right or wrong.
+    names_cabinet: bool,
     modules: Option<u16>,
     changeover: Option<u16>,
     clock: Option<Clock>,
@@ -61,7 +70,10 @@ struct Reader {
 pub fn read(file: &str, bytes: &[u8], start: Option<Clock>) -> Result<List, Trouble> {
     let given = start.is_some();
     let mut reader = Reader {
+        file: file.into(),
         faults: Faults::default(),
+        notes: Vec::new(),
+        names_cabinet: false,
         modules: None,
         changeover: None,
         clock: start,
@@ -71,23 +83,21 @@ pub fn read(file: &str, bytes: &[u8], start: Option<Clock>) -> Result<List, Trou
         entries: Vec::new(),
     };
     let mut last = 1;
-    let bytes = bytes.strip_prefix(b"\xEF\xBB\xBF").unwrap_or(bytes);
-    for (place, line) in bytes.split(|byte| *byte == b'\n').enumerate() {
+    for (place, line) in text_of(bytes).split('\n').enumerate() {
         last = if line.is_empty() { last } else { place + 1 };
-        match std::str::from_utf8(line) {
-            Ok(line) => reader.line(place + 1, line.trim()),
-            Err(_) => reader.faults.put(place + 1, None, "bytes that are no text", "text in UTF-8"),
-        }
+        reader.line(place + 1, line);
     }
-    reader.finish(file, last)
+    reader.finish(last)
 }
 
 impl Reader {
     fn line(&mut self, number: usize, line: &str) {
-        if line.is_empty() || csv::is_remark(line) {
+        if line.trim().is_empty() || csv::is_remark(line.trim()) {
             return;
         }
-        let separator = *self.separator.get_or_insert_with(|| csv::separator(line));
+        self.separator = self.separator.or_else(|| csv::separator(line.trim()));
+        let separator = self.separator.unwrap_or(',');
+        let line = csv::trimmed(line, separator);
         let names = self.header.as_ref().and_then(|header| header.columns[AFTER]);
         let read = match csv::fields(line, separator, names) {
             Ok(fields) => fields,
@@ -105,11 +115,17 @@ impl Reader {
         if fields.iter().all(String::is_empty) {
             return;
         }
-        match (fields[0].to_ascii_lowercase().as_str(), &self.header) {
+        let first = fields[0].to_ascii_lowercase();
+        let is_setting = ["cabinet", "changeover", "start"].contains(&first.as_str());
+        self.names_cabinet |= first == "cabinet" && (self.header.is_none() || fields.len() <= 2);
+        match (first.as_str(), &self.header) {
             ("cabinet", None) => self.modules = self.setting(number, &CABINET, self.modules, &fields[1..]),
             ("changeover", None) => self.changeover = self.setting(number, &CHANGEOVER, self.changeover, &fields[1..]),
             ("start", None) => self.start(number, &fields[1..]),
-            (_, None) => self.header(number, &fields),
+            (_, None) => self.header(number, &fields, line),
+            (_, Some(_)) if is_setting && fields.len() <= 2 => {
+                self.faults.put(number, None, format!("'{first}' below the header"), format!("a line '{first}' above the header"))
+            }
             (_, Some(_)) => self.row(number, &fields, &quoted),
         }
     }
@@ -146,24 +162,23 @@ impl Reader {
         }
     }
 
-    fn header(&mut self, line: usize, fields: &[String]) {
+    fn header(&mut self, line: usize, fields: &[String], text: &str) {
         let place = |name: &str| fields.iter().position(|field| field.eq_ignore_ascii_case(name));
         let columns: Vec<Option<usize>> = COLUMNS.iter().map(|name| place(name)).collect();
         if columns.iter().all(Option::is_none) {
-            let allowed = format!("a header line before the jobs, as {}", COLUMNS.join(","));
-            self.faults.put(line, None, shown(&fields.join(",")), allowed);
-            self.header = Some(Header { columns, line });
-            return;
+            return self.no_header(line, fields.len(), text);
         }
-        for (number, field) in fields.iter().enumerate() {
-            let known = columns.contains(&Some(number));
-            let again = COLUMNS.iter().any(|name| field.eq_ignore_ascii_case(name));
-            if !known && again {
+        let mut others: Vec<&str> = Vec::new();
+        for (number, field) in fields.iter().enumerate().filter(|(number, _)| !columns.contains(&Some(*number))) {
+            if COLUMNS.iter().any(|name| field.eq_ignore_ascii_case(name)) {
                 self.faults.put(line, Some((number + 1, field)), "a column that stands twice", "each column once");
-            } else if !known {
-                let allowed = format!("the columns {}", COLUMNS.join(", "));
-                self.faults.put(line, Some((number + 1, "header")), shown(field), allowed);
+            } else if !field.is_empty() {
+                others.push(field);
             }
+        }
+        if !others.is_empty() {
+            let (plural, names) = (if others.len() == 1 { "" } else { "s" }, visible(&others.join(", ")));
+            self.notes.push(format!("{}: passed over the column{plural} {names}", self.file));
         }
         for (name, place) in COLUMNS.iter().zip(&columns) {
             if place.is_none() && !OPTIONAL.contains(name) {
@@ -173,13 +188,24 @@ impl Reader {
                 self.faults.put(line, None, format!("no column '{name}'"), allowed);
             }
         }
-        self.header = Some(Header { columns, line });
+        self.header = Some(Header { columns, fields: fields.len(), line });
+    }
+
+    /// A line that is no header: with two fields it may be meant for a setting, and the header may still come.
+    fn no_header(&mut self, line: usize, fields: usize, text: &str) {
+        let text = shown(text.trim_end_matches(|c: char| Some(c) == self.separator || c.is_whitespace()));
+        if fields <= 2 {
+            self.names_cabinet = true;
+            return self.faults.put(line, None, text, "'cabinet,N', 'changeover,C', 'start,hh:mm' or the header line");
+        }
+        self.faults.put(line, None, text, format!("a header line before the jobs, as {}", COLUMNS.join(",")));
+        self.header = Some(Header { columns: vec![None; COLUMNS.len()], fields, line });
     }
 
     fn row(&mut self, line: usize, fields: &[String], quoted: &[bool]) {
         let header = self.header.as_ref().expect("a row stands behind the header");
         let columns = header.columns.clone();
-        let width = columns.iter().flatten().max().map_or(0, |last| last + 1);
+        let width = header.fields;
         if columns.iter().zip(COLUMNS).any(|(place, name)| place.is_none() && !OPTIONAL.contains(&name)) {
             return;
         }
@@ -197,6 +223,8 @@ impl Reader {
         let minutes = self.number(line, at(2), field(2), 1, 1440);
         let departure = self.moment(line, at(4), field(4), DEPARTURE);
         let arrival = if field(5).is_empty() { 0 } else { self.moment(line, at(5), field(5), ARRIVAL) };
+        self.note_far(line, label, "departs", field(4), departure);
+        self.note_far(line, label, "arrives", field(5), arrival);
         let job = Job {
             label_len: label.len().min(255) as u8,
             modules: modules as u8,
@@ -220,34 +248,54 @@ impl Reader {
 
     /// A minute counted from the start, up to the last one, or a time of day where the list has its start.
     fn moment(&mut self, line: usize, column: Option<(usize, &str)>, word: &str, (last, hours): (u32, &str)) -> u32 {
-        if !word.contains(':') {
-            return self.number(line, column, word, 0, last);
-        }
-        let read = self.clock.and_then(|clock| clock.minute(word)).filter(|minute| *minute <= last);
-        read.unwrap_or_else(|| {
+        let is_minute = !word.is_empty() && whole(word).is_some();
+        let read = match self.clock {
+            Some(clock) if !is_minute => clock.minute(word),
+            _ => whole(word).filter(|_| is_minute),
+        };
+        read.filter(|minute| *minute <= last).unwrap_or_else(|| {
+            let is_time = word.starts_with(|c: char| c.is_ascii_digit()) && word.contains([':', '.', 'h', 'H']);
             let allowed = match self.clock {
-                None => format!("a minute from 0 to {last}; a time of day only behind a line 'start,hh:mm'"),
-                Some(_) => {
+                None if is_time => {
+                    format!("a minute from 0 to {last}; a time of day, hh:mm, only behind a line 'start,hh:mm'")
+                }
+                Some(_) if !is_minute && !word.is_empty() => {
                     format!("a minute from 0 to {last}, or a time hh:mm (hh:mm+1 on the next day) within {hours} from the start")
                 }
+                _ => format!("a whole number from 0 to {last}"),
             };
             self.faults.put(line, column, shown(word), allowed);
             0
         })
     }
 
-    fn finish(mut self, file: &str, last: usize) -> Result<List, Trouble> {
+    /// A time of day long behind the start may be meant for one before it.
+    fn note_far(&mut self, line: usize, label: &str, what: &str, word: &str, minute: u32) {
+        let Some(clock) = self.clock.filter(|_| minute > FAR && word.contains(':') && !word.contains('+')) else { return };
+        self.notes.push(format!(
+            "{}, line {line}: {} {what} at {word}; with a start at {} that is taken for {}, {} h {:02} min later",
+            self.file,
+            visible(label),
+            clock.time(0),
+            clock.time(minute),
+            minute / 60,
+            minute % 60
+        ));
+    }
+
+    fn finish(mut self, last: usize) -> Result<List, Trouble> {
+        let file = self.file;
         if self.header.is_none() {
             self.faults.put(last, None, "no header line", format!("a line with the columns {}", COLUMNS.join(",")));
         }
-        if self.modules.is_none() {
+        if !self.names_cabinet {
             let line = self.header.as_ref().map_or(last, |header| header.line);
             let found = "no line 'cabinet' with a number of modules before the header";
             self.faults.put(line, None, found, "'cabinet,N', N from 1 to 64");
         }
         if let Some(entry) = self.entries.get(MOST_JOBS) {
             self.faults.put(entry.line, None, format!("job {} of {}", MOST_JOBS + 1, self.entries.len()), "up to 20 jobs");
-            return Err(self.faults.told(file));
+            return Err(self.faults.told(&file));
         }
         let column = self.header.as_ref().and_then(|header| header.columns[AFTER]).map(|place| (place + 1, COLUMNS[AFTER]));
         let labels: Vec<String> = self.entries.iter().map(|entry| entry.label.clone()).collect();
@@ -264,7 +312,8 @@ impl Reader {
             jobs: self.entries.iter().map(|entry| entry.job).collect(),
             labels: labels.concat().into_bytes(),
             lines: self.entries.iter().map(|entry| entry.line).collect(),
+            notes: self.notes,
         };
-        self.faults.or(file, list)
+        self.faults.or(&file, list)
     }
 }

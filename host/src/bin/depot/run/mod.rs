@@ -10,18 +10,19 @@ mod words;
 use crate::arguments::{Arguments, Takes};
 use crate::clock::whole;
 use crate::desk::{named_controller, Place};
-use crate::outcome::{put, say, Outcome, Trouble};
-use crate::plan_verb::{refused, Asked, Form};
+use crate::files::Files;
+use crate::outcome::{say, Outcome, Trouble};
+use crate::plan_verb::{not_planned, Asked, Form};
 use crate::planned::{Planned, Yard};
 use crate::style::Style;
-use crate::{json, pointer, search};
+use crate::{json, pointer};
 use depot_host::{units, Desk, Refusal, MOST_POWER};
 use night::{Feeder, Night};
 use others::{Greedy, Others, Script};
 
 const TAKES: Takes = Takes {
     verb: "run",
-    flags: &["--json"],
+    flags: &["--json", "--by-line", "--on-time"],
     values: &["--start", "--size", "--limit", "--controller", "--script", "--seed", "--svg", "--html", "--memory"],
     plain: &["a list or a sheet"],
     needed: 1,
@@ -33,27 +34,29 @@ const SIZE: u32 = 300;
 
 pub fn run(words: &[String]) -> Result<Outcome, Trouble> {
     let arguments = Arguments::read(&TAKES, words)?;
-    let Asked { form, start, memory } = Asked::by(&arguments)?;
+    let asked = Asked::by(&arguments)?;
+    let form = asked.form;
+    let files = Files::of(&arguments, &["--svg", "--html"])?;
     let kilowatts = |option| arguments.read_value(option, |word| units::power(word).ok(), "kW in whole hundreds of watts");
     let (size, limit) = (kilowatts("--size")?.unwrap_or(SIZE), kilowatts("--limit")?);
-    let yard = Yard::open(arguments.plain(0).expect("a file is needed"), start)?;
-    let search::Found { reading, bytes, card, slacks } = match search::run(&yard.sheet, memory, false) {
+    let yard = Yard::open(arguments.plain(0).expect("a file is needed"), asked.start)?;
+    let found = match asked.plan(&yard, false) {
         Ok(found) => found,
-        Err(refusal) => return refused(&yard, refusal, form),
+        Err(failed) => return not_planned(&yard, failed, form),
     };
-    let plan = Planned::new(&yard, reading, card, slacks);
+    let (sheet, card) = (found.sheet.clone(), found.bytes.clone());
+    let plan = Planned::new(&yard, found);
     let (feeder, others) = match desk(&arguments, &plan, size, limit)? {
         Ok(opened) => opened,
         Err((refusal, why)) => return told(&yard.name, refusal, &why, form),
     };
-    let night = match Night::play(&yard.sheet, &bytes, plan, feeder, others) {
+    let night = match Night::play(&sheet, &card, plan, feeder, others) {
         Ok(night) => night,
         Err((refusal, why)) => return told(&yard.name, refusal, &why, form),
     };
-    let file = |option, bytes: &dyn Fn() -> Vec<u8>| arguments.value(option).map_or(Ok(()), |file| put(file, &bytes()));
-    file("--svg", &|| picture::file(&night).into_bytes())?;
-    file("--html", &|| page::text(&night).into_bytes())?;
-    say(&if form == Form::Json { in_json::text(&night) } else { words::text(&night, Style::of_output()) })?;
+    files.write("--svg", || picture::file(&night).into_bytes())?;
+    files.write("--html", || page::text(&night).into_bytes())?;
+    files.then_say(|| if form == Form::Json { in_json::text(&night) } else { words::text(&night, Style::of_output()) })?;
     Ok(if night.is_granted() { Outcome::Answered } else { Outcome::Refused })
 }
 

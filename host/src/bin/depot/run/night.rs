@@ -179,9 +179,9 @@ fn held(desk: &Desk) -> Vec<u32> {
     desk.held[..desk.count as usize].to_vec()
 }
 
-/// The calls of the plan that fall due in a minute: hand-backs, then claims, each in job order.
+/// The calls of the plan that fall due in a minute: hand-backs, then claims, each in the order of the sheet's jobs.
 fn due(plan: &Planned, minute: u32) -> Vec<(Kind, usize)> {
-    let jobs = || plan.jobs.iter().enumerate();
+    let jobs = || plan.numbering.jobs().iter().map(|number| (*number, &plan.jobs[*number]));
     let backs = jobs().filter(|(_, job)| u32::from(plan.free_from(job)) == minute).map(|(number, _)| (Kind::Back, number));
     let claims = jobs().filter(|(_, job)| u32::from(job.row.start) == minute).map(|(number, _)| (Kind::Claim, number));
     backs.chain(claims).collect()

@@ -1,7 +1,8 @@
 //! What the other controllers do: a script's calls at their minutes, or a greedy neighbour.
 use crate::clock::whole;
+use crate::coding::text_of;
 use crate::desk::{command, Command, Place};
-use crate::outcome::{bytes_of, Trouble};
+use crate::outcome::{bytes_of, visible, Trouble};
 use crate::planned::Planned;
 use depot_host::random::Random;
 use depot_host::Desk;
@@ -79,7 +80,7 @@ impl Script {
     /// Reads a script: the desk's commands open, claim, back and change, with a minute or a time of day before each but the first.
     pub fn read(file: &str, plan: &Planned) -> Result<Script, Trouble> {
         let bytes = bytes_of(file)?;
-        let text = String::from_utf8_lossy(&bytes);
+        let text = text_of(&bytes);
         let mut script = Script { opening: None, calls: Vec::new() };
         let mut faults = Vec::new();
         for (place, line) in text.lines().enumerate() {
@@ -87,7 +88,7 @@ impl Script {
             if line.is_empty() || line.starts_with('#') {
                 continue;
             }
-            if let Err(why) = script.take(line, plan) {
+            if let Err(why) = script.take(&visible(&line.replace('\t', " ")), plan) {
                 faults.push(format!("{file}, line {}: {why}", place + 1));
             }
         }
@@ -109,7 +110,7 @@ impl Script {
         let (time, rest) = line.split_once(char::is_whitespace).unwrap_or((line, ""));
         if time == "open" {
             return match command::read(line, &[])? {
-                Command::Open { limit, places } if self.opening.is_none() && self.calls.is_empty() => {
+                Command::Open { limit, places, anew: false } if self.opening.is_none() && self.calls.is_empty() => {
                     self.opening = Some((limit, places));
                     Ok(())
                 }

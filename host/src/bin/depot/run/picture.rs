@@ -126,7 +126,7 @@ fn axes(night: &Night, frame: &Frame) -> String {
     let mut svg = String::new();
     let minutes = night.minutes.len() as u32;
     let step = STEPS.into_iter().find(|step| minutes / step <= MOST_TICKS).unwrap_or(2880);
-    for minute in (0..=minutes).step_by(step as usize) {
+    for minute in night.plan.clock.full_steps(step, minutes) {
         let x = frame.x(minute as usize);
         writeln!(svg, "<line class=\"grid\" x1=\"{x:.1}\" y1=\"{TOP:.1}\" x2=\"{x:.1}\" y2=\"{:.1}\"/>", BOTTOM + 4.0).unwrap();
         svg += &anchored("", "middle", x, BOTTOM + 17.0, &night.plan.clock.time(minute));
