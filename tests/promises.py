@@ -1,7 +1,7 @@
 #!/usr/bin/env python3
 """Holds the documents to what there is.
 
-- Every file that the tables of DOCUMENTS cite exists, and has the names that stand behind it.
+- Every file that the tables and footnotes of DOCUMENTS cite exists, and has the names that stand behind it.
 - docs/PROMISES.md has a row for every numbered sentence of docs/REQUIREMENTS.md, in its words. A request (F) that has a row has one
   for each of its sentences; one that has none has not landed.
 - A requirement or a decision has a number of its own, and is cited by it, as a link; nothing is called by the name of a paper that is not here.
@@ -19,7 +19,7 @@ CRATES = ROOT / 'crates'
 PROMISES = 'docs/PROMISES.md'
 REQUIREMENTS = 'docs/REQUIREMENTS.md'
 DECISIONS = 'docs/DECISIONS.md'
-# the documents whose tables cite files and names, and how many rows each has at least
+# the documents whose tables and footnotes cite files and names, and how many rows and footnotes each has at least
 DOCUMENTS = {PROMISES: 100, 'docs/PAGE-TWELVE.md': 30, 'docs/NEIGHBOURS.md': 12, 'docs/SEARCH.md': 12}
 NUMBER = r'(?:[BCDFGHKPRSTX]-\d+(?:\.\d+)?|E\d+)'
 ITEM = re.compile(rf'(?:- |\| )\*\*({NUMBER})\*\*(?: \|)? (.*?)(?: \|)?')
@@ -108,9 +108,21 @@ def is_row(lines, at):
     return lines[at].startswith('| ') and not ''.join(lines[at + 1:at + 2]).startswith('|---')
 
 
+def is_note(line):
+    """Whether this line is a footnote."""
+    return line.startswith('[^')
+
+
 def rows_of(document):
+    """The rows of its tables and its footnotes."""
     lines = body_of(document)
-    return [line for at, line in enumerate(lines) if is_row(lines, at)]
+    return [line for at, line in enumerate(lines) if is_row(lines, at) or is_note(line)]
+
+
+def citing(row):
+    """The row's front, and the part that cites: the last cell, or a footnote's text."""
+    front, bar, cell = row.partition(']: ') if is_note(row) else row.rpartition(' | ')
+    return front + bar, cell
 
 
 def cited_by(row):
@@ -134,9 +146,9 @@ def numbers_linked(text, places):
 
 
 def files_linked(row):
-    """The row with each file that its last cell cites made a link."""
-    front, bar, cell = row.rpartition(' | ')
-    return front + bar + re.sub(r'(?<!\[)`([^`]+)`(?!\])', lambda m: f'[{m[0]}]' if '/' in m[1] and file_of(m[1]) else m[0], cell)
+    """The row with each file that it cites made a link."""
+    front, cell = citing(row)
+    return front + re.sub(r'(?<!\[)`([^`]+)`(?!\])', lambda m: f'[{m[0]}]' if '/' in m[1] and file_of(m[1]) else m[0], cell)
 
 
 def written(document, sentences, places):
@@ -146,7 +158,7 @@ def written(document, sentences, places):
         if document == PROMISES and is_row(lines, at):
             first, carried = line.split(' |')[0], line.rpartition('| ')[2]
             line = f"{first} | {' '.join(sentences.get(number, '') for number in cited_by(line))} | {carried}"
-        if document in DOCUMENTS and is_row(lines, at):
+        if document in DOCUMENTS and (is_row(lines, at) or is_note(line)):
             line = files_linked(line)
         if document not in (REQUIREMENTS, DECISIONS) or document == DECISIONS and not line.startswith('#'):
             lines[at] = line if line.startswith('    ') else numbers_linked(line, places)
@@ -166,7 +178,7 @@ def headings_of(path):
 
 def broken_links(document, text):
     """The links of a document that lead nowhere within the repository."""
-    for target in re.findall(r'(?:\]\(|^\[[^\]]+\]: )([^)\s]+)', text, re.MULTILINE):
+    for target in re.findall(r'(?:\]\(|^\[(?!\^)[^\]]+\]: )([^)\s]+)', text, re.MULTILINE):
         name, _, anchor = target.partition('#')
         path = (ROOT / document).parent / name if name else ROOT / document
         if '://' not in target and not (path.exists() and (not anchor or anchor in headings_of(path))):
@@ -201,7 +213,7 @@ def main():
     for document, least in DOCUMENTS.items():
         rows = rows_of(document)
         for row in rows:
-            for name, there in citations(row.rsplit(' | ', 1)[1], everywhere):
+            for name, there in citations(citing(row)[1], everywhere):
                 looked_up += 1
                 if not there:
                     wrong.append(f'{document}: {name}: not where this row says: {row[:90]}')
