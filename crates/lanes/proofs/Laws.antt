@@ -19,7 +19,7 @@ use Rattle.placement.specs.Profile.{heldOf, ProfileOf}
 use Rattle.weights.specs.Weights.{allWeight}
 use Rattle.weights.proofs.Walks.{Walk, free-at}
 use Rattle.values.specs.Values.{steps, reachAt, mostAt, worthAt, stepOf, Laned}
-use Rattle.lanes.specs.Lanes.{reachIn, servedOn, mostServed, Serving, Overfull}
+use Rattle.lanes.specs.Lanes.{reachIn, servedOn, mostServed, ReachesTo, Serving, Overfull}
 
 pub div-rises : (a b s : ℕ) → 0 < s → a ≤ b → a / s ≤ b / s
 div-rises a b s pos x = le-div-iff-mul-le pos .1 (le-trans (div-mul-le-self a s) x)
@@ -58,59 +58,49 @@ module _ (Z : ℕ → ℕ) (T : ℕ) (rises : Rises T Z) (g : ℕ → ℕ) (c : 
 
 -- ---- the walk
 
-module _ {lanes : List ℕ} {p : Part} {gone free modules l T : ℕ} (s : Serving lanes p gone free modules l T) where
-  pub inside-table : (x : ℕ) → x ≤ T → x / stepOf lanes < steps
-  inside-table x m = omega (arith, div-rises x T (stepOf lanes) (s .step-some) m, s .inside)
-
-  pub reach-in-rises : Rises T (reachIn lanes)
-  reach-in-rises a b x y = s .reach-rises (a / stepOf lanes) (b / stepOf lanes) (div-rises a b (stepOf lanes) (s .step-some) x)
-      (inside-table b y)
-
-  pub reach-in-none : reachIn lanes 0 ≡ 0
-  reach-in-none = ap (reachAt lanes) (zero-div (stepOf lanes)) ∙ s .reach-none
-
+module _ {most reaches : ℕ → ℕ} {p : Part} {gone free modules l T : ℕ} (s : Serving most reaches p gone free modules l T) where
   abbrev served : ℕ → ℕ
-  served a = servedOn (mostAt lanes) (reachIn lanes) modules p a T
+  served a = servedOn most reaches modules p a T
 
   -- what is served up to minute `at`, from which a lane reaches so much
   pub record Served (total at reach : ℕ) : Type 0 where
-    pub reach-is : reach ≡ reachIn lanes (T - at)
+    pub reach-is : reach ≡ reaches (T - at)
     pub low : total + allWeight * reach ≤ mostServed
     pub all : total + served at ≡ served l
 
-  pub serve-start : (reach : ℕ) → reach ≡ reachIn lanes (T - l) → Served 0 l reach
+  pub serve-start : (reach : ℕ) → reach ≡ reaches (T - l) → Served 0 l reach
   serve-start reach e = record {
     reach-is = e;
-    low = omega (arith, s .reach-small ((T - l) / stepOf lanes) (inside-table (T - l) (omega arith)));
+    low = omega (arith, s .reach-small (T - l) (omega arith));
     all = omega arith;
   }
 
   module _ {at f i total reach : ℕ} (w : Walk p modules T at f i) (h : Served total at reach) where
-    pub lanes-few : mostAt lanes f ≤ allWeight
+    pub lanes-few : most f ≤ allWeight
     lanes-few = s .most-small f (omega (arith, w .balance, w .narrow))
 
-    pub reach-falls : (b : ℕ) → at ≤ b → reachIn lanes (T - b) ≤ reach
-    reach-falls b x = rw (h .reach-is) (reach-in-rises (T - b) (T - at) (omega arith) (omega arith))
+    pub reach-falls : (b : ℕ) → at ≤ b → reaches (T - b) ≤ reach
+    reach-falls b x = rw (h .reach-is) (s .reach-rises (T - b) (T - at) (omega arith) (omega arith))
 
-    pub serve-low : (next : ℕ) → next ≤ reach → total + mostAt lanes f * (reach - next) + allWeight * next ≤ mostServed
+    pub serve-low : (next : ℕ) → next ≤ reach → total + most f * (reach - next) + allWeight * next ≤ mostServed
     serve-low next x = omega (arith, h .low, mul-le-mul-right (reach - next) lanes-few)
 
-    pub serve-all-low : total + mostAt lanes f * reach ≤ mostServed
+    pub serve-all-low : total + most f * reach ≤ mostServed
     serve-all-low = omega (arith, h .low, mul-le-mul-right reach lanes-few)
 
     -- up to a minute before which none of the others ends
     serve-to : (b : ℕ) → at ≤ b → b ≤ T → ((t k : ℕ) → at ≤ t → t < b → i ≤ k → k < p .placed → t < getD (p .until) k 0)
-        → total + mostAt lanes f * (reach - reachIn lanes (T - b)) + served b ≡ served l
+        → total + most f * (reach - reaches (T - b)) + served b ≡ served l
     unfolding servedOn
     serve-to b x y n =
         let d : at + (b - at) ≡ b = omega arith in
-        let g = gains-from (reachIn lanes) T reach-in-rises (λ t. mostAt lanes (modules - heldOf p t)) (mostAt lanes f)
-        (b - at) at (omega arith) (λ t u v. ap (mostAt lanes) (free-at w t u (omega arith) (λ k m o. n t k u (omega arith) m o))) in
-        let step : served at ≡ mostAt lanes f * (reachIn lanes (T - at) - reachIn lanes (T - b)) + served b = rw d at g in
+        let g = gains-from reaches T (s .reach-rises) (λ t. most (modules - heldOf p t)) (most f)
+        (b - at) at (omega arith) (λ t u v. ap most (free-at w t u (omega arith) (λ k m o. n t k u (omega arith) m o))) in
+        let step : served at ≡ most f * (reaches (T - at) - reaches (T - b)) + served b = rw d at g in
         rw (h .reach-is) (omega (arith, step, h .all))
 
-    pub serve-step : (to next : ℕ) → to ≡ max at (min (getD (p .until) i 0) T) → next ≡ reachIn lanes (T - to)
-        → Served (total + mostAt lanes f * (reach - next)) to next
+    pub serve-step : (to next : ℕ) → to ≡ max at (min (getD (p .until) i 0) T) → next ≡ reaches (T - to)
+        → Served (total + most f * (reach - next)) to next
     serve-step to next e r =
         let on : at ≤ to = omega arith in
         let low : next ≤ reach = rw r (reach-falls to on) in
@@ -120,31 +110,17 @@ module _ {lanes : List ℕ} {p : Part} {gone free modules l T : ℕ} (s : Servin
           all = rw r (serve-to to on (omega (arith, w .before)) (λ t k x y n o. omega (arith, w .sorted i k n o)));
         }
 
-    pub serve-done : p .placed ≤ i → total + mostAt lanes f * reach ≡ served l
+    pub serve-done : p .placed ≤ i → total + most f * reach ≡ served l
     unfolding servedOn
     serve-done m =
         let all = serve-to T (w .before) (le-refl _) (λ t k x y n o. absurd (omega arith)) in
-        let end : reachIn lanes (T - T) ≡ 0 = ap (reachIn lanes) (omega arith) ∙ reach-in-none in
-        let whole : reach - reachIn lanes (T - T) ≡ reach = omega (arith, end) in
-        let past = sum-past T (λ t. mostAt lanes (modules - heldOf p t) * gain (reachIn lanes) T t) in
-        let done : total + mostAt lanes f * reach + served T ≡ served l = rw whole at all in
+        let end : reaches (T - T) ≡ 0 = ap reaches (omega arith) ∙ s .reach-none in
+        let whole : reach - reaches (T - T) ≡ reach = omega (arith, end) in
+        let past = sum-past T (λ t. most (modules - heldOf p t) * gain reaches T t) in
+        let done : total + most f * reach + served T ≡ served l = rw whole at all in
         omega (arith, done, past)
 
--- ---- the answer
-
-pub serving : {t lanes : List ℕ} (p : Part) {gone free modules l T : ℕ} → Laned t lanes → ProfileOf p gone free modules l
-    → modules ≤ mostModules → l ≤ T → T / stepOf lanes < steps → Serving lanes p gone free modules l T
-serving p h profile narrow before inside = record {
-  step-some = h .step-some;
-  inside = inside;
-  most-small = h .most-small;
-  reach-rises = h .reach-rises;
-  reach-none = h .reach-none;
-  reach-small = h .reach-small;
-  profile = profile;
-  narrow = narrow;
-  before = before;
-}
+-- ---- the lanes of a sheet
 
 -- jobs that last x minutes together last no more whole steps than x minutes have
 steps-together : (minutes : ℕ → ℕ) (jobs s : ℕ) → 0 < s → (X : ℕ → Bool) (x : ℕ) → sum jobs (λ k. only (X k) (minutes k)) ≤ x
@@ -157,24 +133,46 @@ steps-together minutes jobs s pos X x l =
     one k true = div-mul-le-self (minutes k) s
     one k false = omega arith
 
-pub overfull-by : {t lanes : List ℕ} {p : Part} {gone free l T : ℕ} → Laned t lanes → Serving lanes p gone free (modulesOf t) l T
-    → servedOn (mostAt lanes) (reachIn lanes) (modulesOf t) p l T
-    < sum (countOf t) (λ k. only (bit (p .unplaced) k) (worthAt lanes k)) → Overfull t p l T
-overfull-by {t} {lanes} {p} {T = T} h s over = record {
-  weight = h .weight;
-  value = h .value;
-  most = mostAt lanes;
-  reach = reachIn lanes;
-  weighs = h .weighs;
-  most-rises = h .most-rises;
-  lasts = λ X x m short. h .serves X (x / stepOf lanes) (inside-table s x m)
-      (steps-together (keptAt t) (countOf t) (stepOf lanes) (s .step-some) X x short);
-  reach-rises = reach-in-rises s;
-  reach-none = reach-in-none s;
-  over = omega (
-    arith,
-    over,
-    sum-same (countOf t) (λ k. only (bit (p .unplaced) k) (worthAt lanes k)) (λ k. only (bit (p .unplaced) k) (h .weight k * h .value k))
-        (λ k m. ap (λ (x : ℕ). only (bit (p .unplaced) k) x) (h .worth-is k m)),
-  );
-}
+module _ {t lanes : List ℕ} (h : Laned t lanes) (T : ℕ) (inside : ReachesTo lanes T) where
+  inside-table : (x : ℕ) → x ≤ T → x / stepOf lanes < steps
+  inside-table x m = omega (arith, div-rises x T (stepOf lanes) (inside .0) m, inside .1)
+
+  reach-in-rises : Rises T (reachIn lanes)
+  reach-in-rises a b x y = h .reach-rises (a / stepOf lanes) (b / stepOf lanes) (div-rises a b (stepOf lanes) (inside .0) x)
+      (inside-table b y)
+
+  reach-in-none : reachIn lanes 0 ≡ 0
+  reach-in-none = ap (reachAt lanes) (zero-div (stepOf lanes)) ∙ h .reach-none
+
+  pub serving : (p : Part) {gone free modules l : ℕ} → ProfileOf p gone free modules l → modules ≤ mostModules → l ≤ T
+      → Serving (mostAt lanes) (reachIn lanes) p gone free modules l T
+  serving p profile narrow before = record {
+    most-small = λ x m. h .most-small x (omega arith);
+    reach-rises = reach-in-rises;
+    reach-none = reach-in-none;
+    reach-small = λ x m. omega (arith, h .reach-small (x / stepOf lanes) (inside-table x m));
+    profile = profile;
+    narrow = narrow;
+    before = before;
+  }
+
+  pub overfull-by : {p : Part} {l : ℕ} → servedOn (mostAt lanes) (reachIn lanes) (modulesOf t) p l T
+      < sum (countOf t) (λ k. only (bit (p .unplaced) k) (worthAt lanes k)) → Overfull t p l T
+  overfull-by {p} over = record {
+    weight = h .weight;
+    value = h .value;
+    most = mostAt lanes;
+    reach = reachIn lanes;
+    weighs = h .weighs;
+    most-rises = h .most-rises;
+    lasts = λ X x m short. h .serves X (x / stepOf lanes) (inside-table x m)
+        (steps-together (keptAt t) (countOf t) (stepOf lanes) (inside .0) X x short);
+    reach-rises = reach-in-rises;
+    reach-none = reach-in-none;
+    over = omega (
+      arith,
+      over,
+      sum-same (countOf t) (λ k. only (bit (p .unplaced) k) (worthAt lanes k)) (λ k. only (bit (p .unplaced) k) (h .weight k * h .value k))
+          (λ k m. ap (λ (x : ℕ). only (bit (p .unplaced) k) x) (h .worth-is k m)),
+    );
+  }

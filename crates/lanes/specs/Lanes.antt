@@ -11,8 +11,8 @@ use Rattle.schedule.specs.Bounds.{gain}
 use Rattle.tables.specs.Tables.{keptAt, countOf, modulesOf}
 use Rattle.tables.specs.Part.{Part}
 use Rattle.placement.specs.Profile.{heldOf, ProfileOf}
-use Rattle.weights.specs.Weights.{widths, allWeight, Weighs}
-use Rattle.values.specs.Values.{steps, allValue, reachAt, mostAt, stepOf}
+use Rattle.weights.specs.Weights.{allWeight, Weighs}
+use Rattle.values.specs.Values.{steps, reachAt, stepOf}
 
 -- the most value that a lane can serve in x minutes
 abbrev pub reachIn : List ℕ → ℕ → ℕ
@@ -22,9 +22,16 @@ reachIn lanes x = reachAt lanes (x / stepOf lanes)
 unfoldable pub servedOn : (ℕ → ℕ) → (ℕ → ℕ) → ℕ → Part → ℕ → ℕ → ℕ
 servedOn most reach modules p l C = sum C (λ m. only (leb l m) (most (modules - heldOf p m) * gain reach C m))
 
--- what they serve at most
+-- what a lane reaches at most, and what all serve
+abbrev pub mostReach : ℕ
+mostReach = 32000
+
 abbrev pub mostServed : ℕ
-mostServed = allWeight * allValue
+mostServed = allWeight * mostReach
+
+-- the table reaches to minute C
+abbrev pub ReachesTo : List ℕ → ℕ → Type 0
+ReachesTo lanes C = (0 < stepOf lanes) × (C / stepOf lanes < steps)
 
 -- the unplaced jobs have more value than lanes for some weights and values can serve
 pub record Overfull (t : List ℕ) (p : Part) (l C : ℕ) : Type 0 where
@@ -40,13 +47,11 @@ pub record Overfull (t : List ℕ) (p : Part) (l C : ℕ) : Type 0 where
   pub over : servedOn most reach (modulesOf t) p l C < sum (countOf t) (λ k. only (bit (p .unplaced) k) (weight k * value k))
 
 -- what the walk over the ends asks of its figures
-pub record Serving (lanes : List ℕ) (p : Part) (gone free modules l C : ℕ) : Type 0 where
-  pub step-some : 0 < stepOf lanes
-  pub inside : C / stepOf lanes < steps
-  pub most-small : (x : ℕ) → x < widths → mostAt lanes x ≤ allWeight
-  pub reach-rises : (a b : ℕ) → a ≤ b → b < steps → reachAt lanes a ≤ reachAt lanes b
-  pub reach-none : reachAt lanes 0 ≡ 0
-  pub reach-small : (x : ℕ) → x < steps → reachAt lanes x ≤ allValue
+pub record Serving (most reach : ℕ → ℕ) (p : Part) (gone free modules l C : ℕ) : Type 0 where
+  pub most-small : (x : ℕ) → x ≤ mostModules → most x ≤ allWeight
+  pub reach-rises : Rises C reach
+  pub reach-none : reach 0 ≡ 0
+  pub reach-small : (x : ℕ) → x ≤ C → reach x ≤ mostReach
   pub profile : ProfileOf p gone free modules l
   pub narrow : modules ≤ mostModules
   pub before : l ≤ C

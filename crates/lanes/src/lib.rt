@@ -1,7 +1,7 @@
 // The bound by lanes: whether the jobs that are left have more value than the lanes that come open can serve until all modules are given back.
 ghost use mathlib.Core.Path.{_≡_};
 ghost use mathlib.Core.Bool.{true};
-ghost use Prim.Native.Nat.{ℕ, _-_, _/_, _<_, _≤_};
+ghost use Prim.Native.Nat.{ℕ, _-_, _<_, _≤_};
 ghost use Rattle.counting.specs.Counting.{only, sum};
 ghost use Rattle.figures.specs.Figures.{mostJobs, mostModules};
 ghost use Rattle.bits.specs.Bits.{bit};
@@ -9,8 +9,8 @@ ghost use Rattle.tables.specs.Tables.{countOf, modulesOf, Fit};
 ghost use Rattle.tables.specs.Part.{partIn};
 ghost use Rattle.tables.specs.Prepared.{lanesIn};
 ghost use Rattle.placement.specs.Profile.{ProfileOf};
-ghost use Rattle.values.specs.Values.{steps, mostLaneWorth, mostAt, worthAt, stepOf, Laned};
-ghost use Rattle.lanes.specs.Lanes.{reachIn, servedOn, Serving, Overfull};
+ghost use Rattle.values.specs.Values.{mostLaneWorth, mostAt, worthAt, stepOf, Laned};
+ghost use Rattle.lanes.specs.Lanes.{reachIn, servedOn, ReachesTo, Serving, Overfull};
 use tables::Jobs;
 use tables::Part;
 use tables::Prepared;
@@ -24,7 +24,7 @@ fn step_of(prepared: &Prepared) -> u32
 
 // The most value that a lane can serve from minute t up to minute `close`.
 fn reach_from(prepared: &Prepared, t: u16, close: u16) -> u32
-    requires { ⌜ (0 < stepOf (lanesIn (now prepared))) × ((close / stepOf (lanesIn (now prepared)) < steps) × (t ≤ close)) ⌝ }
+    requires { ⌜ (ReachesTo (lanesIn (now prepared)) close) × (t ≤ close) ⌝ }
     ensures { λ r. ⌜ r ≡ reachIn (lanesIn (now (prepared .entry))) (close - t) ⌝ }
 {
     tables::lanes(prepared, values::steps(close - t, step_of(prepared)))
@@ -48,7 +48,9 @@ fn served_on(
     least: u16,
     close: u16,
 ) -> u32
-    requires { ⌜ Serving (lanesIn (now prepared)) (partIn (now part)) gone free (modulesOf (now jobs)) least close ⌝ }
+    requires { ⌜ (ReachesTo (lanesIn (now prepared)) close)
+        × (Serving (mostAt (lanesIn (now prepared))) (reachIn (lanesIn (now prepared))) (partIn (now part)) gone free
+        (modulesOf (now jobs)) least close) ⌝ }
     ensures { λ r. ⌜ r ≡ servedOn (mostAt (lanesIn (now (prepared .entry)))) (reachIn (lanesIn (now (prepared .entry))))
         (modulesOf (now (jobs .entry))) (partIn (now (part .entry))) least close ⌝ }
 {

@@ -3,7 +3,7 @@ use mathlib.Core.Path.{_≡_}
 use mathlib.Core.Logic.{_⊎_, inl, inr}
 use mathlib.Core.Bool.{true, false, not, cond, _&&_}
 use mathlib.Core.List.{List, [], _∷_}
-use Prim.Native.Nat.{ℕ, suc, _+_, _-_, _*_, _≤_, _<_, max}
+use Prim.Native.Nat.{ℕ, suc, _+_, _-_, _*_, _≤_, _<_, max, zero-le}
 use native.Mathlib.Omega.{arith}
 use native.Mathlib.Nat.{le-trans}
 use lib.Dec.{leb}
@@ -11,7 +11,7 @@ use Rattle.counting.specs.Counting.{only, sum, Rises, Holds}
 use Rattle.counting.proofs.Tests.{true-or-false, clash, less-or-not}
 use Rattle.schedule.specs.Plan.{Sheet, Plan, Valid, finish, planEnd, Narrow, Lasting}
 use Rattle.schedule.specs.ListPlan.{PartPlan, noJobs, Follows, occupies, placeAll, partOf, occupied}
-use Rattle.schedule.specs.Bounds.{kept, chain, head, mustRun, minutesBehind, gain, Lasts}
+use Rattle.schedule.specs.Bounds.{kept, chain, head, mustRun, minutesBehind, gain, Lasts, ServesFrom}
 use Rattle.schedule.specs.PartPlans.{Sound, Completes, NoneBefore}
 use Rattle.schedule.specs.Beginnings.{CannotBeat}
 use Rattle.schedule.proofs.Sound.{part-sound, place-all-sound, completes-all, complete-valid}
@@ -44,7 +44,7 @@ module _ (S : Sheet) (lasting : Lasting S) (n : Narrow S) (w : List ℕ) (f : Fo
     valid : Valid S Q
     valid = complete-valid S (placeAll S P p) (place-all-sound S n P p sound (c .0)) (completes-all S P p c)
 
-    later : (k : ℕ) → k < S .jobs → P .placed k ≡ false → l ≤ Q .start k
+    pub later : (k : ℕ) → k < S .jobs → P .placed k ≡ false → l ≤ Q .start k
     unfolding placeAll
     later = go p c
       where
@@ -86,13 +86,27 @@ module _ (S : Sheet) (lasting : Lasting S) (n : Narrow S) (w : List ℕ) (f : Fo
       → CannotBeat S (suc T) w
   weights-cut y K most over = by-end (λ p c x. omega (arith, over, weights-bound S P l (Q p c) (goes-on p c) close x y K most))
 
+  -- each job that is left starts from its minute r on, whatever completes P
+  pub release-cut : (r y v K Z : ℕ → ℕ)
+      → ((k : ℕ) → k < S .jobs → P .placed k ≡ false → (p : List ℕ) → Completes S P p → r k ≤ placeAll S P p .plan .start k)
+      → Holds (S .need) (S .jobs) (S .modules) y K → Rises (S .modules) K → ServesFrom S P close r v Z → Z 0 ≡ 0 → Rises close Z
+      → sum close (λ t. only (leb l t) (K (S .modules - occupied S P t) * gain Z close t))
+      < sum (S .jobs) (λ k. only (not (P .placed k)) (y k * v k))
+      → CannotBeat S (suc T) w
+  release-cut r y v K Z released most more serves none rises over = by-end (λ p c x.
+      omega (
+        arith,
+        over,
+        reach-bound S lasting P l (Q p c) (goes-on p c) close x r y v K Z (λ k m z. released k m z p c) most more serves none rises,
+      ))
+
   pub reach-cut : (y v K Z : ℕ → ℕ) → Holds (S .need) (S .jobs) (S .modules) y K → Rises (S .modules) K
       → Holds (kept S) (S .jobs) close v Z → Z 0 ≡ 0 → Rises close Z
       → sum close (λ t. only (leb l t) (K (S .modules - occupied S P t) * gain Z close t))
       < sum (S .jobs) (λ k. only (not (P .placed k)) (y k * v k))
       → CannotBeat S (suc T) w
-  reach-cut y v K Z most more lasts none rises over = by-end (λ p c x.
-      omega (arith, over, reach-bound S lasting P l (Q p c) (goes-on p c) close x y v K Z most more lasts none rises))
+  reach-cut y v K Z most more lasts =
+      release-cut (λ k. 0) y v K Z (λ k m z p c. zero-le) most more (λ X x m left short late. lasts X x m short)
 
   -- a job that is left starts neither before minute l nor before its head
   abbrev first : ℕ → ℕ → ℕ

@@ -1,11 +1,11 @@
 -- Lanes, each of which serves jobs one after another from the minute on at which it opens, and what they serve.
 use mathlib.Core.Path.{_≡_, refl, sym, ap, _∙_}
 use mathlib.Core.Logic.{_⊎_, inl, inr, ⊎-elim, _≢_}
-use mathlib.Core.Bool.{Bool, true, false, _&&_}
+use mathlib.Core.Bool.{Bool, true, false, _&&_, and-true, and-comm}
 use Prim.Native.Nat.{ℕ, _+_, _-_, _*_, _≤_, _<_, zero-le, min}
 use native.Mathlib.Omega.{arith}
 use lib.Dec.{leb, eqb}
-use borrow.Author.Tests.{ltb-true, leb-true, eqb-true, eqb-false}
+use borrow.Author.Tests.{ltb-true, leb-true, lt-ltb, le-leb, eqb-true, eqb-false}
 use Rattle.counting.specs.Counting.{only, sum, count}
 use Rattle.counting.proofs.Tests.{true-or-false, clash, and-left, and-right}
 use Rattle.counting.proofs.Sums.{sum-le, sum-same, sum-swap, sum-zero}
@@ -22,6 +22,13 @@ pub record OnLanes (jobs : ℕ) (of : ℕ → Bool) (start minutes weight : ℕ 
 -- a lane that is open stays open
 abbrev pub StaysOpen : (ℕ → ℕ → Bool) → Type 0
 StaysOpen isOpen = (m t u : ℕ) → t ≤ u → isOpen m t ≡ true → isOpen m u ≡ true
+
+-- a lane that is open from minute a on
+pub minutes-from : (T a : ℕ) → count T (λ t. leb a t) ≡ T - a
+minutes-from T a = sum-same T _ (λ t. only (inside a T t) 1) below ∙ sum-inside T a T 1 ∙ omega arith
+  where
+    below : (t : ℕ) → t < T → only (leb a t) 1 ≡ only (inside a T t) 1
+    below t x = rw (lt-ltb t T x) (ap (λ (b : Bool). only b 1) (sym (and-true (leb a t))))
 
 -- ---- what lanes serve
 
@@ -79,10 +86,41 @@ module _ (jobs : ℕ) (of : ℕ → Bool) (start minutes weight : ℕ → ℕ) (
       let each = sum-le T (λ t. sum jobs (λ k. only (busy m t k) 1)) (λ t. only (isOpen m t) 1) (λ t x. minute m t (true-or-false (isOpen m t))) in
       omega (arith, all, each)
 
-  over-lanes : (y : ℕ → ℕ) (k : ℕ) → k < jobs → only (of k) (weight k * y k) ≡ sum lanes (λ m. only (served m k) (y k))
+-- ---- the same, and of the jobs that start late
+
+module _ (jobs : ℕ) (of : ℕ → Bool) (start minutes weight : ℕ → ℕ) (lanes : ℕ) (isOpen uses : ℕ → ℕ → Bool)
+    (h : OnLanes jobs of start minutes weight lanes isOpen uses) (stays : StaysOpen isOpen)
+    (T : ℕ) (ends : (k : ℕ) → k < jobs → of k ≡ true → start k + minutes k ≤ T)
+    (r : ℕ → ℕ) (from : (k : ℕ) → k < jobs → of k ≡ true → r k ≤ start k) where
+  -- the jobs of lane m
+  abbrev on : ℕ → ℕ → Bool
+  on m k = of k && uses k m
+
+  -- the jobs that start from minute a on, as on lanes that open then
+  late : (a : ℕ) → OnLanes jobs (λ k. of k && leb a (r k)) start minutes weight lanes (λ m t. leb a t) uses
+  late a = record {
+    enough = λ k x b. h .enough k x (and-left (of k) _ b);
+    opened = λ k m x b u. le-leb a (start k)
+        (omega (arith, from k x (and-left (of k) _ b), leb-true a (r k) (and-right (of k) _ b)));
+    apart = λ i k m x z b c. h .apart i k m x z (and-left (of i) _ b) (and-left (of k) _ c);
+  }
+
+  late-minutes : (m a : ℕ) → sum jobs (λ k. only (on m k && leb a (r k)) (minutes k)) ≤ T - a
+  late-minutes m a =
+      let same = sum-same jobs (λ k. only (on m k && leb a (r k)) (minutes k)) (λ k. only ((of k && leb a (r k)) && uses k m) (minutes k))
+      (λ k x. ap (λ b. only b (minutes k)) (and-turned (of k) (uses k m) (leb a (r k)))) in
+      let most = served-minutes jobs (λ k. of k && leb a (r k)) start minutes weight lanes (λ m t. leb a t) uses (late a)
+      (λ m t u x b. le-leb a u (omega (arith, leb-true a t b))) T (λ k x b. ends k x (and-left (of k) _ b)) m in
+      omega (arith, same, most, minutes-from T a)
+    where
+      and-turned : (a b c : Bool) → ((a && b) && c) ≡ ((a && c) && b)
+      and-turned true b c = and-comm b c
+      and-turned false b c = refl
+
+  over-lanes : (y : ℕ → ℕ) (k : ℕ) → k < jobs → only (of k) (weight k * y k) ≡ sum lanes (λ m. only (on m k) (y k))
   over-lanes y k x = go (of k) refl
     where
-      go : (b : Bool) → of k ≡ b → only (of k) (weight k * y k) ≡ sum lanes (λ m. only (served m k) (y k))
+      go : (b : Bool) → of k ≡ b → only (of k) (weight k * y k) ≡ sum lanes (λ m. only (on m k) (y k))
       go true q =
           rw q (ap (λ (c : ℕ). c * y k) (sym (h .enough k x q)) ∙ sym (sum-alike lanes (uses k) (y k)))
       go false q = rw q (sym (sum-zero lanes))
@@ -90,11 +128,13 @@ module _ (jobs : ℕ) (of : ℕ → Bool) (start minutes weight : ℕ → ℕ) (
   -- The jobs have no more value than the lanes can serve in the minutes that they are open.
   pub lanes-bound : (y Z : ℕ → ℕ)
       → ((X : ℕ → Bool) (x : ℕ) → x ≤ T → ((k : ℕ) → X k ≡ true → of k ≡ true) → sum jobs (λ k. only (X k) (minutes k)) ≤ x
+      → ((a : ℕ) → sum jobs (λ k. only (X k && leb a (r k)) (minutes k)) ≤ T - a)
       → sum jobs (λ k. only (X k) (y k)) ≤ Z x)
       → sum jobs (λ k. only (of k) (weight k * y k)) ≤ sum lanes (λ m. Z (count T (isOpen m)))
   lanes-bound y Z most =
-      let all = sum-same jobs _ (λ k. sum lanes (λ m. only (served m k) (y k))) (over-lanes y)
-      ∙ sum-swap jobs lanes (λ k m. only (served m k) (y k)) in
-      let each = sum-le lanes (λ m. sum jobs (λ k. only (served m k) (y k))) (λ m. Z (count T (isOpen m)))
-      (λ m x. most (served m) (count T (isOpen m)) (count-le T (isOpen m)) (λ k b. and-left (of k) _ b) (served-minutes m)) in
+      let all = sum-same jobs _ (λ k. sum lanes (λ m. only (on m k) (y k))) (over-lanes y)
+      ∙ sum-swap jobs lanes (λ k m. only (on m k) (y k)) in
+      let each = sum-le lanes (λ m. sum jobs (λ k. only (on m k) (y k))) (λ m. Z (count T (isOpen m)))
+      (λ m x. most (on m) (count T (isOpen m)) (count-le T (isOpen m)) (λ k b. and-left (of k) _ b)
+      (served-minutes jobs of start minutes weight lanes isOpen uses h stays T ends m) (late-minutes m)) in
       omega (arith, all, each)

@@ -1,16 +1,15 @@
 -- The bound by modules: where no set of jobs that are left and keep a module for x minutes together weighs more than Z x, a module serves,
 -- from the minute at which it comes free, no more weight than Z of the minutes up to the end and the rest behind it.
-use mathlib.Core.Path.{_≡_, refl, sym, ap, _∙_}
+use mathlib.Core.Path.{_≡_, refl, ap, _∙_}
 use mathlib.Core.Logic.{_⊎_, inl, inr, ⊎-elim, _≢_}
-use mathlib.Core.Bool.{Bool, true, false, not, _&&_, and-true}
-use Prim.Native.Nat.{ℕ, _+_, _-_, _*_, _≤_, _<_, max}
+use mathlib.Core.Bool.{Bool, true, false, not, _&&_}
+use Prim.Native.Nat.{ℕ, _+_, _-_, _*_, _≤_, _<_, max, zero-le}
 use native.Mathlib.Omega.{arith}
 use lib.Dec.{leb}
-use borrow.Author.Tests.{leb-true, lt-ltb, le-leb, not-true, not-false}
+use borrow.Author.Tests.{leb-true, le-leb, not-true, not-false}
 use Rattle.counting.specs.Counting.{only, sum, count}
 use Rattle.counting.proofs.Tests.{true-or-false, clash, and-left, and-right, and-both, only-within}
 use Rattle.counting.proofs.Sums.{sum-le, sum-same, sum-add, sum-swap, sum-zero, le-sum}
-use Rattle.counting.proofs.Intervals.{inside, sum-inside}
 use Rattle.counting.proofs.Ranges.{le-largest, largest-le, any-some}
 use Rattle.counting.proofs.Counts.{sum-alike}
 use Rattle.schedule.specs.Plan.{Sheet, Plan, Valid, finish, planEnd, Lasting}
@@ -19,7 +18,7 @@ use Rattle.schedule.specs.PartPlans.{Sound}
 use Rattle.schedule.specs.Bounds.{kept, availableFrom, Lasts}
 use Rattle.schedule.proofs.Occupied.{free-count}
 use Rattle.schedule.proofs.Weights.{GoesOn}
-use Rattle.schedule.proofs.Lanes.{OnLanes, lanes-bound}
+use Rattle.schedule.proofs.Lanes.{OnLanes, minutes-from, lanes-bound}
 
 -- Q goes on from P, and keeps the placed jobs on their modules too
 pub record GoesOnWith (S : Sheet) (P : PartPlan) (l : ℕ) (Q : Plan) : Type 0 where
@@ -69,13 +68,6 @@ module _ (S : Sheet) (w : Lasting S) (P : PartPlan) (l : ℕ) (Q : Plan) (h : Go
         (h .valid .apart i k m x z other u v);
   }
 
-  -- a module that is free from minute a on
-  minutes-from : (a : ℕ) → count C (λ t. leb a t) ≡ C - a
-  minutes-from a = sum-same C _ (λ t. only (inside a C t) 1) below ∙ sum-inside C a C 1 ∙ omega arith
-    where
-      below : (t : ℕ) → t < C → only (leb a t) 1 ≡ only (inside a C t) 1
-      below t x = rw (lt-ltb t C x) (ap (λ (b : Bool). only b 1) (sym (and-true (leb a t))))
-
   -- The jobs that are left weigh no more than what the modules can serve.
   pub modules-bound : (y Z : ℕ → ℕ) → Lasts S P y Z
       → sum (S .jobs) (λ k. only (not (P .placed k)) (S .need k * y k)) ≤ sum (S .modules) (λ m. Z (C - freeFrom S P l m))
@@ -83,10 +75,10 @@ module _ (S : Sheet) (w : Lasting S) (P : PartPlan) (l : ℕ) (Q : Plan) (h : Go
   modules-bound y Z most =
       let bound = lanes-bound (S .jobs) (λ k. not (P .placed k)) (Q .start) (kept S) (S .need) (S .modules) isOpen (Q .uses) on-modules
       (λ m t u x b. le-leb (freeFrom S P l m) u (omega (arith, leb-true (freeFrom S P l m) t b)))
-      C (λ k x p. omega (arith, e, le-largest (S .jobs) (finish S Q) k x)) y Z
-      (λ X x a left short. most X x (λ k b. not-true (P .placed k) (left k b)) short) in
+      C (λ k x p. omega (arith, e, le-largest (S .jobs) (finish S Q) k x)) (λ k. 0) (λ k x p. zero-le) y Z
+      (λ X x a left short late. most X x (λ k b. not-true (P .placed k) (left k b)) short) in
       let each = sum-same (S .modules) (λ m. Z (count C (isOpen m))) (λ m. Z (C - freeFrom S P l m))
-      (λ m x. ap Z (minutes-from (freeFrom S P l m))) in
+      (λ m x. ap Z (minutes-from C (freeFrom S P l m))) in
       omega (arith, bound, each)
 
 -- ---- the same, from the placed jobs that still run

@@ -2,11 +2,11 @@
 -- serves more value than its minutes reach. With the minutes for which jobs keep their modules as values it is the bound by weights.
 use mathlib.Core.Path.{_≡_, refl, ap, _∙_}
 use mathlib.Core.Bool.{Bool, true, false, not, _&&_}
-use Prim.Native.Nat.{ℕ, zero, suc, _+_, _-_, _*_, _≤_, zero-le}
+use Prim.Native.Nat.{ℕ, zero, suc, _+_, _-_, _*_, _≤_, _<_, zero-le}
 use native.Mathlib.Omega.{arith}
 use native.Mathlib.Nat.{le-refl}
 use lib.Dec.{leb, ltb}
-use borrow.Author.Tests.{ltb-true, leb-true, lt-ltb, le-leb}
+use borrow.Author.Tests.{ltb-true, leb-true, lt-ltb, le-leb, not-true}
 use Rattle.counting.specs.Counting.{only, sum, count, Rises, Holds}
 use Rattle.counting.proofs.Tests.{and-left, and-right, and-both, only-mul}
 use Rattle.counting.proofs.Sums.{sum-same, sum-swap, sum-zero, sum-const, sum-first}
@@ -15,7 +15,7 @@ use Rattle.counting.proofs.Ranges.{le-largest}
 use Rattle.counting.proofs.Counts.{count-same, sum-alike}
 use Rattle.schedule.specs.Plan.{Sheet, Plan, finish, planEnd, Lasting}
 use Rattle.schedule.specs.ListPlan.{PartPlan, occupied}
-use Rattle.schedule.specs.Bounds.{kept, gain}
+use Rattle.schedule.specs.Bounds.{kept, gain, ServesFrom}
 use Rattle.schedule.proofs.Occupied.{occupied-falls}
 use Rattle.schedule.proofs.Lanes.{StaysOpen, lanes-bound}
 use Rattle.schedule.proofs.Filling.{put-on-lanes}
@@ -71,8 +71,9 @@ count-below n g l =
     ∙ sum-inside n 0 g 1 ∙ omega arith
 
 module _ (S : Sheet) (lasting : Lasting S) (P : PartPlan) (l : ℕ) (Q : Plan) (h : GoesOn S P l Q) (C : ℕ) (e : planEnd S Q + S .rest ≤ C)
-    (w y K Z : ℕ → ℕ) (most : Holds (S .need) (S .jobs) (S .modules) w K) (more : Rises (S .modules) K)
-    (lasts : Holds (kept S) (S .jobs) C y Z) (none : Z 0 ≡ 0) (rises : Rises C Z) where
+    (r w y K Z : ℕ → ℕ) (from : (k : ℕ) → k < S .jobs → P .placed k ≡ false → r k ≤ Q .start k)
+    (most : Holds (S .need) (S .jobs) (S .modules) w K) (more : Rises (S .modules) K)
+    (serves : ServesFrom S P C r y Z) (none : Z 0 ≡ 0) (rises : Rises C Z) where
   -- the lanes that are open at minute t
   width : ℕ → ℕ
   width t = K (S .modules - occupied S P t)
@@ -105,7 +106,8 @@ module _ (S : Sheet) (lasting : Lasting S) (P : PartPlan) (l : ℕ) (Q : Plan) (
       (λ k x. omega (arith, lasting k x))
       (λ t. omega (arith, minute-weight S P l Q h w K most t, open-at t)) in
       let bound = lanes-bound (S .jobs) (λ k. not (P .placed k)) (Q .start) (kept S) w (K (S .modules)) isOpen (lanes .0) (lanes .1) stays
-      C (λ k x p. omega (arith, e, le-largest (S .jobs) (finish S Q) k x)) y Z (λ X x a b. lasts X x a) in
+      C (λ k x p. omega (arith, e, le-largest (S .jobs) (finish S Q) k x)) r (λ k x p. from k x (not-true (P .placed k) p)) y Z
+      (λ X x a b. serves X x a (λ k p. not-true (P .placed k) (b k p))) in
       let M = K (S .modules) in
       let gains = sum-same M (λ m. Z (count C (isOpen m))) (λ m. sum C (λ t. only (isOpen m t) (gain Z C t)))
       (λ m x. by-gains Z none C (isOpen m) (stays m) rises) in

@@ -40,6 +40,14 @@ abbrev pub Lasts : Sheet → PartPlan → (ℕ → ℕ) → (ℕ → ℕ) → Ty
 Lasts S P y Z = (X : ℕ → Bool) (x : ℕ) → ((k : ℕ) → X k ≡ true → P .placed k ≡ false)
     → sum (S .jobs) (λ k. only (X k) (kept S k)) ≤ x → sum (S .jobs) (λ k. only (X k) (y k)) ≤ Z x
 
+-- no set of jobs that are left, keep a module for x minutes together and, if each starts from its minute r on, have room behind every minute
+-- up to C, is worth more than Z x
+abbrev pub ServesFrom : Sheet → PartPlan → ℕ → (ℕ → ℕ) → (ℕ → ℕ) → (ℕ → ℕ) → Type 0
+ServesFrom S P C r v Z = (X : ℕ → Bool) (x : ℕ) → x ≤ C → ((k : ℕ) → X k ≡ true → P .placed k ≡ false)
+    → sum (S .jobs) (λ k. only (X k) (kept S k)) ≤ x
+    → ((a : ℕ) → sum (S .jobs) (λ k. only (X k && leb a (r k)) (kept S k)) ≤ C - a)
+    → sum (S .jobs) (λ k. only (X k) (v k)) ≤ Z x
+
 -- a job that keeps its modules for so many minutes has them at minute m, if it starts from a minute on, and early enough that a chain which
 -- begins with it ends by T
 abbrev pub mustRun : ℕ → ℕ → ℕ → ℕ → ℕ → Bool

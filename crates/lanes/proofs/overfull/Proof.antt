@@ -5,6 +5,8 @@ use mathlib.Core.Bool.{false}
 use Prim.Native.Nat.{ℕ, _/_}
 use borrow.Author.Tests.{ltb-true}
 use Rattle.counting.proofs.Tests.{clash}
+use Rattle.tables.specs.Prepared.{lanesIn}
+use Rattle.lanes.specs.Lanes.{ReachesTo}
 use Rattle.lanes.proofs.Laws.{serving, overfull-by}
 use borrow.Author.Needs.{needs}
 use Rattle.lanes.proofs.overfull.Statement.{statement}
@@ -30,7 +32,9 @@ served-on-requires c κs =
     let args = c .before .before .before .before .args in
     let pre = c .before .before .before .before .pre in
     let place = steps .ensures ∙ ap (λ (s : ℕ). args .close / s) (step-of .ensures) in
-    serving _ (pre .0 .1) (pre .1) (pre .0 .0 .most) (if1 .left) (omega (arith, place, c .if2 .left))
+    let inside : ReachesTo (lanesIn (args .prepared .now)) (args .close) =
+    (pre .0 .1 .step-some, omega (arith, place, c .if2 .left)) in
+    (inside, serving (pre .0 .1) (args .close) inside _ (pre .1) (pre .0 .0 .most) (if1 .left))
 
 set-worth-requires : tie.Need-set-worth-requires
 set-worth-requires c κs =
@@ -42,14 +46,12 @@ returns-3 c =
     let if2 = c .before .before .if2 in
     let steps = c .before .before .before .steps in
     let step-of = c .before .before .before .before .step-of in
-    let if1 = c .before .before .before .before .before .if1 in
     let args = c .before .before .before .before .before .before .args in
     let pre = c .before .before .before .before .before .before .pre in
     let place = steps .ensures ∙ ap (λ (s : ℕ). args .close / s) (step-of .ensures) in
-    let s = serving _ (pre .0 .1) (pre .1) (pre .0 .0 .most) (if1 .left) (omega (arith, place, if2 .left)) in
     let served-on = c .before .served-on in
     let set-worth = c .set-worth in
-    λ e. overfull-by (pre .0 .1) s
+    λ e. overfull-by (pre .0 .1) (args .close) (pre .0 .1 .step-some, omega (arith, place, if2 .left))
     (omega (arith, ltb-true (served-on .result) (set-worth .result) e, served-on .ensures, set-worth .ensures))
 
 pub overfull-spec : {M : Type 1} → statement M

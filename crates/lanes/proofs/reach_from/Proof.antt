@@ -16,7 +16,7 @@ step-of-requires : tie.Need-step-of-requires
 step-of-requires c κs = search needs
 
 steps-requires : tie.Need-steps-requires
-steps-requires c κs = omega (arith, c .before .pre .0, c .step-of .ensures)
+steps-requires c κs = omega (arith, c .before .pre .0 .0, c .step-of .ensures)
 
 lanes-requires : tie.Need-lanes-requires
 lanes-requires c κs =
@@ -24,7 +24,7 @@ lanes-requires c κs =
     let pre = c .before .before .pre in
     let args = c .before .before .args in
     let place = c .steps .ensures ∙ ap (λ (s : ℕ). (args .close - args .t) / s) (step-of .ensures) in
-    let inside = place-inside (args .close) (args .t) (stepOf (lanesIn (args .prepared .now))) (pre .0) (pre .1 .0) in
+    let inside = place-inside (args .close) (args .t) (stepOf (lanesIn (args .prepared .now))) (pre .0 .0) (pre .0 .1) in
     omega (arith, place, inside)
 
 returns : tie.Need-returns

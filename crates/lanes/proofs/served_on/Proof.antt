@@ -6,7 +6,8 @@ use Rattle.tables.specs.Tables.{modulesOf}
 use Rattle.tables.specs.Part.{partIn}
 use Rattle.tables.specs.Prepared.{lanesIn}
 use Rattle.weights.proofs.Walks.{Walk, walk-start, walk-fits, walk-step}
-use Rattle.lanes.specs.Lanes.{Serving}
+use Rattle.values.specs.Values.{mostAt}
+use Rattle.lanes.specs.Lanes.{reachIn, ReachesTo, Serving}
 use Rattle.lanes.proofs.Laws.{Served, serve-start, serve-step, serve-done, serve-low, serve-all-low, reach-falls}
 use borrow.Author.Needs.{needs}
 use Rattle.lanes.proofs.served_on.Statement.{statement}
@@ -14,8 +15,8 @@ use Rattle.lanes.proofs.served_on.Tie as tie
 
 abbrev Inv-loop : tie.InvT-loop
 Inv-loop jobs prepared part gone free least close placed total₀ at₀ reach₀ f₀ i₀ total at reach f i =
-    (placed ≡ partIn part .placed)
-    × ((s : Serving (lanesIn prepared) (partIn part) gone free (modulesOf jobs) least close)
+    ((placed ≡ partIn part .placed) × ReachesTo (lanesIn prepared) close)
+    × ((s : Serving (mostAt (lanesIn prepared)) (reachIn (lanesIn prepared)) (partIn part) gone free (modulesOf jobs) least close)
     × (Walk (partIn part) (modulesOf jobs) close at f i × Served s total at reach))
 
 abbrev μ-loop : tie.MeasureT-loop
@@ -25,25 +26,25 @@ placed-requires : tie.Need-placed-requires Inv-loop μ-loop
 placed-requires c κs = search needs
 
 reach-from-requires : tie.Need-reach-from-requires Inv-loop μ-loop
-reach-from-requires c κs = (c .before .pre .step-some, (c .before .pre .inside, c .before .pre .before))
+reach-from-requires c κs = (c .before .pre .0, c .before .pre .1 .before)
 
 loop-holds : tie.Need-loop-holds Inv-loop μ-loop
 loop-holds c =
-    let s = c .before .before .pre in (
-      c .before .placed .ensures,
+    let s = c .before .before .pre .1 in (
+      (c .before .placed .ensures, c .before .before .pre .0),
       (s, (walk-start _ (s .profile) (s .narrow) (s .before), serve-start s (c .reach-from .result) (c .reach-from .ensures))),
     )
 
 until-requires : tie.Need-until-requires Inv-loop μ-loop
-until-requires c κs = omega (arith, c .before .loop .inv .0, c .before .loop .inv .1 .1 .0 .few, c .loop-test .taken)
+until-requires c κs = omega (arith, c .before .loop .inv .0 .0, c .before .loop .inv .1 .1 .0 .few, c .loop-test .taken)
 
 next-end-requires : tie.Need-next-end-requires Inv-loop μ-loop
 next-end-requires c κs = search needs
 
 reach-from-requires-2 : tie.Need-reach-from-requires-2 Inv-loop μ-loop
 reach-from-requires-2 c κs =
-    let s = c .before .before .before .loop .inv .1 .0 in
-    (s .step-some, (s .inside, omega (arith, c .next-end .ensures, c .before .before .before .loop .inv .1 .1 .0 .before)))
+    let inv = c .before .before .before .loop .inv in
+    (inv .0 .1, omega (arith, c .next-end .ensures, inv .1 .1 .0 .before))
 
 lanes-on-requires : tie.Need-lanes-on-requires Inv-loop μ-loop
 lanes-on-requires c κs =
@@ -79,14 +80,14 @@ held-requires : tie.Need-held-requires Inv-loop μ-loop
 held-requires c κs =
     let loop-test = c .before .before .before .before .loop-test in
     let loop = c .before .before .before .before .before .loop in
-    omega (arith, loop .inv .0, loop .inv .1 .1 .0 .few, loop-test .taken)
+    omega (arith, loop .inv .0 .0, loop .inv .1 .1 .0 .few, loop-test .taken)
 
 add-f : tie.Need-add-f Inv-loop μ-loop
 add-f c =
     let loop-test = c .before .before .before .before .before .loop-test in
     let loop = c .before .before .before .before .before .before .loop in
     let inv = loop .inv in
-    record { fits = omega (arith, c .held .ensures, walk-fits (inv .1 .1 .0) (omega (arith, inv .0, loop-test .taken))) }
+    record { fits = omega (arith, c .held .ensures, walk-fits (inv .1 .1 .0) (omega (arith, inv .0 .0, loop-test .taken))) }
 
 add-i : tie.Need-add-i Inv-loop μ-loop
 add-i c = search needs
@@ -108,7 +109,7 @@ loop-again c =
     let next = c .before .before .reach-from2 in
     let to = next-end .ensures ∙ ap (λ (x : ℕ). max (loop .at) (min x (past .before .args .close))) (until .ensures) in
     let step = serve-step s walk (inv .1 .1 .1) (next-end .result) (next .result) to (next .ensures) in
-    let on = walk-step walk (omega (arith, inv .0, loop-test .taken)) in
+    let on = walk-step walk (omega (arith, inv .0 .0, loop-test .taken)) in
     (inv .0, (s, (rw (to, c .held .ensures) on, rw (lanes-on .ensures) step)))
 
 lanes-on-requires-2 : tie.Need-lanes-on-requires-2 Inv-loop μ-loop
@@ -131,7 +132,7 @@ returns c =
     let loop = c .before .before .loop in
     let inv = loop .inv .1 in
     rw (c .lanes-on2 .ensures)
-    (serve-done (inv .0) (inv .1 .0) (inv .1 .1) (omega (arith, loop .inv .0, c .before .loop-test .left)))
+    (serve-done (inv .0) (inv .1 .0) (inv .1 .1) (omega (arith, loop .inv .0 .0, c .before .loop-test .left)))
 
 pub served-on-spec : {M : Type 1} → statement M
 served-on-spec =
