@@ -127,8 +127,8 @@ enum depot_refusal {
 #define DEPOT_MOST_POWER 400000 /* the largest limit of a feeder, in hundreds of watts: 40 MW */
 #define DEPOT_LARGEST_SIZE 10000 /* of a module, in hundreds of watts: 1 MW */
 
-#define DEPOT_PLAN_STACK 40960
-#define DEPOT_SIZE_STACK 57344
+#define DEPOT_PLAN_STACK 57344
+#define DEPOT_SIZE_STACK 81920
 #define DEPOT_SETS_STACK 4096
 #define DEPOT_RUNNER_STACK 12288
 #define DEPOT_CALL_STACK 2048

@@ -1,8 +1,8 @@
 #!/usr/bin/env python3
 """Measures the search without its rules; not in the gate.
 
-The bare search makes no cut and tries every job that may come next: `hopeless` and `passed_over` answer false and `to_try` gives the
-whole set, which their contracts allow. The repository is copied to target/bare/, these three bodies are replaced there, the library is
+The bare search makes no cut and tries every job that may come next: `hopeless`, `overfilled` and `passed_over` answer false and `to_try`
+gives the whole set, which their contracts allow. The repository is copied to target/bare/, these bodies are replaced there, the library is
 proved and built anew, and the benchmark compares it with the plain search without rules. Words after the script's name are the
 benchmark's options, such as --sizes 8,9 --memory 0.
 """
@@ -17,6 +17,7 @@ BARE = ROOT / 'target/bare'
 # a function of the search, the body that stands in its place, and why that meets the contract
 BODIES = {
     ('bounds', 'hopeless'): ('false', 'λ e. clash false e refl'),
+    ('bounds', 'overfilled'): ('false', '(λ e. clash false e refl, c .pre .0 .1)'),
     ('branching', 'passed_over'): ('false', 'λ e. clash false e refl'),
     ('branching', 'to_try'): ('set', 'λ j l b. inl b'),
 }

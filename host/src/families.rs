@@ -180,6 +180,70 @@ fn in_quarters(random: &mut Random, n: usize) -> Vec<Job> {
     (0..n).map(|_| job(random.pick(&[2, 4, 4, 8]), 15 * random.between(2, 20))).collect()
 }
 
+/// The families whose lists are the hardest of their kind.
+pub const HARD: [&str; 28] = [
+    "ind_N2_d1440",
+    "ind_N3_d100",
+    "unitw_N3",
+    "ind_N4_d10",
+    "indH_N4",
+    "ind_N5_d100",
+    "ind_N8_d1440",
+    "unitw_N8",
+    "indH_N10",
+    "ind_N16_d100",
+    "ind_N64_d100",
+    "third3_N5",
+    "thirdplus_N8",
+    "neq_N16",
+    "halfplus_N64",
+    "dag_N4_p10",
+    "dag_N64_p5",
+    "chains_N8_c10",
+    "layer_N4_L5",
+    "fewtypes_N64",
+    "depot_N64",
+    "depot_N16",
+    "depot_N16r",
+    "depot_N32",
+    "depot_N16dag",
+    "threepart_N6",
+    "perfp_N10",
+    "pairs_N9",
+];
+
+/// Buses as a yard has them: their modules, and a third or more of those behind the first eight wait for one that stands four places or
+/// more in front.
+fn of_a_yard(widths: &'static [u32], quarters: bool, waiting: u32) -> impl Fn(&mut Random, usize) -> Vec<Job> {
+    move |random, n| {
+        let minutes = |random: &mut Random| if quarters { 15 * random.between(3, 13) } else { random.between(35, 190) };
+        let mut jobs: Vec<Job> = (0..n).map(|_| job(random.pick(widths), minutes(random))).collect();
+        for (j, job) in jobs.iter_mut().enumerate().skip(8) {
+            if random.percent(waiting) {
+                job.earlier = 1 << random.place(j - 4);
+            }
+        }
+        jobs
+    }
+}
+
+/// The families of a yard's lists: nobody waits, some wait, more wait, and quarter hours.
+pub fn yard() -> Vec<Family> {
+    const NARROW: [u32; 8] = [1, 2, 2, 3, 4, 4, 6, 8];
+    const WIDE: [u32; 9] = [2, 3, 4, 4, 6, 8, 8, 10, 12];
+    let mut families = Vec::new();
+    for (kind, waiting, quarters) in [("yard0", 0, false), ("yard1", 30, false), ("yard2", 60, false), ("yard3", 0, true)] {
+        for (modules, widths) in [(16, &NARROW[..]), (32, &WIDE[..])] {
+            families.push(Family {
+                name: format!("{kind}_N{modules}"),
+                modules,
+                make: Box::new(of_a_yard(widths, quarters, waiting)),
+            });
+        }
+    }
+    families
+}
+
 /// Every family; N, the modules in the cabinet, is in the name.
 pub fn all() -> Vec<Family> {
     let mut families = Vec::new();
@@ -253,9 +317,14 @@ fn arrivals_of_lists() {
 }
 
 #[test]
+fn the_hardest_are_among_all() {
+    assert!(HARD.iter().all(|hard| all().iter().any(|family| family.name() == *hard)));
+}
+
+#[test]
 fn every_family_makes_lists_that_read() {
     assert_eq!(all().len(), 113);
-    for family in all() {
+    for family in all().into_iter().chain(yard()) {
         for n in [1, 10, 20] {
             let sheet = crate::reference::reading::read(&family.list(1, n).sheet()).unwrap();
             assert_eq!(sheet.jobs.len(), n);

@@ -1,7 +1,8 @@
 // Whether no order that goes on from a part-plan can end by a target.
 ghost use mathlib.Core.Path.{_≡_};
 ghost use mathlib.Core.Bool.{true};
-ghost use Prim.Native.Nat.{_+_, _<_, _≤_};
+ghost use Prim.Native.Nat.{ℕ, _+_, _<_, _≤_};
+ghost use lib.ListN.{length, getD};
 ghost use Rattle.figures.specs.Figures.{mostJobs, noMinute};
 ghost use Rattle.tables.specs.Tables.{modulesOf, countOf, changeoverOf, Fit};
 ghost use Rattle.tables.specs.Part.{partIn};
@@ -9,9 +10,11 @@ ghost use Rattle.tables.specs.Prepared.{tailsIn, worthIn, mostIn, lanesIn};
 ghost use Rattle.placement.specs.Profile.{ProfileOf};
 ghost use Rattle.weights.specs.Weights.{Weighted};
 ghost use Rattle.values.specs.Values.{Laned};
+ghost use Rattle.fitting.specs.Fitting.{slateSize, releaseAt, OverfullFrom};
 ghost use Rattle.bounds.specs.Bounds.{SomeTooLong, TooFew, Hopeless, Bounding};
 use figures::MOST_JOBS;
 use figures::NO_MINUTE;
+use fitting::Slate;
 use tables::Jobs;
 use tables::Part;
 use tables::Prepared;
@@ -103,4 +106,32 @@ pub fn hopeless(
         return true;
     }
     too_few(jobs, prepared, part, least, target, close)
+}
+
+// ---- lanes fitted to the part-plan
+
+// Whether the jobs that are left have more value than the lanes can serve until all modules are given back, by a table that is made of them on
+// the slate.
+pub fn overfilled(
+    slate: &mut Slate,
+    jobs: &Jobs,
+    part: &Part,
+    at: &[u16; MOST_JOBS],
+    least: u16,
+    target: u16,
+) -> bool
+    requires { ⌜ ((Fit (now jobs)) × (length (now slate) ≡ slateSize))
+        × (((k : ℕ) → k < countOf (now jobs) → least ≤ getD (now at) k 0) × (Bounding (now jobs) (partIn (now part)) least)) ⌝ }
+    ensures over { λ r. ⌜ (r ≡ true
+        → OverfullFrom (now (jobs .entry)) (partIn (now (part .entry))) (releaseAt (now (at .entry)) least) least (target + changeoverOf (now (jobs .entry)))) ⌝ }
+    ensures size { λ _. ⌜ length (now (slate .exit)) ≡ length (now (slate .entry)) ⌝ }
+{
+    let close = tables::closing(jobs, target);
+    if close == NO_MINUTE {
+        return false;
+    }
+    let ended = placement::ended_by(jobs, part, least);
+    let gone = ended.gone;
+    let free = ended.free;
+    fitting::overfull(slate, jobs, part, at, gone, free, least, close)
 }

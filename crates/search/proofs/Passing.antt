@@ -38,8 +38,8 @@ use Rattle.branching.specs.declared.Behind.{Behind}
 use Rattle.branching.specs.Branching.{settledNow, AllAwaited, AllArrived, EndsInBlock, PassedOver}
 use Rattle.search.specs.Search.{Fails, SettledAt, SameStart, SettledSo, Searching, TriedSo, Choosing}
 
-module _ {t prepared : List ℕ} {part : Part} {target : ℕ} {memory settled : List ℕ} {same tried job at : ℕ}
-    (s : Searching t prepared part target memory settled same) (choosing : Choosing t part target tried job at) where
+module _ {t prepared : List ℕ} {part : Part} {target : ℕ} {memory settled slate : List ℕ} {same tried job at : ℕ}
+    (s : Searching t prepared part target memory settled slate same) (choosing : Choosing t part target tried job at) where
   abbrev S : Sheet
   S = sheetOf t
 
@@ -329,7 +329,7 @@ module _ {t prepared : List ℕ} {part : Part} {target : ℕ} {memory settled : 
     pub choice-word : wordOf child ≡ w ++ (job ∷ [])
     choice-word = child-word (s .going .known) l start low placed
 
-    pub choice-searching : Searching t prepared child target memory (set settled job tried)
+    pub choice-searching : Searching t prepared child target memory (set settled job tried) slate
         (settledNow same tried at (part .last))
     choice-searching = record {
       going = record {
@@ -338,6 +338,7 @@ module _ {t prepared : List ℕ} {part : Part} {target : ℕ} {memory settled : 
         tabled = s .going .tabled;
         remembered = s .going .remembered;
       };
+      slated = s .slated;
       settled-so = rw choice-word settled-more;
     }
 

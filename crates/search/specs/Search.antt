@@ -18,6 +18,7 @@ use Rattle.candidates.specs.Candidates.{Known, theoryPart, JobStart}
 use Rattle.listing.specs.declared.Found.{Found}
 use Rattle.listing.specs.Listing.{OrderOf}
 use Rattle.preparing.specs.Preparing.{Tabled}
+use Rattle.fitting.specs.Fitting.{slateSize}
 use Rattle.memory.specs.Entries.{Entry, entries, entryAt, lastAt, endAt}
 
 -- ---- working memory
@@ -84,8 +85,9 @@ pub record Going (t prepared : List ℕ) (p : Part) (target : ℕ) (memory : Lis
   pub remembered : Remembered (sheetOf t) memory (suc target)
 
 -- the same, where jobs were settled
-pub record Searching (t prepared : List ℕ) (p : Part) (target : ℕ) (memory settled : List ℕ) (same : ℕ) : Type 0 where
+pub record Searching (t prepared : List ℕ) (p : Part) (target : ℕ) (memory settled slate : List ℕ) (same : ℕ) : Type 0 where
   pub going : Going t prepared p target memory
+  pub slated : length slate ≡ slateSize
   pub settled-so : SettledSo (sheetOf t) target (wordOf p) settled same
 
 -- each job of this set may come next, starts no later than `start`, and leads to no order that ends by the target

@@ -16,10 +16,14 @@ ghost use Rattle.tables.specs.Prepared.{preparedSize};
 ghost use Rattle.candidates.specs.Candidates.{Known, theoryPart, JobStarts};
 ghost use Rattle.listing.specs.Listing.{OrderOf};
 ghost use Rattle.preparing.specs.Preparing.{Tabled};
+ghost use Rattle.fitting.specs.Fitting.{slateSize};
 ghost use Rattle.search.specs.Search.{Outcome, Fails, noneFound, SettledSo, Going, Searching, Choosing, Remembered};
 ghost use Rattle.search.specs.Search.{keptAs, Lowering, Lowered, Lowest, Placing, TieRuled};
+use candidates::Choice;
 use figures::MOST_JOBS;
 use figures::NO_MINUTE;
+use fitting::SLATE_PLACES;
+use fitting::Slate;
 use listing::Found;
 use tables::Jobs;
 use tables::PREPARED_PLACES;
@@ -41,6 +45,7 @@ fn none_found() -> Found
 
 // Whether a bound or a remembered part-plan shows that no order which goes on from this part-plan ends by the target.
 fn cut_off(
+    slate: &mut Slate,
     memory: &[u8],
     part: &Part,
     at: &[u16; MOST_JOBS],
@@ -49,20 +54,24 @@ fn cut_off(
     jobs: &Jobs,
     prepared: &Prepared,
 ) -> bool
-    requires { ⌜ (Going (now jobs) (now prepared) (partIn (now part)) target (now memory))
+    requires { ⌜ ((Going (now jobs) (now prepared) (partIn (now part)) target (now memory)) × (length (now slate) ≡ slateSize))
         × ((JobStarts (now jobs) (partIn (now part)) (now at) least) × (partIn (now part) .placed < countOf (now jobs))) ⌝ }
-    ensures { λ r. ⌜ (r ≡ true → Fails (sheetOf (now (jobs .entry))) target (wordOf (partIn (now (part .entry))))) ⌝ }
+    ensures fails { λ r. ⌜ (r ≡ true → Fails (sheetOf (now (jobs .entry))) target (wordOf (partIn (now (part .entry))))) ⌝ }
+    ensures size { λ _. ⌜ length (now (slate .exit)) ≡ length (now (slate .entry)) ⌝ }
 {
     if bounds::hopeless(jobs, prepared, part, at, least, target) {
         return true;
     }
-    memory::recall(
+    if memory::recall(
         memory,
         part,
         tables::count(jobs),
         least,
         tables::changeover(jobs),
-    )
+    ) {
+        return true;
+    }
+    bounds::overfilled(slate, jobs, part, at, least, target)
 }
 
 // P-15: the search goes from a part-plan to each next job. Finds an order that goes on from this part-plan and ends by the
@@ -71,16 +80,18 @@ fn cut_off(
 fn visit(
     memory: &mut [u8],
     settled: &mut [u32; MOST_JOBS],
+    slate: &mut Slate,
     part: &Part,
     same: u32,
     target: u16,
     jobs: &Jobs,
     prepared: &Prepared,
 ) -> Found
-    requires { ⌜ Searching (now jobs) (now prepared) (partIn (now part)) target (now memory) (now settled) same ⌝ }
+    requires { ⌜ Searching (now jobs) (now prepared) (partIn (now part)) target (now memory) (now settled) (now slate) same ⌝ }
     ensures outcome { λ r. ⌜ Outcome (sheetOf (now (jobs .entry))) target (wordOf (partIn (now (part .entry)))) r ⌝ }
     ensures settled { λ _. ⌜ SettledSo (sheetOf (now (jobs .entry))) target (wordOf (partIn (now (part .entry)))) (now (settled .exit)) same ⌝ }
     ensures remembered { λ _. ⌜ Remembered (sheetOf (now (jobs .entry))) (now (memory .exit)) (suc target) ⌝ }
+    ensures size { λ _. ⌜ length (now (slate .exit)) ≡ length (now (slate .entry)) ⌝ }
 {
     let count = tables::count(jobs);
     let unplaced = tables::unplaced(part);
@@ -89,7 +100,16 @@ fn visit(
     }
     let starts = candidates::starts_of(jobs, part);
     let at = starts.at;
-    if cut_off(memory, part, &at, starts.least, target, jobs, prepared) {
+    if cut_off(
+        slate,
+        memory,
+        part,
+        &at,
+        starts.least,
+        target,
+        jobs,
+        prepared,
+    ) {
         return none_found();
     }
     let mut untried = branching::to_try(jobs, prepared, &at, starts.least, unplaced);
@@ -99,14 +119,14 @@ fn visit(
         let found = try_children(
             memory,
             settled,
+            slate,
             part,
             same,
             target,
             jobs,
             prepared,
             tried,
-            c.job,
-            c.start,
+            c,
         );
         if found.hit {
             return found;
@@ -123,21 +143,24 @@ fn visit(
 fn try_children(
     memory: &mut [u8],
     settled: &mut [u32; MOST_JOBS],
+    slate: &mut Slate,
     part: &Part,
     same: u32,
     target: u16,
     jobs: &Jobs,
     prepared: &Prepared,
     tried: u32,
-    job: usize,
-    start: u16,
+    c: Choice,
 ) -> Found
-    requires { ⌜ (Searching (now jobs) (now prepared) (partIn (now part)) target (now memory) (now settled) same)
-        × (Choosing (now jobs) (partIn (now part)) target tried job start) ⌝ }
-    ensures outcome { λ r. ⌜ Outcome (sheetOf (now (jobs .entry))) target (wordOf (partIn (now (part .entry))) ++ (job ∷ [])) r ⌝ }
+    requires { ⌜ (Searching (now jobs) (now prepared) (partIn (now part)) target (now memory) (now settled) (now slate) same)
+        × (Choosing (now jobs) (partIn (now part)) target tried (c .job) (c .start)) ⌝ }
+    ensures outcome { λ r. ⌜ Outcome (sheetOf (now (jobs .entry))) target (wordOf (partIn (now (part .entry))) ++ (c .job ∷ [])) r ⌝ }
     ensures settled { λ _. ⌜ SettledSo (sheetOf (now (jobs .entry))) target (wordOf (partIn (now (part .entry)))) (now (settled .exit)) same ⌝ }
     ensures remembered { λ _. ⌜ Remembered (sheetOf (now (jobs .entry))) (now (memory .exit)) (suc target) ⌝ }
+    ensures size { λ _. ⌜ length (now (slate .exit)) ≡ length (now (slate .entry)) ⌝ }
 {
+    let job = c.job;
+    let start = c.start;
     if branching::passed_over(jobs, prepared, part, settled, same, tried, start, job) {
         return none_found();
     }
@@ -145,7 +168,16 @@ fn try_children(
     let mut child = *part;
     placement::place(&mut child, jobs, job, start);
     let same_now = branching::settled_now(same, tried, start, tables::last(part));
-    visit(memory, settled, &child, same_now, target, jobs, prepared)
+    visit(
+        memory,
+        settled,
+        slate,
+        &child,
+        same_now,
+        target,
+        jobs,
+        prepared,
+    )
 }
 
 // The same from a part-plan for which nothing is settled, unless jobs arrive too late for the target.
@@ -158,7 +190,18 @@ fn seek(memory: &mut [u8], part: &Part, target: u16, jobs: &Jobs, prepared: &Pre
         return none_found();
     }
     let mut settled = [0u32; MOST_JOBS];
-    visit(memory, &mut settled, part, 0, target, jobs, prepared)
+    let mut slate = [0u16; SLATE_PLACES];
+    fitting::begin(&mut slate, jobs);
+    visit(
+        memory,
+        &mut settled,
+        &mut slate,
+        part,
+        0,
+        target,
+        jobs,
+        prepared,
+    )
 }
 
 // ---- the earliest end

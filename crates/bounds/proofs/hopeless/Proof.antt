@@ -1,22 +1,17 @@
 -- `bounds::hopeless` meets its contract.
-use mathlib.Core.Path.{_≡_, refl, subst}
-use mathlib.Core.Logic.{inl, inr, _≢_}
+use mathlib.Core.Path.{refl, subst}
+use mathlib.Core.Logic.{inl, inr}
 use mathlib.Core.Bool.{false}
 use mathlib.Core.List.{List}
-use Prim.Native.Nat.{ℕ, _+_, min}
+use Prim.Native.Nat.{ℕ}
 use native.Mathlib.Omega.{arith}
 use Rattle.counting.proofs.Tests.{clash}
-use Rattle.figures.specs.Figures.{noMinute}
-use Rattle.tables.specs.Tables.{changeoverOf}
 use Rattle.tables.specs.Part.{partIn}
 use Rattle.bounds.specs.Bounds.{Hopeless}
+use Rattle.bounds.proofs.Closing.{closes}
 use borrow.Author.Needs.{needs}
 use Rattle.bounds.proofs.hopeless.Statement.{statement}
 use Rattle.bounds.proofs.hopeless.Tie as tie
-
--- where it is a minute, all modules are given back a changeover behind the target
-closes : (T : ℕ) (t : List ℕ) {close : ℕ} → close ≡ min (T + changeoverOf t) noMinute → close ≢ noMinute → close ≡ T + changeoverOf t
-closes T t e d = omega arith
 
 abbrev hopeless-by : List ℕ → List ℕ → List ℕ → List ℕ → ℕ → ℕ → ℕ → Type 0
 hopeless-by jobs prepared part at least T C = Hopeless jobs prepared (partIn part) at least T C

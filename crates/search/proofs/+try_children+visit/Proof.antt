@@ -40,40 +40,40 @@ use Rattle.tables.proofs.unplaced.Reads as unplaced-reads
 use Rattle.search.proofs.+try_children+visit.{statement}
 use Rattle.search.proofs.+try_children+visit.Tie.{close}
 
-abbrev μ-try-children : Measures 5 try-children-kinds.ps ℕ
+abbrev μ-try-children : Measures 6 try-children-kinds.ps ℕ
 μ-try-children κs a =
-    ones (partIn (a .1 .1 .0 .now) .unplaced) * 2
+    ones (partIn (a .1 .1 .1 .0 .now) .unplaced) * 2
 
-abbrev μ-visit : Measures 5 visit-kinds.ps ℕ
+abbrev μ-visit : Measures 6 visit-kinds.ps ℕ
 μ-visit κs a =
-    ones (partIn (a .1 .1 .0 .now) .unplaced) * 2 + 1
+    ones (partIn (a .1 .1 .1 .0 .now) .unplaced) * 2 + 1
 
-abbrev try-children-at : ℕ → In 5 try-children-kinds.ps
+abbrev try-children-at : ℕ → In 6 try-children-kinds.ps
 try-children-at t =
-    and 5 try-children-kinds.ps (is 5 try-children-kinds.ps μ-try-children t) try-children.Pre
+    and 6 try-children-kinds.ps (is 6 try-children-kinds.ps μ-try-children t) try-children.Pre
 
-abbrev try-children-below : ℕ → In 5 try-children-kinds.ps
+abbrev try-children-below : ℕ → In 6 try-children-kinds.ps
 try-children-below t =
     and
-    5
+    6
     try-children-kinds.ps
-    (falls 5 try-children-kinds.ps _<_ μ-try-children t)
+    (falls 6 try-children-kinds.ps _<_ μ-try-children t)
     try-children.Pre
 
-abbrev visit-at : ℕ → In 5 visit-kinds.ps
-visit-at t = and 5 visit-kinds.ps (is 5 visit-kinds.ps μ-visit t) visit.Pre
+abbrev visit-at : ℕ → In 6 visit-kinds.ps
+visit-at t = and 6 visit-kinds.ps (is 6 visit-kinds.ps μ-visit t) visit.Pre
 
-abbrev visit-below : ℕ → In 5 visit-kinds.ps
-visit-below t = and 5 visit-kinds.ps (falls 5 visit-kinds.ps _<_ μ-visit t) visit.Pre
+abbrev visit-below : ℕ → In 6 visit-kinds.ps
+visit-below t = and 6 visit-kinds.ps (falls 6 visit-kinds.ps _<_ μ-visit t) visit.Pre
 
 abbrev visit-Inv-loop : visit-lts.InvT-loop
-visit-Inv-loop memory₀ settled₀ part same target jobs prepared count unplaced at untried₀ tried₀ c₀ memory settled untried tried c =
+visit-Inv-loop memory₀ settled₀ slate₀ part same target jobs prepared count unplaced at untried₀ tried₀ c₀ memory settled slate untried tried c =
     Sweep jobs (partIn part) target at untried₀ untried tried c
     × (SettledSo (sheetOf jobs) target (wordOf (partIn part)) settled same
-    × (Remembered (sheetOf jobs) memory (suc target) × (length memory ≡ length memory₀)))
+    × (Remembered (sheetOf jobs) memory (suc target) × ((length memory ≡ length memory₀) × (length slate ≡ length slate₀))))
 
 abbrev visit-μ-loop : visit-lts.MeasureT-loop
-visit-μ-loop memory₀ settled₀ part same target jobs prepared count unplaced at untried₀ tried₀ c₀ memory settled untried tried c =
+visit-μ-loop memory₀ settled₀ slate₀ part same target jobs prepared count unplaced at untried₀ tried₀ c₀ memory settled slate untried tried c =
     ones untried
 
 -- what each of them knows of the functions that it calls, at the measure t
@@ -142,7 +142,7 @@ try-children-returns : (t : ℕ) → try-children-lts.Need-returns (try-children
 try-children-returns t c =
     let p = c .before .before .before .before .before .pre .1 in
     let cut = passed-cut (p .0) (p .1) (c .before .before .passed-over .ensures (c .before .if1 .taken)) in
-    (rw (c .none-found .ensures) (none-outcome cut), (p .0 .settled-so, p .0 .going .remembered))
+    (rw (c .none-found .ensures) (none-outcome cut), (p .0 .settled-so, (p .0 .going .remembered, refl)))
 
 try-children-mul-settled : (t : ℕ) → try-children-lts.Need-mul-settled (try-children-claims t) (try-children-at t) try-children.Post
 try-children-mul-settled t c =
@@ -167,11 +167,11 @@ try-children-settled-now-requires t c κs = tt
 
 try-children-visit-requires : (t : ℕ) → try-children-lts.Need-visit-requires (try-children-claims t) (try-children-at t) try-children.Post
 try-children-visit-requires t c κs =
-    let past = c .before .before .before .before .before in
-    let pre = past .before .before .before .before .before .before .before .pre in
+    let past = c .before .before .before .before .before .before .before .before in
+    let pre = past .before .before .before .before .before .pre in
     let p = pre .1 in
-    let child = past .place .ensures in
-    (omega (arith, pre .0, choice-fewer (p .0) (p .1) child), rw (c .before .before .before .settled-now .ensures, c .before .before .before .before .last .ensures) (choice-searching (p .0) (p .1) child))
+    let child = c .before .before .before .before .before .before .place .ensures in
+    (omega (arith, pre .0, choice-fewer (p .0) (p .1) child), rw (c .before .before .before .before .settled-now .ensures, c .before .before .before .before .before .last .ensures) (choice-searching (p .0) (p .1) child))
 
 try-children-same-length : (t : ℕ) → try-children-lts.Need-same-length (try-children-claims t) (try-children-at t) try-children.Post
 try-children-same-length t c = c .before .before .visit .kept .0
@@ -179,8 +179,9 @@ try-children-same-length t c = c .before .before .visit .kept .0
 try-children-returns-2 : (t : ℕ) → try-children-lts.Need-returns-2 (try-children-claims t) (try-children-at t) try-children.Post
 try-children-returns-2 t c =
     let past = c .before .before .before .before .before .before .before .before in
-    let p = past .before .before .before .before .before .before .before .pre .1 in
-    let child = past .place .ensures in
+    let far = past .before .before .before .before .before .before .before .before in
+    let p = far .pre .1 in
+    let child = past .before .place .ensures in
     let visit = c .before .before .visit .ensures in
     (rw (choice-word (p .0) (p .1) child) at (visit .0), (settled-less (p .0) (p .1) child (visit .1 .0), visit .1 .1))
 
@@ -199,15 +200,16 @@ visit-returns t c =
     let p = c .before .before .before .before .before .pre .1 in
     let all : partIn (a .part .now) .placed ≡ countOf (a .jobs .now) = omega (arith, p .going .known .is .figures .sizes, ap ones (c .before .before .unplaced .ensures), c .before .if1 .taken) in
     let finished = rw (c .before .before .before .count .ensures) at (c .finished .ensures) in
-    (visit-leaf (p .going .known) all finished, (p .settled-so, p .going .remembered))
+    (visit-leaf (p .going .known) all finished, (p .settled-so, (p .going .remembered, refl)))
 
 visit-starts-of-requires : (t : ℕ) → visit-lts.Need-starts-of-requires (visit-claims t) (visit-at t) visit.Post visit-Inv-loop visit-μ-loop
 visit-starts-of-requires t c κs = c .before .before .before .before .pre .1 .going .known
 
 visit-cut-off-requires : (t : ℕ) → visit-lts.Need-cut-off-requires (visit-claims t) (visit-at t) visit.Post visit-Inv-loop visit-μ-loop
 visit-cut-off-requires t c κs =
-    let p = c .before .before .before .before .before .before .before .before .pre .1 in
-    (p .going, (c .before .before .before .starts-of .ensures, omega (arith, p .going .known .is .figures .sizes, ap ones (c .before .before .before .before .before .unplaced .ensures), c .before .before .before .before .if1 .left)))
+    let past = c .before .before .before .before .before .before .before .before in
+    let p = past .before .pre .1 in
+    ((p .going, p .slated), (c .before .before .before .before .starts-of .ensures, omega (arith, p .going .known .is .figures .sizes, ap ones (c .before .before .before .before .before .before .unplaced .ensures), c .before .before .before .before .before .if1 .left)))
 
 visit-none-found-requires : (t : ℕ) → visit-lts.Need-none-found-requires (visit-claims t) (visit-at t) visit.Post visit-Inv-loop visit-μ-loop
 visit-none-found-requires t c κs = tt
@@ -218,47 +220,48 @@ visit-same-length t c = refl
 visit-returns-2 : (t : ℕ) → visit-lts.Need-returns-2 (visit-claims t) (visit-at t) visit.Post visit-Inv-loop visit-μ-loop
 visit-returns-2 t c =
     let past = c .before .before .before .before .before .before .before .before in
-    let p = past .before .before .before .pre .1 in
-    (rw (c .none-found .ensures) (none-outcome (c .before .before .cut-off .ensures (c .before .if2 .taken))), (p .settled-so, p .going .remembered))
+    let p = past .before .before .before .before .pre .1 in
+    (rw (c .none-found .ensures) (none-outcome (c .before .before .cut-off .ensures .0 (c .before .if2 .taken))), (p .settled-so, (p .going .remembered, c .before .before .cut-off .ensures .1)))
 
 visit-to-try-requires : (t : ℕ) → visit-lts.Need-to-try-requires (visit-claims t) (visit-at t) visit.Post visit-Inv-loop visit-μ-loop
 visit-to-try-requires t c κs =
     let past = c .before .before .before .before .before .before .before .before in
-    let p = past .before .before .before .pre .1 in
-    rw (c .before .before .before .before .before .before .before .before .unplaced .ensures) (trying (p .going .known) (c .before .before .before .before .before .before .starts-of .ensures))
+    let p = past .before .before .before .before .pre .1 in
+    rw (past .before .unplaced .ensures) (trying (p .going .known) (c .before .before .before .before .before .before .before .starts-of .ensures))
 
 visit-next-choice-requires : (t : ℕ) → visit-lts.Need-next-choice-requires (visit-claims t) (visit-at t) visit.Post visit-Inv-loop visit-μ-loop
 visit-next-choice-requires t c κs =
     let past = c .before .before .before .before .before .before .before .before in
-    omega (arith, past .before .before .before .count .ensures, past .before .before .before .before .before .pre .1 .going .known .fit .few)
+    omega (arith, past .before .before .before .before .count .ensures, past .before .before .before .before .before .before .pre .1 .going .known .fit .few)
 
 visit-loop-holds : (t : ℕ) → visit-lts.Need-loop-holds (visit-claims t) (visit-at t) visit.Post visit-Inv-loop visit-μ-loop
 visit-loop-holds t c =
     let past = c .before .before .before .before .before .before .before .before in
-    let p = past .before .before .before .before .before .before .pre .1 in
-    let choice = rw (past .before .before .before .before .count .ensures) at (c .next-choice .ensures) in
-    (sweep-first (p .going .known) (past .before .starts-of .ensures) choice, (p .settled-so, (p .going .remembered, refl)))
+    let p = past .before .before .before .before .before .before .before .pre .1 in
+    let choice = rw (past .before .before .before .before .before .count .ensures) at (c .next-choice .ensures) in
+    (sweep-first (p .going .known) (past .before .before .starts-of .ensures) choice, (p .settled-so, (p .going .remembered, (refl, refl))))
 
 visit-try-children-requires : (t : ℕ) → visit-lts.Need-try-children-requires (visit-claims t) (visit-at t) visit.Post visit-Inv-loop visit-μ-loop
 visit-try-children-requires t c κs =
     let past = c .before .before .before .before .before .before .before .before in
     let far = past .before .before .before .before .before .before .before .before in
-    let pre = far .before .before .before .pre in
+    let pre = far .before .before .before .before .before .pre in
     let p = pre .1 in
     let g = p .going in
-    let loop = c .before .before .before .before .loop in
+    let loop = c .before .before .before .before .before .loop in
     let sweep = loop .inv .0 in
-    let low = chosen-low (sweep .choice) (c .before .before .if3 .taken) in
+    let low = chosen-low (sweep .choice) (c .before .before .before .if3 .taken) in
     let chosen = sweep .choice .some low in (
       omega (arith, pre .0),
       (
         record {
           going = record { low = g .low; known = g .known; tabled = g .tabled; remembered = loop .inv .1 .1 .0 };
+          slated = loop .inv .1 .1 .1 .1 ∙ past .before .before .before .cut-off .ensures .1 ∙ p .slated;
           settled-so = loop .inv .1 .0;
         },
         record {
           inside = chosen .0;
-          starts = rw (chosen .1 .1) at (past .before .before .before .before .before .before .starts-of .ensures .each _ (chosen .0));
+          starts = rw (chosen .1 .1) at (far .starts-of .ensures .each _ (chosen .0));
           may-come = low;
           before = sweep .before;
         },
@@ -266,43 +269,48 @@ visit-try-children-requires t c κs =
     )
 
 visit-same-length-2 : (t : ℕ) → visit-lts.Need-same-length-2 (visit-claims t) (visit-at t) visit.Post visit-Inv-loop visit-μ-loop
-visit-same-length-2 t c = c .before .before .before .try-children .kept .0 ∙ c .before .before .before .before .before .before .before .before .loop .inv .1 .1 .1
+visit-same-length-2 t c =
+    let past = c .before .before .before .before .before .before .before .before in
+    c .before .before .before .try-children .kept .0 ∙ past .before .loop .inv .1 .1 .1 .0
 
 visit-returns-3 : (t : ℕ) → visit-lts.Need-returns-3 (visit-claims t) (visit-at t) visit.Post visit-Inv-loop visit-μ-loop
 visit-returns-3 t c =
     let past = c .before .before .before .before .before .before .before .before in
     let far = past .before .before .before .before .before .before .before .before in
+    let front = far .before .before .before .before .before .before .before .before in
     let try = c .before .before .before .try-children .ensures in
-    (found-below (wordOf (partIn (far .before .before .before .before .before .before .before .args .part .now))) (c .before .before .before .before .before .before .before .before .loop .c .job) (try .0) (c .if4 .taken), try .1)
+    (found-below (wordOf (partIn (front .before .args .part .now))) (past .before .loop .c .job) (try .0) (c .if4 .taken), (try .1 .0, (try .1 .1 .0, try .1 .1 .1 ∙ past .before .loop .inv .1 .1 .1 .1 ∙ past .before .before .before .before .before .before .before .cut-off .ensures .1)))
 
 visit-clear32-requires : (t : ℕ) → visit-lts.Need-clear32-requires (visit-claims t) (visit-at t) visit.Post visit-Inv-loop visit-μ-loop
 visit-clear32-requires t c κs =
     let past = c .before .before .before .before .before .before .before .before in
     let far = past .before .before .before .before .before .before .before .before in
-    let choice = c .before .before .before .before .before .before .before .before .loop .inv .0 .choice in
-    let chosen = choice .some (chosen-low choice (c .before .before .before .before .before .before .if3 .taken)) in
-    omega (arith, chosen .0, far .before .before .before .before .before .before .before .pre .1 .going .known .fit .few)
+    let front = far .before .before .before .before .before .before .before .before in
+    let choice = past .before .loop .inv .0 .choice in
+    let chosen = choice .some (chosen-low choice (c .before .before .before .before .before .before .before .if3 .taken)) in
+    omega (arith, chosen .0, front .before .pre .1 .going .known .fit .few)
 
 visit-set32-requires : (t : ℕ) → visit-lts.Need-set32-requires (visit-claims t) (visit-at t) visit.Post visit-Inv-loop visit-μ-loop
 visit-set32-requires t c κs =
     let past = c .before .before .before .before .before .before .before .before in
     let far = past .before .before .before .before .before .before .before .before in
-    let choice = past .before .loop .inv .0 .choice in
-    let chosen = choice .some (chosen-low choice (c .before .before .before .before .before .before .before .if3 .taken)) in
-    omega (arith, chosen .0, far .before .before .before .before .before .before .before .before .pre .1 .going .known .fit .few)
+    let front = far .before .before .before .before .before .before .before .before in
+    let choice = past .before .before .loop .inv .0 .choice in
+    let chosen = choice .some (chosen-low choice (past .if3 .taken)) in
+    omega (arith, chosen .0, front .before .before .pre .1 .going .known .fit .few)
 
 visit-next-choice-requires-2 : (t : ℕ) → visit-lts.Need-next-choice-requires-2 (visit-claims t) (visit-at t) visit.Post visit-Inv-loop visit-μ-loop
 visit-next-choice-requires-2 t c κs =
     let past = c .before .before .before .before .before .before .before .before in
     let far = past .before .before .before .before .before .before .before .before in
     let front = far .before .before .before .before .before .before .before .before in
-    omega (arith, far .before .before .before .before .before .before .before .before .count .ensures, front .before .before .pre .1 .going .known .fit .few)
+    omega (arith, front .before .before .count .ensures, front .before .before .before .before .pre .1 .going .known .fit .few)
 
 visit-loop-less : (t : ℕ) → visit-lts.Need-loop-less (visit-claims t) (visit-at t) visit.Post visit-Inv-loop visit-μ-loop
 visit-loop-less t c =
     let past = c .before .before .before .before .before .before .before .before in
-    let choice = past .before .before .before .before .loop .inv .0 .choice in
-    let fewer = chosen-in choice (chosen-low choice (past .before .before .if3 .taken)) in
+    let choice = past .before .before .before .before .before .loop .inv .0 .choice in
+    let fewer = chosen-in choice (chosen-low choice (past .before .before .before .if3 .taken)) in
     rw (c .before .before .before .clear32 .ensures) (omega (arith, fewer))
 
 visit-loop-again : (t : ℕ) → visit-lts.Need-loop-again (visit-claims t) (visit-at t) visit.Post visit-Inv-loop visit-μ-loop
@@ -311,48 +319,49 @@ visit-loop-again t c =
     let far = past .before .before .before .before .before .before .before .before in
     let front = far .before .before .before .before .before .before .before .before in
     let clear32 = c .before .before .before .clear32 in
-    let p = front .before .before .before .pre .1 in
-    let loop = past .before .before .before .before .loop in
+    let p = front .before .before .before .before .before .pre .1 in
+    let loop = past .before .before .before .before .before .loop in
     let sweep = loop .inv .0 in
-    let low = chosen-low (sweep .choice) (past .before .before .if3 .taken) in
+    let low = chosen-low (sweep .choice) (past .before .before .before .if3 .taken) in
     let try = c .before .before .before .before .before .before .before .try-children in
-    let next = rw (clear32 .ensures, front .before .count .ensures) at (c .next-choice2 .ensures) in (
+    let next = rw (clear32 .ensures, front .before .before .before .count .ensures) at (c .next-choice2 .ensures) in (
       rw (clear32 .ensures, c .before .before .set32 .ensures)
-          (sweep-next (p .going .known) (far .before .before .before .before .before .before .starts-of .ensures) sweep low (try .ensures .0 .miss (c .before .before .before .before .if4 .left)) next),
-      (try .ensures .1 .0, (try .ensures .1 .1, try .kept .0 ∙ loop .inv .1 .1 .1)),
+          (sweep-next (p .going .known) (front .starts-of .ensures) sweep low (try .ensures .0 .miss (c .before .before .before .before .if4 .left)) next),
+      (try .ensures .1 .0, (try .ensures .1 .1 .0, (try .kept .0 ∙ loop .inv .1 .1 .1 .0, try .ensures .1 .1 .1 ∙ loop .inv .1 .1 .1 .1))),
     )
 
 visit-remember-requires : (t : ℕ) → visit-lts.Need-remember-requires (visit-claims t) (visit-at t) visit.Post visit-Inv-loop visit-μ-loop
 visit-remember-requires t c κs =
     let past = c .before .before .before .before .before .before .before .before in
     let far = past .before .before .before .before .before .before .before .before in
-    omega (arith, past .before .before .before .before .before .before .before .before .count .ensures, far .before .before .pre .1 .going .known .fit .few)
+    omega (arith, far .before .count .ensures, far .before .before .before .pre .1 .going .known .fit .few)
 
 visit-none-found-requires-2 : (t : ℕ) → visit-lts.Need-none-found-requires-2 (visit-claims t) (visit-at t) visit.Post visit-Inv-loop visit-μ-loop
 visit-none-found-requires-2 t c κs = tt
 
 visit-same-length-3 : (t : ℕ) → visit-lts.Need-same-length-3 (visit-claims t) (visit-at t) visit.Post visit-Inv-loop visit-μ-loop
-visit-same-length-3 t c = c .before .before .before .remember .kept .0 ∙ c .before .before .before .before .before .before .before .loop .inv .1 .1 .1
+visit-same-length-3 t c =
+    c .before .before .before .remember .kept .0 ∙ c .before .before .before .before .before .before .before .loop .inv .1 .1 .1 .0
 
 visit-returns-4 : (t : ℕ) → visit-lts.Need-returns-4 (visit-claims t) (visit-at t) visit.Post visit-Inv-loop visit-μ-loop
 visit-returns-4 t c =
     let past = c .before .before .before .before .before .before .before .before in
     let far = past .before .before .before .before .before .before .before .before in
-    let starts-of = far .before .starts-of in
-    let unplaced = far .before .before .before .unplaced in
+    let starts-of = far .before .before .starts-of in
+    let unplaced = far .before .before .before .before .unplaced in
     let to-try-place = past .before .before .to-try in
-    let a = far .before .before .before .before .before .before .args in
-    let p = far .before .before .before .before .before .before .pre .1 in
+    let a = far .before .before .before .before .before .before .before .args in
+    let p = far .before .before .before .before .before .before .before .pre .1 in
     let g = p .going in
     let loop = c .before .before .before .before .before .before .before .loop in
     let swept = sweep-all (g .known) (starts-of .ensures) (loop .inv .0) (c .before .before .before .before .before .if3 .left) in
     let to-try = rw (unplaced .ensures) at (to-try-place .ensures) in
     let all = all-tried (g .known) (starts-of .ensures) (a .target) (to-try-place .result) (relatedIn (a .prepared .now)) (g .tabled .related) to-try swept in
-    let left : 0 < ones (partIn (a .part .now) .unplaced) = omega (arith, ap ones (unplaced .ensures), far .before .before .if1 .left) in
+    let left : 0 < ones (partIn (a .part .now) .unplaced) = omega (arith, ap ones (unplaced .ensures), far .before .before .before .if1 .left) in
     let cut = visit-all (g .known) (a .target) left all in
-    let added = rw (far .before .before .before .before .count .ensures) at (c .before .before .before .remember .ensures) in (
+    let added = rw (far .before .before .before .before .before .count .ensures) at (c .before .before .before .remember .ensures) in (
       rw (c .none-found2 .ensures) (none-outcome cut),
-      (loop .inv .1 .0, visit-remember (g .known) (a .target) (loop .inv .1 .1 .0) cut added),
+      (loop .inv .1 .0, (visit-remember (g .known) (a .target) (loop .inv .1 .1 .0) cut added, loop .inv .1 .1 .1 .1 ∙ past .before .before .before .before .before .cut-off .ensures .1)),
     )
 
 pub +try-children+visit-spec : {M : Type 1} → statement M

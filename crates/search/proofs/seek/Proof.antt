@@ -1,6 +1,10 @@
 -- `search::seek` meets its contract.
+use mathlib.Core.Path.{_∙_}
+use Prim.Native.Nat.{ℕ}
+use lib.ListN.{length-replicate}
 use Rattle.tables.specs.Tables.{sheetOf}
 use Rattle.tables.specs.Part.{partIn, wordOf}
+use Rattle.fitting.specs.Fitting.{slateSize}
 use Rattle.bounds.proofs.Cuts.{held-later}
 use Rattle.bounds.proofs.Late.{too-late-cut}
 use Rattle.search.proofs.Sweeps.{none-outcome}
@@ -23,19 +27,26 @@ returns c =
     (c .before .before .too-late .ensures (c .before .if1 .taken)) in
     (rw (c .none-found .ensures) (none-outcome cut), g .remembered)
 
+begin-requires : tie.Need-begin-requires
+begin-requires c κs = c .before .before .before .before .pre .known .fit
+
 visit-requires : tie.Need-visit-requires
 visit-requires c κs =
-    let start = c .before .before .before .before .before in
+    let start = c .before .before .before .before .before .before .before .before in
     let a = start .args in
-    record { going = start .pre; settled-so = none-settled (sheetOf (a .jobs .now)) (a .target) (wordOf (partIn (a .part .now))) }
+    record {
+      going = start .pre;
+      slated = c .before .before .before .begin .ensures ∙ length-replicate {A = ℕ} slateSize 0;
+      settled-so = none-settled (sheetOf (a .jobs .now)) (a .target) (wordOf (partIn (a .part .now)));
+    }
 
 same-length : tie.Need-same-length
 same-length c = c .before .before .visit .kept .0
 
 returns-2 : tie.Need-returns-2
-returns-2 c = let visit = c .before .before .visit .ensures in (visit .0, visit .1 .1)
+returns-2 c = let visit = c .before .before .visit .ensures in (visit .0, visit .1 .1 .0)
 
 pub seek-spec : {M : Type 1} → statement M
 seek-spec =
     tie.close
-    (tie.spec too-late-requires none-found-requires returns visit-requires same-length returns-2)
+    (tie.spec too-late-requires none-found-requires returns begin-requires visit-requires same-length returns-2)

@@ -1,6 +1,6 @@
 //! What the command line asks for.
 use crate::picture::TINTS;
-use depot_host::families::{self, Arrivals, Family};
+use depot_host::families::{self, Arrivals, Family, HARD};
 use depot_host::{lists, lists::List, units};
 use std::fs;
 use std::time::Duration;
@@ -48,11 +48,21 @@ const FRESH_SIZES: [usize; 3] = [14, 16, 20];
 const FRESH_SEED: u64 = 8_117;
 const CHANGEOVERS: [u16; 2] = [5, 10];
 
+/// Which families lists are made of.
+#[derive(Clone, Copy, PartialEq, Eq)]
+enum Kind {
+    All,
+    Hard,
+    Yard,
+}
+
 /// What is read before the lists are made.
 struct Asked {
     sizes: Option<Vec<usize>>,
     family: String,
+    kind: Kind,
     seed: Option<u64>,
+    seeds: u64,
     file: Option<String>,
     changeovers: Vec<u16>,
 }
@@ -72,7 +82,15 @@ impl Options {
             bare: false,
             svg: None,
         };
-        let mut asked = Asked { sizes: None, family: String::new(), seed: None, file: None, changeovers: CHANGEOVERS.to_vec() };
+        let mut asked = Asked {
+            sizes: None,
+            family: String::new(),
+            kind: Kind::All,
+            seed: None,
+            seeds: 1,
+            file: None,
+            changeovers: CHANGEOVERS.to_vec(),
+        };
         let mut words = words.iter();
         while let Some(word) = words.next() {
             let mut value = || words.next().ok_or(format!("{word} needs a value"));
@@ -90,6 +108,9 @@ impl Options {
                 "desk" => options.parts.push(Part::Desk),
                 "--sizes" => asked.sizes = Some(numbers(value()?, size)?),
                 "--family" => asked.family = value()?.clone(),
+                "--hard" => asked.kind = Kind::Hard,
+                "--yard" => asked.kind = Kind::Yard,
+                "--seeds" => asked.seeds = value()?.parse().map_err(|_| "--seeds takes a number")?,
                 "--seed" => asked.seed = Some(value()?.parse().map_err(|_| "--seed takes a number")?),
                 "--changeovers" => asked.changeovers = numbers(value()?, minutes)?,
                 "--lists" => asked.file = Some(value()?.clone()),
@@ -137,7 +158,8 @@ impl Asked {
         let families = self.families()?;
         let seed = self.seed.unwrap_or(SEED);
         let group = |n: usize| {
-            let lists = families.iter().map(|family| family.list(seed, n)).collect();
+            let lists =
+                (seed..seed + self.seeds).flat_map(|seed| families.iter().map(move |family| family.list(seed, n))).collect();
             Group { name: format!("n = {n}"), lists }
         };
         Ok(self.sizes.clone().unwrap_or(SIZES.to_vec()).into_iter().map(group).collect())
@@ -189,7 +211,8 @@ impl Asked {
     }
 
     fn families(&self) -> Result<Vec<Family>, String> {
-        let families: Vec<_> = families::all().into_iter().filter(|family| self.has_family(family.name())).collect();
+        let mut families = if self.kind == Kind::Yard { families::yard() } else { families::all() };
+        families.retain(|family| self.has_family(family.name()) && (self.kind != Kind::Hard || HARD.contains(&family.name())));
         if families.is_empty() {
             return Err(format!("no family's name has '{}'", self.family));
         }

@@ -18,8 +18,11 @@ parts; plans, stack, sheets and desk where none is named:
 
 options of plans, arrivals, changeovers, ends, sizes, ablation and gecode:
   --sizes N,N..    sizes of the lists (10,12; arrivals and changeovers 14,16,20)
+  --hard           only the 28 families whose lists are the hardest
+  --yard           lists of a yard's buses instead: nobody waits, some wait, more wait, quarter hours
   --family WORD    only families whose name has this word
   --seed NUMBER    seed of the lists (1; arrivals and changeovers 8117)
+  --seeds N        plans, ends, sizes, ablation: lists at so many seeds, from that one on (1)
   --changeovers C,C..
                    changeovers: the minutes that a module rests (5,10)
   --lists FILE     lists from a file instead: 'name n N changeover', then n lines 'modules minutes earlier-jobs-in-hexadecimal arrival',
