@@ -5,7 +5,9 @@ use mathlib.Core.Bool.{true, false}
 use mathlib.Core.List.{List, []}
 use Prim.Native.Nat.{ℕ, suc, _+_, _≤_, _<_}
 use native.Mathlib.Omega.{arith}
+use lib.Dec.{ltb}
 use lib.ListN.{replicate, length-replicate}
+use borrow.Author.Tests.{ltb-true, lt-ltb}
 use Rattle.counting.specs.Counting.{only}
 use Rattle.counting.proofs.Tests.{true-or-false, clash, less-or-not}
 use Rattle.bits.specs.Bits.{bit}
@@ -26,6 +28,7 @@ use Rattle.listing.specs.declared.Found.{Found}
 use Rattle.listing.specs.Listing.{OrderOf}
 use Rattle.preparing.specs.Preparing.{Tabled}
 use Rattle.search.specs.Search.{noLimit, Remembered, Outcome, SettledSo, Going, keptAs, Lowering, Lowered, Lowest, LowestIf}
+use Rattle.search.specs.Search.{TieRuled, NoneBefore, WithinLimit}
 use Rattle.search.proofs.Recalls.{remembered-less}
 
 -- ---- nothing is settled
@@ -132,6 +135,13 @@ turn-last t e = record { is = t .state .best-is; least = t .done e }
 pub goes-on : {left : ℕ} → left ≡ noLimit → ¬ (left ≡ 0)
 goes-on e z = omega (arith, e, z)
 
+-- where some part-plans are left, it did not either
+pub some-left : (left : ℕ) → ltb 0 left ≡ true → ¬ (left ≡ 0)
+some-left left e z = let some = ltb-true 0 left e in omega (arith, some, z)
+
+pub unlimited-left : (left : ℕ) → left ≡ noLimit → ltb 0 left ≡ true
+unlimited-left left e = lt-ltb 0 left (omega (arith, e))
+
 pub lowest-of : {S : Sheet} {r : Found} {left : ℕ} → LowestIf S r left → ¬ (left ≡ 0) → Lowest S r
 lowest-of h s = record { is = h .is; least = h .least s }
 
@@ -162,3 +172,21 @@ found-ends-by {t} {r} {target} fit m s = (there, λ some. back some (true-or-fal
     back : EndsBy (sheetOf t) target → (r .hit ≡ true) ⊎ (r .hit ≡ false) → r .hit ≡ true
     back some (inl e) = e
     back some (inr e) = absurd (none-ends-by (sheetOf t) (fit .lasting) (fit .narrow) target (none-by m e s) some)
+
+-- ---- within a limit
+
+-- an order that the search gave up to lower
+pub bounded-within : {S : Sheet} {best : Found} {bound : ℕ} → OrderOf S best → NoneBefore S bound
+    → WithinLimit S (record { order = best .order; end = best .end; bound = bound; exact = false })
+bounded-within h b = record { size = h .size; order = h .order; end = h .end; bound = b; exact = λ e. clash false e refl }
+
+-- an order that ends first, and the tie rule's where the search did not give up
+pub settled-within : {S : Sheet} {found : Found} {left : ℕ} → Lowest S found → (¬ (left ≡ 0) → TieRuled S found)
+    → WithinLimit S (record { order = found .order; end = found .end; bound = found .end; exact = ltb 0 left })
+settled-within {S} {found} {left} h tied = record {
+  size = h .is .size;
+  order = h .is .order;
+  end = h .is .end;
+  bound = h .least;
+  exact = λ e. tied (some-left left e) .best;
+}

@@ -19,6 +19,7 @@ use Rattle.listing.specs.declared.Found.{Found}
 use Rattle.listing.specs.Listing.{OrderOf}
 use Rattle.preparing.specs.Preparing.{Tabled}
 use Rattle.fitting.specs.Fitting.{slateSize}
+use Rattle.search.specs.declared.Within.{Within}
 use Rattle.memory.specs.Entries.{Entry, entries, entryAt, lastAt, endAt}
 
 -- ---- working memory
@@ -152,3 +153,17 @@ pub record Placing (S : Sheet) (w : List ℕ) (r : Found) : Type 0 where
 pub record TieRuled (S : Sheet) (r : Found) : Type 0 where
   pub best : tie.Best S (take (S .jobs) (r .order))
   pub end : r .end ≡ endOf S (take (S .jobs) (r .order))
+
+-- ---- within a limit
+
+-- no order ends before e
+abbrev pub NoneBefore : Sheet → ℕ → Type 0
+NoneBefore S e = (o : List ℕ) → Order S o → e ≤ endOf S o
+
+-- an order with its end and a minute before which none ends; where it is said to be exact, the tie rule's
+pub record WithinLimit (S : Sheet) (r : Within) : Type 0 where
+  pub size : length (r .order) ≡ mostJobs
+  pub order : Order S (take (S .jobs) (r .order))
+  pub end : endOf S (take (S .jobs) (r .order)) ≡ r .end
+  pub bound : NoneBefore S (r .bound)
+  pub exact : r .exact ≡ true → tie.Best S (take (S .jobs) (r .order))

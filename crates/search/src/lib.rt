@@ -18,7 +18,7 @@ ghost use Rattle.listing.specs.Listing.{OrderOf};
 ghost use Rattle.preparing.specs.Preparing.{Tabled};
 ghost use Rattle.fitting.specs.Fitting.{slateSize};
 ghost use Rattle.search.specs.Search.{Unlimited, Outcome, Fails, noneFound, SettledSo, Going, Searching, Choosing, Remembered};
-ghost use Rattle.search.specs.Search.{keptAs, Lowering, Lowered, Lowest, LowestIf, Placing, TieRuled};
+ghost use Rattle.search.specs.Search.{noLimit, keptAs, Lowering, Lowered, Lowest, LowestIf, Placing, TieRuled, NoneBefore, WithinLimit};
 use figures::MOST_JOBS;
 use figures::NO_MINUTE;
 use fitting::SLATE_PLACES;
@@ -511,4 +511,110 @@ pub fn run(memory: &mut [u8], jobs: &Jobs) -> Found
     let found = first_order(memory, &mut left, least, jobs, &prepared);
     memory::clear(memory);
     found
+}
+
+// ---- within a limit
+
+// An order with its end, a minute before which no order ends, and whether it is the tie rule's.
+pub struct Within {
+    pub order: [u8; MOST_JOBS],
+    pub end: u16,
+    pub bound: u16,
+    pub exact: bool,
+}
+
+// Whether so few part-plans show that no order ends by the target.
+fn refuted(memory: &mut [u8], few: u64, target: u16, jobs: &Jobs, prepared: &Prepared) -> bool
+    requires { ⌜ (Fit (now jobs)) × ((Tabled (now jobs) (now prepared)) × (target < noMinute)) ⌝ }
+    ensures { λ r. ⌜ (r ≡ true → NoneBefore (sheetOf (now (jobs .entry))) (suc target)) ⌝ }
+{
+    memory::clear(memory);
+    let mut left = few;
+    let found = decide(memory, &mut left, target, jobs, prepared);
+    if found.hit {
+        return false;
+    }
+    0 < left
+}
+
+// A minute up to this end before which no order ends: the last that halving finds, with so few part-plans for each question.
+fn bound_below(memory: &mut [u8], few: u64, end: u16, jobs: &Jobs, prepared: &Prepared) -> u16
+    requires { ⌜ (Fit (now jobs)) × ((Tabled (now jobs) (now prepared)) × (end < noMinute)) ⌝ }
+    ensures { λ r. ⌜ NoneBefore (sheetOf (now (jobs .entry))) r ⌝ }
+{
+    let mut low: u16 = 0;
+    let mut high = end;
+    while low < high {
+        let middle = low + (high - low) / 2;
+        if refuted(memory, few, middle, jobs, prepared) {
+            low = middle + 1;
+        } else {
+            high = middle;
+        }
+    }
+    low
+}
+
+// An order that the search gave up to lower, and a bound.
+fn bounded(memory: &mut [u8], few: u64, best: Found, jobs: &Jobs, prepared: &Prepared) -> Within
+    requires { ⌜ (Fit (now jobs)) × ((Tabled (now jobs) (now prepared)) × (OrderOf (sheetOf (now jobs)) best)) ⌝ }
+    ensures { λ r. ⌜ WithinLimit (sheetOf (now (jobs .entry))) r ⌝ }
+{
+    let bound = bound_below(memory, few, best.end, jobs, prepared);
+    let order = best.order;
+    Within {
+        order,
+        end: best.end,
+        bound,
+        exact: false,
+    }
+}
+
+// The tie rule's order from one that ends first, or that one where the search gave up.
+fn settled(
+    memory: &mut [u8],
+    left: &mut u64,
+    least: Found,
+    jobs: &Jobs,
+    prepared: &Prepared,
+) -> Within
+    requires { ⌜ (Lowest (sheetOf (now jobs)) least) × ((Fit (now jobs)) × (Tabled (now jobs) (now prepared))) ⌝ }
+    ensures answer { λ r. ⌜ WithinLimit (sheetOf (now (jobs .entry))) r ⌝ }
+    ensures unlimited { λ r. ⌜ (now (left .entry) ≡ noLimit → r .exact ≡ true) ⌝ }
+{
+    memory::clear(memory);
+    let found = first_order(memory, left, least, jobs, prepared);
+    let order = found.order;
+    Within {
+        order,
+        end: found.end,
+        bound: found.end,
+        exact: 0 < *left,
+    }
+}
+
+// The share of the limit that each question for the bound has, and the least of it.
+const BOUND_SHARE: u64 = 16;
+
+const LEAST_BOUND: u64 = 1000;
+
+// The tie rule's order, or after so many part-plans an order and a minute before which none ends. Without a limit, the tie rule's order.
+pub fn run_within(memory: &mut [u8], limit: u64, jobs: &Jobs) -> Within
+    requires { ⌜ (Fit (now jobs)) × (¬ Circular (sheetOf (now jobs))) ⌝ }
+    ensures answer { λ r. ⌜ WithinLimit (sheetOf (now (jobs .entry))) r ⌝ }
+    ensures unlimited { λ r. ⌜ (limit ≡ noLimit → r .exact ≡ true) ⌝ }
+    ensures cleared { λ _. ⌜ now (memory .exit) ≡ replicate (length (now (memory .entry))) 0 ⌝ }
+{
+    let mut prepared = [0u32; PREPARED_PLACES];
+    let mut left = limit;
+    let least = least_order(memory, &mut left, &mut prepared, jobs);
+    if left == 0 {
+        let few = limit / BOUND_SHARE + LEAST_BOUND;
+        let given_up = bounded(memory, few, least, jobs, &prepared);
+        memory::clear(memory);
+        return given_up;
+    }
+    let answer = settled(memory, &mut left, least, jobs, &prepared);
+    memory::clear(memory);
+    answer
 }
