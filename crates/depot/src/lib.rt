@@ -20,7 +20,7 @@ ghost use mathlib.Core.Path.{_≡_};
 ghost use lib.ListN.{length};
 ghost use Rattle.planner.specs.Planning.{planRefusal, cardAfter, memoryAfter};
 ghost use Rattle.planable.specs.Planable.{sheetIn, planableRefusal, workAfter};
-ghost use Rattle.limited.specs.Limited.{refusedWith, Written};
+ghost use Rattle.limited.specs.Limited.{refusedWith, LimitedCard};
 ghost use Rattle.earliest.specs.Earliest.{endAnswer};
 ghost use Rattle.job_sets.specs.Results.{setsAnswer};
 ghost use Rattle.sizing.specs.Sizing.{sizeAnswer, sizeCardAfter, sizeWorkAfter};
@@ -74,7 +74,7 @@ pub extern "C" fn depot_plan_within(
     ensures refused { λ r. ⌜ (¬ (planRefusal (now (sheet .entry)) (length (now (card .entry))) ≡ 0)
         → (r ≡ refusedWith (planRefusal (now (sheet .entry)) (length (now (card .entry))))) × (now (card .exit) ≡ now (card .entry))) ⌝ }
     ensures answered { λ r. ⌜ (planRefusal (now (sheet .entry)) (length (now (card .entry))) ≡ 0
-        → Written (sheetIn (now (sheet .entry))) (now (card .entry)) (now (card .exit)) limit r) ⌝ }
+        → LimitedCard (sheetIn (now (sheet .entry))) (now (card .entry)) (now (card .exit)) limit r) ⌝ }
     ensures work { λ _. ⌜ now (work .exit) ≡ memoryAfter (now (sheet .entry)) (length (now (card .entry))) (now (work .entry)) ⌝ }
 {
     limited::plan_limited(sheet, card, work, limit)

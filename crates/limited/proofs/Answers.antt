@@ -20,13 +20,13 @@ use Rattle.planner.proofs.Calls.{Given, ready, none}
 use Rattle.search.specs.declared.Within.{Within}
 use Rattle.search.specs.Search.{noLimit, WithinLimit}
 use Rattle.limited.specs.declared.Limited.{Limited}
-use Rattle.limited.specs.Limited.{refusedWith, markOf, WrittenFor, Written}
+use Rattle.limited.specs.Limited.{refusedWith, markOf, WrittenFor, LimitedCard}
 
 -- what a call gives and leaves
 abbrev pub Gives : List ℕ → List ℕ → List ℕ → List ℕ → List ℕ → ℕ → Limited → Type 0
 Gives s card work card′ work′ limit r =
     (¬ (planRefusal s (length card) ≡ 0) → (r ≡ refusedWith (planRefusal s (length card))) × (card′ ≡ card))
-    × ((planRefusal s (length card) ≡ 0 → Written (sheetIn s) card card′ limit r) × (work′ ≡ memoryAfter s (length card) work))
+    × ((planRefusal s (length card) ≡ 0 → LimitedCard (sheetIn s) card card′ limit r) × (work′ ≡ memoryAfter s (length card) work))
 
 -- ---- refused
 
@@ -51,7 +51,7 @@ mark-low false = omega arith
 -- the card of what the search gives within the limit
 pub within-written : {T : Sheet} {card after : List ℕ} {limit : ℕ} (r : Within) → WithinLimit T r → (limit ≡ noLimit → r .exact ≡ true)
     → after ≡ cardOf T (take (T .jobs) (r .order)) ++ drop (cardSize (T .jobs)) card
-    → Written T card after limit (record { refusal = 0; end = r .end; bound = r .bound; exact = markOf (r .exact) })
+    → LimitedCard T card after limit (record { refusal = 0; end = r .end; bound = r .bound; exact = markOf (r .exact) })
 within-written {T} r h unlimited written = (
   take (T .jobs) (r .order),
   record {
@@ -67,8 +67,8 @@ within-written {T} r h unlimited written = (
 )
 
 -- of two sheets that say the same of every job
-written-same : {S T : Sheet} → SameJobs S T → {card after : List ℕ} {limit : ℕ} {r : Limited} → Written S card after limit r
-    → Written T card after limit r
+written-same : {S T : Sheet} → SameJobs S T → {card after : List ℕ} {limit : ℕ} {r : Limited} → LimitedCard S card after limit r
+    → LimitedCard T card after limit r
 written-same {S} {T} h {card} (o, w) = (
   o,
   record {
@@ -89,7 +89,7 @@ written-same {S} {T} h {card} (o, w) = (
 module _ (s card work : List ℕ) (r : Checked) (f : CheckedOf s r) (z : r .refusal ≡ 0)
     (l : ltb (length card) (cardSize (countOf (r .jobs))) ≡ false) where
   pub answered-gives : {card′ : List ℕ} (work′ : List ℕ) {limit : ℕ} {answer : Limited}
-      → Written (sheetOf (r .jobs)) card card′ limit answer → work′ ≡ replicate (length work) 0
+      → LimitedCard (sheetOf (r .jobs)) card card′ limit answer → work′ ≡ replicate (length work) 0
       → Gives s card work card′ work′ limit answer
   unfolding workAfter
   answered-gives work′ w cleared =

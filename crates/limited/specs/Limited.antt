@@ -33,5 +33,5 @@ pub record WrittenFor (T : Sheet) (card after : List ℕ) (limit : ℕ) (o : Lis
   pub unlimited : limit ≡ noLimit → r .exact ≡ 1
 
 -- for some order
-abbrev pub Written : Sheet → List ℕ → List ℕ → ℕ → Limited → Type 0
-Written T card after limit r = (o : List ℕ) × WrittenFor T card after limit o r
+abbrev pub LimitedCard : Sheet → List ℕ → List ℕ → ℕ → Limited → Type 0
+LimitedCard T card after limit r = (o : List ℕ) × WrittenFor T card after limit o r

@@ -8,7 +8,7 @@ ghost use Rattle.tables.specs.Tables.{sheetOf, countOf, Fit};
 ghost use Rattle.card.specs.Card.{cardSize};
 ghost use Rattle.planable.specs.Planable.{sheetIn};
 ghost use Rattle.planner.specs.Planning.{planRefusal, memoryAfter};
-ghost use Rattle.limited.specs.Limited.{refusedWith, markOf, Written};
+ghost use Rattle.limited.specs.Limited.{refusedWith, markOf, LimitedCard};
 use tables::Jobs;
 
 // What is answered: refusal 0 with the end of the plan on the card, a minute before which no valid plan ends, and 1 where the card is
@@ -48,7 +48,7 @@ fn mark(exact: bool) -> u32
 fn write_within(card: &mut [u8], work: &mut [u8], limit: u64, jobs: &Jobs) -> Limited
     requires { ⌜ (Fit (now jobs))
         × ((¬ Circular (sheetOf (now jobs))) × (cardSize (countOf (now jobs)) ≤ length (now card))) ⌝ }
-    ensures answer { λ r. ⌜ Written (sheetOf (now (jobs .entry))) (now (card .entry)) (now (card .exit)) limit r ⌝ }
+    ensures answer { λ r. ⌜ LimitedCard (sheetOf (now (jobs .entry))) (now (card .entry)) (now (card .exit)) limit r ⌝ }
     ensures work { λ _. ⌜ now (work .exit) ≡ replicate (length (now (work .entry))) 0 ⌝ }
 {
     let best = search::run_within(work, limit, jobs);
@@ -69,7 +69,7 @@ pub fn plan_limited(sheet: &[u8], card: &mut [u8], work: &mut [u8], limit: u64) 
     ensures refused { λ r. ⌜ (¬ (planRefusal (now (sheet .entry)) (length (now (card .entry))) ≡ 0)
         → (r ≡ refusedWith (planRefusal (now (sheet .entry)) (length (now (card .entry))))) × (now (card .exit) ≡ now (card .entry))) ⌝ }
     ensures answered { λ r. ⌜ (planRefusal (now (sheet .entry)) (length (now (card .entry))) ≡ 0
-        → Written (sheetIn (now (sheet .entry))) (now (card .entry)) (now (card .exit)) limit r) ⌝ }
+        → LimitedCard (sheetIn (now (sheet .entry))) (now (card .entry)) (now (card .exit)) limit r) ⌝ }
     ensures work { λ _. ⌜ now (work .exit) ≡ memoryAfter (now (sheet .entry)) (length (now (card .entry))) (now (work .entry)) ⌝ }
 {
     let checked = planable::front(sheet);
