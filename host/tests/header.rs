@@ -169,7 +169,7 @@ fn constant(text: &str, name: &str) -> usize {
 #[test]
 fn calls_agree() {
     let declared = c_calls();
-    assert_eq!(declared.len(), 18);
+    assert_eq!(declared.len(), 19);
     assert_eq!(calls(&source("crates/depot/src/lib.rt")), declared);
     assert_eq!(calls(&source("host/src/ffi.rs")), declared);
 }

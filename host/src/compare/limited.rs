@@ -24,10 +24,9 @@ pub struct Limits {
     pub compared: usize,
     /// How often each number was answered.
     pub answers: [usize; 20],
-    /// Of the answered calls, how many were not marked, had another plan than planning's, and had a bound before the end.
+    /// Of the answered calls, how many were not marked, and how many had another plan than planning's.
     pub unmarked: usize,
     pub other_plans: usize,
-    pub gaps: usize,
 }
 
 /// Every list plan's card, and planning's with its end.
@@ -71,7 +70,6 @@ impl Limits {
             answers: [0; 20],
             unmarked: 0,
             other_plans: 0,
-            gaps: 0,
         }
     }
 
@@ -126,7 +124,6 @@ impl Limits {
         self.answers[0] += 1;
         self.unmarked += usize::from(!answer.exact);
         self.other_plans += usize::from(!planning_s);
-        self.gaps += usize::from(answer.bound < answer.end);
     }
 
     /// Sheets that read, of up to 7 jobs, some of which have modules that rest.
