@@ -193,6 +193,8 @@ Commands:
 
 LIMIT, SHARE, CEILING and KW are kilowatts in whole hundreds of watts: 30, 12.5; or so many modules of a size: 3x30 is three of 30 kW.
 A controller is named by its number, from 0, or by its name. Lines that begin with # are remarks.
+At a keyboard the arrows, Home, End, Backspace and Delete edit a line, and up and down bring earlier ones back; Ctrl-C gives a line up, Ctrl-D
+on an empty one ends the desk.
 
   --svg OUT        a picture of the calls: what each controller holds behind each, what stays reserved, and the limit
   --json           an object for each command, for programs; figures in kW too
