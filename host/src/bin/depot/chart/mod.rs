@@ -60,7 +60,7 @@ fn title(plan: &Planned) -> String {
     if let Some(late) = lines.get_mut(1).filter(|late| words::width(late, SIZE) > 1.1 * room) {
         *late = plan_text::late_in_words(plan, 0);
     }
-    let mut svg = words::within("title", 19.0 * words::BOLD, frame::MARGIN, 34.0, &plan.title(), room);
+    let mut svg = words::within("title", 19.0, frame::MARGIN, 34.0, &plan.title(), room);
     for (place, line) in lines.iter().enumerate() {
         svg += &words::within("lead", SIZE, frame::MARGIN, 54.0 + 17.0 * place as f64, line, room);
     }

@@ -21,13 +21,17 @@ const SCRIPT: &str = include_str!("wall.js");
 const KEPT: i64 = 5;
 /// So many of the buses that are next are named.
 const SHOWN: usize = 3;
-/// So many late buses are named.
+/// So many late buses are named where they have room, and the room of a sentence, in its letters' size.
 const LATE: usize = 4;
-/// The room of a bus's label, and what the mark of a late one takes of it, in the size of the letters.
-const LABEL: f64 = 7.4;
+const SENTENCE: f64 = 41.0;
+/// The room of a bus's label beside a time and beside one with its day, and what the mark of a late bus takes of it, in the letters' size.
+const LABEL: f64 = 7.1;
+const LABEL_AND_DAY: f64 = 5.7;
 const MARK: f64 = 2.1;
+/// How many signs a time of day has.
+const HOUR: usize = 5;
 /// The height that buses on charge have, in lines of the usual size.
-const LINES: f64 = 8.0;
+const LINES: f64 = 7.0;
 
 /// The minute for which the page is asked.
 pub fn now(arguments: &Arguments, yard: &Yard) -> Result<Option<u32>, Trouble> {
@@ -112,10 +116,16 @@ impl Stand<'_> {
              </header>\n<p class=\"{class}\">{}</p>\n{}{}",
             escaped(name),
             escaped(&about.join(", ")),
-            escaped(&late_in_words(plan, LATE)),
+            escaped(&self.late()),
             note("before", self.minute < 0, "p", &format!("The plan starts at {}.", self.hour(0))),
             note("over", self.is_over(), "p", &format!("The plan is over: the last bus was full at {}.", self.hour(plan.end)))
         )
+    }
+
+    /// Who is late, in one line.
+    fn late(&self) -> String {
+        let named = (1..=LATE).rev().map(|named| late_in_words(self.plan, named)).find(|words| width(words, BOLD) <= SENTENCE);
+        named.unwrap_or_else(|| late_in_words(self.plan, 0))
     }
 
     fn is_over(&self) -> bool {
@@ -157,12 +167,15 @@ impl Stand<'_> {
         let hidden = if is_shown { "" } else { " hidden" };
         let class = if job.is_late() { " class=\"late\"" } else { "" };
         let modules = ranges(&job.row.module_numbers());
-        format!("<li {data}{class}{hidden}>{}<i>{modules}</i><span>{}</span></li>\n", label(job), self.hour(minute))
+        let time = self.hour(minute);
+        let room = if time.len() > HOUR { LABEL_AND_DAY } else { LABEL };
+        format!("<li {data}{class}{hidden}>{}<i>{modules}</i><span>{time}</span></li>\n", label(job, room))
     }
 
     /// What is to be done by the clock, from here on.
     fn to_do(&self) -> String {
-        let mut html = String::from("<h2><span>to do, on modules</span></h2>\n<ol class=\"turns\">\n");
+        let class = if self.hour(self.plan.end).len() > HOUR { "turns days" } else { "turns" };
+        let mut html = format!("<h2><span>to do, on modules</span></h2>\n<ol class=\"{class}\">\n");
         let mut is_first = true;
         for turn in turns(self.plan) {
             let left = i64::from(turn.minute) - self.minute;
@@ -211,8 +224,8 @@ fn note(id: &str, is_shown: bool, tag: &str, text: &str) -> String {
 }
 
 /// A bus's label, in smaller letters where it would not have room, and the mark of a late one.
-fn label(job: &PlannedJob) -> String {
-    let room = if job.is_late() { LABEL - MARK } else { LABEL };
+fn label(job: &PlannedJob, room: f64) -> String {
+    let room = if job.is_late() { room - MARK } else { room };
     let wide = width(&job.label, BOLD);
     let smaller = if wide > room { format!(" style=\"font-size:{:.2}em\"", room / wide) } else { String::new() };
     format!("<span><b{smaller}>{}</b>{}</span>", escaped(&job.label), mark(job))
