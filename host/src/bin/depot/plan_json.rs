@@ -18,6 +18,7 @@ pub fn text(plan: &Planned) -> String {
     if !plan.has_start {
         members.remove(1);
     }
+    members.splice(0..0, plan.heading.members());
     members.extend(plan.on_time.and_then(first_on_time));
     json::object(&members) + "\n"
 }

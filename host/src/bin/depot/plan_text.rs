@@ -112,13 +112,19 @@ pub fn columns(plan: &Planned) -> Vec<Column> {
 
 /// What is said below the table.
 pub fn notes(plan: &Planned) -> Vec<String> {
-    let days = plan.days_in_words().map(String::from).into_iter().collect();
+    let days = plan.days_in_words().into_iter().collect();
     [lateness::notes(plan), road::notes(plan), days].concat()
+}
+
+/// A line with the depot and the dates, where they are given.
+pub fn over(plan: &Planned, style: Style) -> String {
+    plan.over().map_or(String::new(), |words| format!("{}\n", style.bold(&words)))
 }
 
 /// The plan as a table for people.
 pub fn table(plan: &Planned, style: Style) -> String {
-    let mut text = format!("{}: {}\n", style.bold(&plan.name), summary(plan).join("\n"));
+    let mut text = over(plan, style);
+    writeln!(text, "{}: {}", style.bold(&plan.name), summary(plan).join("\n")).unwrap();
     if plan.jobs.is_empty() {
         return text;
     }

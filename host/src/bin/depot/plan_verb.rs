@@ -2,17 +2,18 @@
 use crate::arguments::{Arguments, Takes};
 use crate::clock::{Clock, START_ALLOWED};
 use crate::files::Files;
+use crate::heading::Heading;
 use crate::outcome::{say, Outcome, Trouble};
 use crate::planned::{Planned, Yard};
 use crate::search::{By, Failed, Found};
 use crate::style::Style;
-use crate::{chart, json, lateness, page, plan_csv, plan_json, plan_text, pointer, search, work_list};
+use crate::{chart, json, lateness, page, plan_csv, plan_json, plan_text, pointer, search, wall, work_list};
 use depot_host::{units, Refusal};
 
 const TAKES: Takes = Takes {
     verb: "plan",
     flags: &["--raw", "--json", "--work", "--by-line", "--on-time"],
-    values: &["--start", "--svg", "--html", "--csv", "--card", "--sheet", "--memory"],
+    values: &["--start", "--depot", "--date", "--svg", "--html", "--wall", "--now", "--csv", "--card", "--sheet", "--memory"],
     plain: &["a list or a sheet"],
     needed: 1,
     more: false,
@@ -37,19 +38,24 @@ pub enum Form {
 pub fn run(words: &[String]) -> Result<Outcome, Trouble> {
     let arguments = Arguments::read(&TAKES, words)?;
     let asked = Asked::by(&arguments)?;
-    let files = Files::of(&arguments, &["--sheet", "--card", "--svg", "--html", "--csv"])?;
+    let files = Files::of(&arguments, &["--sheet", "--card", "--svg", "--html", "--wall", "--csv"])?;
+    if arguments.value("--now").is_some() && arguments.value("--wall").is_none() {
+        return Err(Trouble::usage("--now goes with --wall", arguments.verb()));
+    }
     let yard = Yard::open(arguments.plain(0).expect("a file is needed"), asked.start)?;
+    let now = wall::now(&arguments, &yard)?;
     let with_slack = asked.form != Form::Raw || ["--html", "--csv"].iter().any(|file| arguments.value(file).is_some());
     let found = match asked.plan(&yard, with_slack) {
         Ok(found) => found,
         Err(failed) => return not_planned(&yard, failed, asked.form),
     };
     let (sheet, bytes) = (found.sheet.clone(), found.bytes.clone());
-    let plan = Planned::new(&yard, found);
+    let plan = Planned::new(&yard, found, &asked.heading);
     files.write("--sheet", || sheet)?;
     files.write("--card", || bytes)?;
     files.write("--svg", || chart::file(&plan).into_bytes())?;
     files.write("--html", || page::text(&plan).into_bytes())?;
+    files.write("--wall", || wall::text(&plan, now).into_bytes())?;
     files.write("--csv", || plan_csv::text(&plan).into_bytes())?;
     files.then_say(|| match asked.form {
         Form::Table if arguments.has("--work") => work_list::text(&plan, Style::of_output()),
@@ -64,6 +70,7 @@ pub struct Asked {
     pub form: Form,
     pub start: Option<Clock>,
     pub memory: usize,
+    pub heading: Heading,
     by: Option<By>,
 }
 
@@ -82,7 +89,7 @@ impl Asked {
             (false, true) => Some(By::OnTime),
             (false, false) => None,
         };
-        Ok(Asked { form, start, memory, by })
+        Ok(Asked { form, start, memory, heading: Heading::by(arguments)?, by })
     }
 
     /// The plan of a yard: where nothing else is asked for that of a list by its departures, and a sheet as it is.

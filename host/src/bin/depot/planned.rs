@@ -1,5 +1,6 @@
 //! What is planned: a job sheet from a file, and the plan on the card that the library left.
 use crate::clock::{how_long, Clock};
+use crate::heading::Heading;
 use crate::list;
 use crate::outcome::{bytes_of, Trouble};
 use crate::search::Found;
@@ -70,6 +71,7 @@ impl PlannedJob {
 /// A plan: what the sheet says of each job, and what the card says of it.
 pub struct Planned {
     pub name: String,
+    pub heading: Heading,
     pub modules: u16,
     /// The minutes that a module rests between two jobs.
     pub changeover: u16,
@@ -89,7 +91,7 @@ pub struct Planned {
 }
 
 impl Planned {
-    pub fn new(yard: &Yard, found: Found) -> Planned {
+    pub fn new(yard: &Yard, found: Found, heading: &Heading) -> Planned {
         let Found { reading, card, slacks, order: numbering, on_time, on_time_asked, .. } = found;
         let always_late = Deadlines::of(&yard.sheet, &reading).always_late();
         let labels = labels(&yard.sheet, &reading);
@@ -98,6 +100,7 @@ impl Planned {
         let job = |(((label, job), row), always_late)| PlannedJob { label, job, row, slack: slacks.next(), always_late };
         Planned {
             name: yard.name.rsplit('/').next().unwrap_or(&yard.name).into(),
+            heading: heading.clone(),
             modules: reading.modules,
             changeover: reading.changeover,
             jobs: parts.map(job).collect(),
@@ -142,9 +145,24 @@ impl Planned {
     }
 
     /// What `+1` behind a time means, where some time of the plan has it.
-    pub fn days_in_words(&self) -> Option<&'static str> {
-        let last = self.jobs.iter().map(|job| self.free_from(job).max(job.job.departure)).max()?;
-        (self.has_start && self.clock.time(last.into()).contains('+')).then_some(DAYS)
+    pub fn days_in_words(&self) -> Option<String> {
+        self.days_up_to(self.jobs.iter().map(|job| self.free_from(job).max(job.job.departure)).max()?)
+    }
+
+    /// What `+1` behind a time means, where some time up to this minute has it.
+    pub fn days_up_to(&self, minute: u16) -> Option<String> {
+        let days = self.clock.days(minute.into());
+        (days > 0).then(|| self.heading.marks(days))
+    }
+
+    /// The depot and the dates of the plan, where they are given.
+    pub fn over(&self) -> Option<String> {
+        self.heading.words(self.clock.days(self.end.into()))
+    }
+
+    /// What stands over a picture or a page: depot, dates and the list's name.
+    pub fn title(&self) -> String {
+        self.over().into_iter().chain([self.name.clone()]).collect::<Vec<_>>().join(", ")
     }
 
     /// How many of what, in words.
@@ -182,9 +200,6 @@ impl Planned {
         format!("minute {minute}")
     }
 }
-
-/// What `+1` behind a time means.
-pub const DAYS: &str = "+1 is the day after the start's.";
 
 /// The jobs of a set.
 pub fn members(set: u32) -> Vec<usize> {

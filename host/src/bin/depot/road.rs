@@ -92,6 +92,7 @@ mod tests {
         };
         Planned {
             name: String::new(),
+            heading: crate::heading::Heading::default(),
             modules: 2,
             changeover: 0,
             jobs: jobs.iter().enumerate().map(job).collect(),

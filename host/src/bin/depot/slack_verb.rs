@@ -1,9 +1,10 @@
 //! `depot slack`: which bus may wait and which holds up a departure, and the waits of a list that others imply.
 use crate::clock::Clock;
+use crate::heading::DAYS;
 use crate::outcome::{say, Outcome, Trouble};
 use crate::plan_text::{lines, Column};
 use crate::plan_verb::{not_planned, Asked, Form};
-use crate::planned::{counted, labels, slack_in_words, Yard, DAYS, OF_SLACK};
+use crate::planned::{counted, labels, slack_in_words, Yard, OF_SLACK};
 use crate::search::Found;
 use crate::style::Style;
 use crate::{json, list};
