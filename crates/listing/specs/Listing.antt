@@ -1,4 +1,4 @@
--- Orders with their ends: that of a list plan, and those that exchanges of two jobs lead to.
+-- Orders with their ends: that of a list plan, and those that random moves lead to.
 use mathlib.Core.Path.{_≡_}
 use mathlib.Core.Bool.{false, not}
 use mathlib.Core.List.{List}
@@ -35,7 +35,7 @@ pub record OrderOf (S : Sheet) (r : Found) : Type 0 where
   pub end : endOf S (take (S .jobs) (r .order)) ≡ r .end
   pub low : r .end < noMinute
 
--- ---- a given order tried
+-- ---- given starts tried
 
 -- no list plan
 abbrev pub noneListed : Found
@@ -56,7 +56,11 @@ pub record OneMore (t : List ℕ) (p r : Part) : Type 0 where
 abbrev pub Tried : Sheet → Found → Type 0
 Tried S r = ¬ (r .end ≡ noMinute) → OrderOf S r
 
--- ---- exchanges
+-- ---- annealing
+
+-- the most steps that the free modules of a plan by gaps have, and one
+abbrev pub mostSteps : ℕ
+mostSteps = 42
 
 -- the order with what stands at two places exchanged
 abbrev pub exchangedAt : List ℕ → ℕ → ℕ → List ℕ

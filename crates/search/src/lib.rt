@@ -448,7 +448,7 @@ fn least_order(memory: &mut [u8], left: &mut u64, prepared: &mut Prepared, jobs:
     if few > 0 {
         return soon;
     }
-    let better = listing::improved(jobs, soon, MORE_ROUNDS);
+    let better = listing::improved(jobs, soon, MORE_ROUNDS, 2);
     lowest(memory, left, better, jobs, prepared)
 }
 
