@@ -15,6 +15,7 @@ import html
 import html.parser
 import json
 import math
+import os
 import pathlib
 import re
 import shutil
@@ -338,6 +339,10 @@ def of_wall(text):
     asked = ['html{font-size:min(2.9vw,5.2vh)}', '[hidden]{display:none!important}', '@media (orientation:portrait){',
              '@media screen and (prefers-color-scheme:dark){', 'grid-template-columns:15rem minmax(0,1fr)']
     faults = page.faults + [f'no rule {rule}' for rule in asked if rule not in css]
+    softs = re.findall(r'h2,header p,i,small\{color:(#\w{6})\}', css)
+    for soft, edge, ground in zip(softs, *zip(*re.findall(r'\.soon\{border-left-color:(#\w{6});background:(#\w{6})\}', css))):
+        if contrast(soft, ground) < 4.5 or contrast(edge, ground) < 3:
+            faults.append('what is next is not told apart')
     buses = [li for li in page.every('li') if 'data-from' in li]
     next_up = [li for li in page.every('li') if 'data-start' in li]
     size = max((float(re.search(r'font-size:([\d.]+)rem', ul['style']).group(1)) for ul in page.every('ul') if 'style' in ul), default=1)
@@ -389,7 +394,7 @@ def by_script(page, when):
     known = ('tag', 'id', 'class', 'hidden', 'text', 'data-from', 'data-to', 'data-start', 'data-at')
     elements = [{name: e[name] for name in known if name in e} for e in page.all if e['tag'] in ('li', 'p', 'small', 'time')]
     run = subprocess.run(['node', '-e', NODE, '--', json.dumps(elements), page.every('script')[0]['text'], when],
-                         capture_output=True, text=True, timeout=60, env={'TZ': 'UTC', 'PATH': '/usr/bin:/bin:/usr/local/bin'})
+                         capture_output=True, text=True, timeout=60, env={**os.environ, 'TZ': 'UTC'})
     return json.loads(run.stdout) if run.returncode == 0 else run.stderr.strip()[-300:]
 
 

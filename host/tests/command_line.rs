@@ -449,6 +449,14 @@ fn walls() {
     let sheet = depot(&["sheet", mixed, "-o", "-"], b"").output;
     let bare = depot(&["plan", "-", "--wall", "-", "--now", "46"], &sheet).text();
     assert!(!bare.contains("<script") && bare.contains("<time id=\"clock\">0:46</time>"), "{bare}");
+    for (minute, clock) in [("1400", "23:20"), ("4294967295", "71582788:15")] {
+        let over = depot(&["plan", "-", "--wall", "-", "--now", minute], &sheet).text();
+        assert!(
+            over.contains(&format!("<time id=\"clock\">{clock}</time>")) && over.contains("id=\"over\" class=\"said\">"),
+            "{over}"
+        );
+    }
+    assert!(page(mixed, &["--now", "20:15+99"]).contains("<time id=\"clock\">20:15</time>"));
     let none = depot(&["plan", "-", "--wall", "-"], &[0, 0, 0, 0, 0, 0, 1, 0, 0, 0]);
     assert_eq!((none.status, none.text().matches(">nobody</li>").count()), (0, 2));
     for outside in ["http:", "https:", "src=", "href=", "@import", "NaN", "inf"] {

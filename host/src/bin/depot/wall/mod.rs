@@ -54,7 +54,7 @@ struct Stand<'a> {
 
 pub fn text(plan: &Planned, now: Option<u32>) -> String {
     let end = i64::from(plan.end);
-    let minute = now.map_or(0, |minute| in_the_night(minute.into(), end));
+    let minute = now.map_or(0, |minute| if plan.has_start { in_the_night(minute.into(), end) } else { minute.into() });
     // without a date a time of day names one minute only of a plan that takes less than a day
     let is_live = now.is_none() && plan.has_start && (plan.heading.date().is_some() || end < i64::from(DAY));
     let stand = Stand { plan, minute, is_now: now.is_some(), is_live };
@@ -86,7 +86,7 @@ fn in_the_night(minute: i64, end: i64) -> i64 {
 fn colours(palette: &Palette) -> String {
     let Palette { paper, ink, soft, bars, late, .. } = palette;
     format!(
-        "body{{background:{paper};color:{ink}}}h2,header p,i,small{{color:{soft}}}.said.late,.late{{background:{};color:{ink}}}em{{color:{}}}\
+        "body{{background:{paper};color:{ink}}}h2,header p,i,small{{color:{soft}}}header .clock{{color:{ink}}}.said.late,.late{{background:{};color:{ink}}}em{{color:{}}}\
          .turns .soon{{border-left-color:{2};background:{3}}}.turns .due{{border-left-color:{ink};background:{3}}}\
          .said.late{{border-color:{1}}}",
         late.0, late.1, bars[0].1, bars[0].0
@@ -109,8 +109,8 @@ impl Stand<'_> {
         let file = plan.heading.depot().map(|_| plan.name.clone());
         let about: Vec<String> = plan.heading.dates(days).into_iter().chain(file).chain([plan.size()]).collect();
         let class = if plan.late().next().is_some() { "said late" } else { "said" };
-        let at = if self.minute < 0 { plan.clock.moment(self.minute as i32) } else { self.hour(self.minute as u16) };
-        let at = at.split(['+', '-']).next().unwrap_or_default();
+        // a page before the start is one of a time of day: the same as a day later
+        let at = plan.clock.hour(u32::try_from(self.minute).unwrap_or((self.minute + i64::from(DAY)) as u32));
         format!(
             "<header>\n<h1>{}</h1>\n<p>{}</p>\n<p class=\"clock\"><small id=\"as-at\">as at</small> <time id=\"clock\">{at}</time></p>\n\
              </header>\n<p class=\"{class}\">{}</p>\n{}{}",
