@@ -429,12 +429,21 @@ fn begin(prepared: &mut Prepared, jobs: &Jobs) -> Found
     listed
 }
 
-// How many part-plans are visited before more list plans are tried, and how many of these.
-const FIRST_LIMIT: u64 = 20000;
+// How many part-plans are visited before more list plans are tried, at most, and how many of these.
+const FIRST_LIMIT: u64 = 100000;
 
-const MORE_ROUNDS: u32 = 40000;
+const MORE_MOVES: u32 = 40000;
 
-// An order that ends first of all, unless the search gave up, and the prepared table. What the memory held changes nothing.
+// How many of the part-plans that are left are visited first.
+fn first_share(left: u64) -> u64 {
+    if left < FIRST_LIMIT {
+        return left;
+    }
+    FIRST_LIMIT
+}
+
+// An order that ends first of all, unless the search gave up, and the prepared table. Where that takes a while, more list plans are tried
+// before the search goes on. What the memory held changes nothing.
 fn least_order(memory: &mut [u8], left: &mut u64, prepared: &mut Prepared, jobs: &Jobs) -> Found
     requires { ⌜ (length (now prepared) ≡ preparedSize) × ((Fit (now jobs)) × (¬ Circular (sheetOf (now jobs)))) ⌝ }
     ensures lowest { λ r. ⌜ LowestIf (sheetOf (now (jobs .entry))) r (now (left .exit)) ⌝ }
@@ -443,12 +452,12 @@ fn least_order(memory: &mut [u8], left: &mut u64, prepared: &mut Prepared, jobs:
 {
     memory::clear(memory);
     let listed = begin(prepared, jobs);
-    let mut few = FIRST_LIMIT;
+    let mut few = first_share(*left);
     let soon = lowest(memory, &mut few, listed, jobs, prepared);
     if few > 0 {
         return soon;
     }
-    let better = listing::improved(jobs, soon, MORE_ROUNDS, 2);
+    let better = listing::improved(jobs, soon, MORE_MOVES, 2);
     lowest(memory, left, better, jobs, prepared)
 }
 
