@@ -37,8 +37,8 @@ ghost use Rattle.depot.specs.Version.{version};
 
 // ---- the version
 
-// 0.13.1
-const VERSION: u32 = 13001;
+// 0.14.0
+const VERSION: u32 = 14000;
 
 // The number of this library's version; the header has the same.
 #[no_mangle]
