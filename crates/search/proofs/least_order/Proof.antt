@@ -51,11 +51,11 @@ lowest-requires-2 c κs =
     let past = c .before .before .before .before .before .before .before .before in
     let far = past .before .before .before .before .before .before .before .before in
     record {
-  fit = far .before .before .before .before .pre .1 .0;
-  tabled = past .before .before .before .before .before .begin .ensures .1;
-  best-is = c .before .before .before .improved .ensures .is;
-  remembered = remembered-less _ _ (omega (arith, c .before .before .before .improved .ensures .no-later)) (c .before .before .before .before .before .before .before .lowest .ensures .1 .0);
-}
+      fit = far .before .before .before .before .pre .1 .0;
+      tabled = past .before .before .before .before .before .begin .ensures .1;
+      best-is = c .before .before .before .improved .ensures .is;
+      remembered = remembered-less _ _ (omega (arith, c .before .before .before .improved .ensures .no-later)) (c .before .before .before .before .before .before .before .lowest .ensures .1 .0);
+    }
 
 same-length-2 : tie.Need-same-length-2
 same-length-2 c =
