@@ -22,7 +22,7 @@ abbrev pub cells : ℕ
 cells = 6144
 
 abbrev pub slateSize : ℕ
-slateSize = cells + mostJobs + 2 * (mostJobs + 1)
+slateSize = cells + mostJobs + 4 * (mostJobs + 2) + 1
 
 -- what a job's value is at most
 abbrev pub topValue : ℕ
