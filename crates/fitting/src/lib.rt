@@ -11,7 +11,6 @@ ghost use Rattle.placement.specs.Profile.{ProfileOf};
 ghost use Rattle.lanes.specs.Lanes.{mostServed};
 ghost use Rattle.fitting.specs.Fitting.{slateSize, releaseAt, Framed, HasRoom, Tabling, OverfullFrom};
 use figures::MOST_JOBS;
-use ordering::Left;
 use tables::Jobs;
 use tables::Part;
 
@@ -72,27 +71,20 @@ fn gap(
     jobs: &Jobs,
     part: &Part,
     frame: Frame,
-    left: Left,
+    order: &[usize; MOST_JOBS],
+    count: usize,
     release: &[u16; MOST_JOBS],
     gone: usize,
     free: u16,
 ) -> u32
-    requires { ⌜ (Tabling (now jobs) (partIn (now part)) frame left (now release) gone free) × (length (now slate) ≡ slateSize) ⌝ }
+    requires { ⌜ (Tabling (now jobs) (partIn (now part)) frame (now order) count (now release) gone free) × (length (now slate) ≡ slateSize) ⌝ }
     ensures over { λ r. ⌜ (r ≡ 0 → OverfullFrom (now (jobs .entry)) (partIn (now (part .entry))) (λ k. getD (now (release .entry)) k 0)
         (frame .least) (frame .close)) ⌝ }
     ensures size { λ _. ⌜ length (now (slate .exit)) ≡ length (now (slate .entry)) ⌝ }
 {
     let unplaced = tables::unplaced(part);
     let value = valuing::values_of(slate, jobs, unplaced, frame.step);
-    let base = serving::fill_rows(
-        slate,
-        jobs,
-        frame,
-        &left.order,
-        left.count,
-        release,
-        &value.of,
-    );
+    let base = serving::fill_rows(slate, jobs, frame, order, count, release, &value.of);
     let served = serving::served(slate, base, frame, jobs, part, gone, free);
     gap_of(served, valuing::worth_of(jobs, &value.of))
 }
@@ -106,26 +98,38 @@ fn shown(
     jobs: &Jobs,
     part: &Part,
     frame: Frame,
-    left: Left,
+    order: &[usize; MOST_JOBS],
+    count: usize,
     release: &[u16; MOST_JOBS],
     gone: usize,
     free: u16,
 ) -> bool
-    requires { ⌜ (Tabling (now jobs) (partIn (now part)) frame left (now release) gone free) × (length (now slate) ≡ slateSize) ⌝ }
+    requires { ⌜ (Tabling (now jobs) (partIn (now part)) frame (now order) count (now release) gone free) × (length (now slate) ≡ slateSize) ⌝ }
     ensures over { λ r. ⌜ (r ≡ true → OverfullFrom (now (jobs .entry)) (partIn (now (part .entry))) (λ k. getD (now (release .entry)) k 0)
         (frame .least) (frame .close)) ⌝ }
     ensures size { λ _. ⌜ length (now (slate .exit)) ≡ length (now (slate .entry)) ⌝ }
 {
     let mut turns: usize = 0;
     while turns < TURNS {
-        let above = gap(slate, jobs, part, frame, left, release, gone, free);
+        let above = gap(slate, jobs, part, frame, order, count, release, gone, free);
         if above == 0 {
             return true;
         }
-        turning::turn(slate, jobs, part, frame, left, release, gone, free, above);
+        turning::turn(
+            slate,
+            jobs,
+            part,
+            frame,
+            order,
+            count,
+            release,
+            gone,
+            free,
+            above,
+        );
         turns += 1;
     }
-    gap(slate, jobs, part, frame, left, release, gone, free) == 0
+    gap(slate, jobs, part, frame, order, count, release, gone, free) == 0
 }
 
 // Whether a table shows it of the unplaced jobs, where no job starts before its start in `at`.
@@ -148,7 +152,17 @@ fn tabled(
     let release = ordering::releases_of(at, least);
     let left = ordering::ordered(&release.of, tables::unplaced(part), tables::count(jobs));
     let frame = frame_of(left.count, least, close);
-    shown(slate, jobs, part, frame, left, &release.of, gone, free)
+    shown(
+        slate,
+        jobs,
+        part,
+        frame,
+        &left.order,
+        left.count,
+        &release.of,
+        gone,
+        free,
+    )
 }
 
 // The fewest jobs of which a table is made.

@@ -22,10 +22,10 @@ frame-of-requires c κs = search needs
 
 shown-requires : tie.Need-shown-requires
 shown-requires c κs =
-    let past = c .before .before .before .before in
+    let past = c .before .before .before .before .before .before in
     let start = past .before .before .before .before .before .before in
     let pre = start .pre in
-    let frame = c .before .before .before .frame-of .ensures in
+    let frame = c .before .before .before .before .before .frame-of .ensures in
     let ordered = rw (past .before .count .ensures, past .before .before .unplaced .ensures) at (past .ordered .ensures) in
     let releases = past .before .before .before .before .before .releases-of .ensures in (
       tabling _ (start .args .at .now) (pre .0 .0 .0) releases (frame .1 .0) (frame .0 .0) (frame .0 .1) (ordered .0) (ordered .1) (pre .1 .0)
@@ -35,10 +35,10 @@ shown-requires c κs =
 
 returns : tie.Need-returns
 returns c =
-    let past = c .before .before .before .before .before in
+    let past = c .before .before .before .before .before .before .before in
     let far = past .before .before .before .before .before in
     let pre = far .before .pre in
-    let frame = c .before .before .before .before .frame-of .ensures in
+    let frame = c .before .before .before .before .before .before .frame-of .ensures in
     let shown = c .shown .ensures in
     let over = rw (frame .1 .0, frame .1 .1) at (shown .0) in
     ((λ e. overfull-alike (λ k l. far .releases-of .ensures .each k (omega (arith, pre .0 .0 .0 .few))) (over e)), shown .1)
