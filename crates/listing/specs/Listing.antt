@@ -4,7 +4,7 @@ use mathlib.Core.Bool.{false, not}
 use mathlib.Core.List.{List}
 use Prim.Native.Nat.{ℕ, _+_, _%_, _≤_, _<_}
 use lib.Dec.{ltb}
-use lib.ListN.{length, getD, take, set, replicate}
+use lib.ListN.{length, getD, take, replicate}
 use Rattle.counting.specs.Counting.{largest}
 use Rattle.figures.specs.Figures.{mostJobs, noMinute}
 use Rattle.schedule.specs.Plan.{Sheet}
@@ -57,14 +57,6 @@ abbrev pub Tried : Sheet → Found → Type 0
 Tried S r = ¬ (r .end ≡ noMinute) → OrderOf S r
 
 -- ---- annealing
-
--- the most steps that the free modules of a plan by gaps have, and one
-abbrev pub mostSteps : ℕ
-mostSteps = 42
-
--- the order with what stands at two places exchanged
-abbrev pub exchangedAt : List ℕ → ℕ → ℕ → List ℕ
-exchangedAt order a b = set (set order a (getD order b 0)) b (getD order a 0)
 
 -- an order that ends no later than this one
 pub record Improved (S : Sheet) (best r : Found) : Type 0 where

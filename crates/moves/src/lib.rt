@@ -2,7 +2,7 @@
 ghost use mathlib.Core.Path.{_≡_};
 ghost use Prim.Native.Nat.{_<_, _≤_};
 ghost use Rattle.figures.specs.Figures.{mostJobs};
-ghost use Rattle.listing.specs.Listing.{exchangedAt};
+ghost use Rattle.moves.specs.Moves.{exchangedAt};
 use figures::MOST_JOBS;
 
 // ---- random numbers

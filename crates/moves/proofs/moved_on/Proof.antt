@@ -1,8 +1,8 @@
--- `listing::moves::moved_on` meets its contract.
+-- `moves::moved_on` meets its contract.
 use Prim.Native.Nat.{_-_, _≤_}
 use borrow.Author.Needs.{needs}
-use Rattle.listing.proofs.moves.moved_on.Statement.{statement}
-use Rattle.listing.proofs.moves.moved_on.Tie as tie
+use Rattle.moves.proofs.moved_on.Statement.{statement}
+use Rattle.moves.proofs.moved_on.Tie as tie
 
 abbrev Inv-loop : tie.InvT-loop
 Inv-loop order a b next₀ taken i₀ next i = (a ≤ i) × (i ≤ b)

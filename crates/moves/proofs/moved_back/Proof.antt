@@ -1,8 +1,8 @@
--- `listing::moves::moved_back` meets its contract.
+-- `moves::moved_back` meets its contract.
 use Prim.Native.Nat.{_≤_}
 use borrow.Author.Needs.{needs}
-use Rattle.listing.proofs.moves.moved_back.Statement.{statement}
-use Rattle.listing.proofs.moves.moved_back.Tie as tie
+use Rattle.moves.proofs.moved_back.Statement.{statement}
+use Rattle.moves.proofs.moved_back.Tie as tie
 
 abbrev Inv-loop : tie.InvT-loop
 Inv-loop order a b next₀ taken i₀ next i = (a ≤ i) × (i ≤ b)
