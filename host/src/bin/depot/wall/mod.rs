@@ -107,7 +107,8 @@ impl Stand<'_> {
         let name = plan.heading.depot().unwrap_or(&plan.name);
         let days = plan.clock.days(plan.end.into());
         let file = plan.heading.depot().map(|_| plan.name.clone());
-        let about: Vec<String> = plan.heading.dates(days).into_iter().chain(file).chain([plan.size()]).collect();
+        let about: Vec<String> =
+            plan.heading.dates(days).into_iter().chain(file).chain([plan.size()]).chain(plan.mark()).collect();
         let class = if plan.late().next().is_some() { "said late" } else { "said" };
         let at = if self.minute < 0 { plan.clock.moment(self.minute as i32) } else { self.hour(self.minute as u16) };
         let at = at.split(['+', '-']).next().unwrap_or_default();
