@@ -1,10 +1,13 @@
 //! Searches that are not waited for: `--within`, Ctrl-C, and what is said meanwhile.
+#![cfg(target_os = "linux")]
 mod command;
 
 use command::{depot, file, top, Run};
 use depot_host::{earliest_end, families, read, Card, Desk, Runner};
-use std::ffi::c_int;
+use std::ffi::{c_char, c_int, c_ulong, CStr};
+use std::fs::{File, OpenOptions};
 use std::io::{BufRead, BufReader, Read};
+use std::os::fd::FromRawFd;
 use std::os::unix::process::CommandExt;
 use std::process::{Child, Command, Stdio};
 use std::sync::{Mutex, MutexGuard, PoisonError};
@@ -15,11 +18,19 @@ use std::{fs, io};
 extern "C" {
     fn kill(process: c_int, signal: c_int) -> c_int;
     fn signal(number: c_int, what: usize) -> usize;
+    fn posix_openpt(flags: c_int) -> c_int;
+    fn grantpt(file: c_int) -> c_int;
+    fn unlockpt(file: c_int) -> c_int;
+    fn ptsname_r(file: c_int, name: *mut c_char, length: usize) -> c_int;
+    fn ioctl(file: c_int, request: c_ulong, ...) -> c_int;
 }
 
 const INTERRUPT: c_int = 2;
 const ENDS: usize = 0;
 const IGNORED: usize = 1;
+const READ_AND_WRITE: c_int = 2;
+const NO_CONTROL: c_int = 0o400;
+const SET_SIZE: c_ulong = 0x5414;
 
 const MARK: &str = "NOT SHOWN TO BE THE EARLIEST: after ";
 /// What is said of a plan that ends first, and of slack.
@@ -156,6 +167,46 @@ fn what_is_said_meanwhile() {
     let standing = lines.iter().find(|line| line.starts_with("searching for the earliest end: 1 s; best so far 03:"));
     let standing = standing.unwrap_or_else(|| panic!("{lines:?}"));
     assert!(standing.contains("+1, no plan ends before 03:") && standing.ends_with(" to gain (Ctrl-C takes it)"), "{standing}");
+}
+
+/// What a search of so long shows on a terminal of so many columns.
+fn on_a_terminal(columns: u16, list: &str) -> String {
+    let mut name: [c_char; 64] = [0; 64];
+    let size = [40, columns, 0, 0];
+    // SAFETY: the file is this one's own; the name and the size are lent for the calls.
+    let (mut screen, name) = unsafe {
+        let file = posix_openpt(READ_AND_WRITE | NO_CONTROL);
+        assert!(file >= 0 && grantpt(file) == 0 && unlockpt(file) == 0 && ptsname_r(file, name.as_mut_ptr(), name.len()) == 0);
+        assert_eq!(ioctl(file, SET_SIZE, &size), 0);
+        (File::from_raw_fd(file), CStr::from_ptr(name.as_ptr()).to_str().unwrap().to_string())
+    };
+    let terminal = OpenOptions::new().read(true).write(true).open(name).expect("the terminal opens");
+    let mut command = Command::new(env!("CARGO_BIN_EXE_depot"));
+    command.args(["plan", list, "--within", "2.4"]).stdin(Stdio::null()).stdout(Stdio::null()).stderr(Stdio::from(terminal));
+    let mut child = command.spawn().expect("the program starts");
+    drop(command);
+    let mut shown = Vec::new();
+    // at the end the other side is gone, which is an error here
+    screen.read_to_end(&mut shown).ok();
+    assert_eq!(child.wait().expect("it ends").code(), Some(0));
+    String::from_utf8(shown).expect("text")
+}
+
+/// On a terminal one line is written over: it is never wider than that.
+#[test]
+fn what_a_terminal_shows_meanwhile() {
+    let _alone = alone();
+    let list = hard_list();
+    for (columns, standing) in
+        [(200, "searching for the earliest end: 2 s; best so far 03:"), (80, "2 s: best 03:"), (30, "2 s: best 03:")]
+    {
+        let shown = on_a_terminal(columns, &list);
+        let lines: Vec<&str> = shown.split("\r\x1b[K").filter(|line| !line.contains('\n')).collect();
+        assert!(lines.iter().any(|line| line.starts_with(standing)), "{shown}");
+        assert!(lines.iter().all(|line| line.chars().count() < columns.into()), "{shown}");
+        assert!(columns < 80 || lines.iter().any(|line| line.ends_with("(Ctrl-C takes it)")), "{shown}");
+        assert!(shown.ends_with("\r\x1b[K"), "{shown}");
+    }
 }
 
 #[test]

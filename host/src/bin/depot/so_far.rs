@@ -8,7 +8,7 @@ use std::thread;
 const FIRST: u64 = 100_000;
 const GROWTH: u64 = 4;
 /// The limit for the list in quarter hours.
-const OF_QUARTERS: u64 = 1_000_000;
+const OF_QUARTERS: u64 = 250_000;
 /// The most working memory that it takes.
 const MEMORY: usize = 16 << 20;
 const QUARTER: u16 = 15;

@@ -137,18 +137,28 @@ impl Waiting {
     }
 
     fn standing(&self, word: &Word, search: &Search, best: Option<&Best>) -> String {
-        let so_far = best.map_or(String::new(), |best| {
-            let gap = if best.bound < best.end { format!(": at most {} to gain", gap(best)) } else { String::new() };
-            format!("; best so far {}, no plan ends before {}{gap}", self.time(best.end), self.time(best.bound))
-        });
+        let so_far = match best {
+            None => String::new(),
+            Some(Best { end, bound, .. }) if bound == end => {
+                format!("; no plan ends before {}, its order is not settled", self.time(*end))
+            }
+            Some(best) => format!(
+                "; best so far {}, no plan ends before {}: at most {} to gain",
+                self.time(best.end),
+                self.time(best.bound),
+                gap(best)
+            ),
+        };
         format!("searching for {}: {}{so_far} ({})", search.what, word.how_long(), self.hint(search, best))
     }
 
     /// The same for a terminal that is narrow.
     fn in_short(&self, word: &Word, search: &Search, best: Option<&Best>) -> String {
-        let so_far = best.map_or(String::new(), |best| {
-            format!(": best {}, none before {}, gap {}", self.time(best.end), self.time(best.bound), gap(best))
-        });
+        let so_far = match best {
+            None => String::new(),
+            Some(Best { end, bound, .. }) if bound == end => format!(": ends {}, order not settled", self.time(*end)),
+            Some(best) => format!(": best {}, none before {}, gap {}", self.time(best.end), self.time(best.bound), gap(best)),
+        };
         format!("{}{so_far} ({})", word.how_long(), self.hint(search, best))
     }
 
