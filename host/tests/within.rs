@@ -126,7 +126,7 @@ fn it_is_marked_in_every_form() {
         let ran = depot(&[&["plan", &list, "--within", "0.5"], form].concat(), b"");
         assert_eq!(ran.status, 0, "{}", ran.errors);
         let text = ran.text();
-        assert!(text.starts_with(MARK) && text.lines().next().unwrap().ends_with(" are to be gained."), "{text}");
+        assert!(text.starts_with(MARK) && text.lines().next().unwrap().ends_with(" can be gained."), "{text}");
         assert!(!OF_THE_EARLIEST.iter().any(|words| text.contains(words)), "{text}");
         assert!(form == ["--work"] || text.contains("The plan is valid. No valid plan of this sheet ends before 03:"), "{text}");
         assert!(form == ["--work"] || text.contains("It is not settled whether fewer buses need be late."), "{text}");
@@ -143,7 +143,7 @@ fn the_best_end_after_so_long() {
     let _alone = alone();
     let list = hard_list();
     let words = depot(&["end", &list, "--within", "0.5"], b"").text();
-    assert!(words.starts_with(MARK) && words.ends_with(" are to be gained.\n") && words.contains("(minute 4"), "{words}");
+    assert!(words.starts_with(MARK) && words.ends_with(" can be gained.\n") && words.contains("(minute 4"), "{words}");
     let json = depot(&["end", &list, "--within", "0.5", "--json"], b"").text();
     assert!(json.contains("\"exact\": false") && figure(&json, "bound") < figure(&json, "end"), "{json}");
     let raw = depot(&["end", &list, "--within", "0.5", "--raw"], b"");

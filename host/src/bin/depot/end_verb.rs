@@ -48,7 +48,7 @@ fn not_shown(yard: &Yard, Ends { end, bound }: Ends, after: &str) -> String {
     let gap = how_long((end - bound).into());
     format!(
         "NOT SHOWN TO BE THE EARLIEST: after {after} of searching the best plan ends at {best}; no plan ends before {none}, so at most {gap} \
-         are to be gained.\n"
+         can be gained.\n"
     )
 }
 

@@ -111,7 +111,7 @@ it is.
 Table, page, picture and --json have the list's order and numbers; --raw, --card and --sheet those of the sheet that was planned.
 
 A search that lasts says on standard error how long it has lasted, when the best plan so far ends, and when none ends before. Ctrl-C takes
-the best plan so far, as does the end of --within: a valid plan, marked as not shown to be the earliest, with the minutes that are to be
+the best plan so far, as does the end of --within: a valid plan, marked as not shown to be the earliest, with the minutes that can be
 gained at most. It has no slack, and a cabinet that plans its sheet may come to another. The exit status is 0. With --on-time there is
 nothing to take, and it is 1. A second Ctrl-C ends the program.
 

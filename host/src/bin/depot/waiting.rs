@@ -268,7 +268,7 @@ fn took(seconds: u64) -> String {
 /// A time with its tenths of a second where they matter.
 fn in_words(time: Duration) -> String {
     let tenths = time.as_millis().div_ceil(100);
-    if tenths < 100 && tenths % 10 > 0 {
+    if tenths < 100 && !tenths.is_multiple_of(10) {
         return format!("{}.{} s", tenths / 10, tenths % 10);
     }
     took(tenths as u64 / 10)
