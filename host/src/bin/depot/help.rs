@@ -60,9 +60,13 @@ usage: depot end LIST|SHEET [OPTION..]
 Says when the last bus is full at the earliest: the end of the plan that 'depot plan' shows, and of no plan, whoever makes it, earlier.
 It takes less time than the plan.
 
+A search that lasts says on standard error how it stands. Ctrl-C takes the best end so far, as does the end of --within: it is marked as
+not shown to be the earliest, with the minute before which no plan ends. The exit status is 0. A second Ctrl-C ends the program.
+
   --start HH:MM    the plan's start as a time of day, in place of the list's
   --raw            the minute alone, counted from the start
   --json           for programs
+  --within SECS    the best end after so many seconds, 0.1 to 86400, where the search is not over by then; if it is, nothing is different
   --memory BYTES   working memory of the search, 0 to 16G, with K, M or G (16M); no length changes the answer
 ";
 
@@ -106,6 +110,11 @@ it is.
 
 Table, page, picture and --json have the list's order and numbers; --raw, --card and --sheet those of the sheet that was planned.
 
+A search that lasts says on standard error how long it has lasted, when the best plan so far ends, and when none ends before. Ctrl-C takes
+the best plan so far, as does the end of --within: a valid plan, marked as not shown to be the earliest, with the minutes that can be
+gained at most. It has no slack, and a cabinet that plans its sheet may come to another. The exit status is 0. With --on-time there is
+nothing to take, and it is 1. A second Ctrl-C ends the program.
+
   --by-line        the list's jobs on the sheet in the order of its lines, as 'depot sheet' writes it
   --on-time        the first plan in which nobody is late, though it may end later; on its sheet a bus may be held back
   --start HH:MM    the plan's start as a time of day, in place of the list's; the list's times of day count from it
@@ -122,6 +131,7 @@ Table, page, picture and --json have the list's order and numbers; --raw, --card
   --csv OUT        the list with columns for start, end, modules, slack and lateness too, for a spreadsheet; it is a list again
   --sheet OUT      the job sheet that was planned too: a cabinet that plans it comes to this plan
   --card OUT       the plan card's bytes too, of that sheet; of these files one may be -, standard output, and is then all that goes there
+  --within SECS    the best plan after so many seconds, 0.1 to 86400, where the search is not over by then; if it is, nothing is different
   --memory BYTES   working memory of the search, 0 to 16G, with K, M or G (16M); no length changes the answer
 ";
 

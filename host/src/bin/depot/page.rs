@@ -37,9 +37,10 @@ pub fn text(plan: &Planned) -> String {
     let rules = [chart::LIGHT, chart::DARK].map(|palette| chart::page_rules(plan, &palette));
     let late: Vec<bool> = plan.jobs.iter().map(PlannedJob::is_late).collect();
     format!(
-        "{}<body>\n<main>\n{}<section class=\"table\">\n<h2>{title}</h2>\n<p>{}</p>\n{}{}</section>\n{}</main>\n</body>\n</html>\n",
+        "{}<body>\n<main>\n{}<section class=\"table\">\n<h2>{title}</h2>\n{}<p>{}</p>\n{}{}</section>\n{}</main>\n</body>\n</html>\n",
         head(&title, &rules),
         boxed(&chart::part(plan)),
+        warning(plan),
         escaped(&summary(plan).join(" ")),
         table_of(&columns(plan), &late),
         below(plan),
@@ -47,12 +48,18 @@ pub fn text(plan: &Planned) -> String {
     )
 }
 
+/// What is to be known first of a plan that is not settled.
+fn warning(plan: &Planned) -> String {
+    plan.warning().map_or(String::new(), |words| format!("<p><strong>{}</strong></p>\n", escaped(&words)))
+}
+
 /// What is said below the table, on the same sheet of paper.
 fn below(plan: &Planned) -> String {
     let order: Vec<&str> = plan.order.iter().map(|job| plan.jobs[usize::from(*job)].label.as_str()).collect();
     let order = if order.is_empty() { String::new() } else { format!("Starting order: {}.", order.join(", ")) };
     let card = "Start, end and modules of every job are those of the proved planner's card.";
-    let last = format!("{} {card} {OF_SLACK}", plan.none_earlier());
+    let of_slack = if plan.has_slack() || plan.jobs.is_empty() { format!(" {OF_SLACK}") } else { String::new() };
+    let last = format!("{} {card}{of_slack}", plan.none_earlier());
     let paragraphs = [order, notes(plan).join(" "), last].into_iter().filter(|text| !text.is_empty());
     let paragraphs: String = paragraphs.map(|text| format!("<p>{}</p>\n", escaped(&text))).collect();
     format!("<div class=\"below\">\n{paragraphs}</div>\n")
@@ -67,7 +74,8 @@ fn by_the_clock(plan: &Planned) -> String {
     let turns = columns[0].cells.len() - 1;
     let class = if turns > ONE_COLUMN { "table two" } else { "table" };
     let title = escaped(&format!("By the clock: {}", plan.title()));
-    format!("<section class=\"{class}\">\n<h2>{title}</h2>\n{}</section>\n", table_of(&columns, &vec![false; turns]))
+    let table = table_of(&columns, &vec![false; turns]);
+    format!("<section class=\"{class}\">\n<h2>{title}</h2>\n{}{table}</section>\n", warning(plan))
 }
 
 /// The name that a column of times has from that of its minutes in front of it.

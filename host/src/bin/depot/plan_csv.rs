@@ -19,7 +19,7 @@ pub fn text(plan: &Planned) -> String {
         more.push(("slack", column(&|job| job.slack.map_or(String::new(), |slack| slack.slack.to_string()))));
     }
     more.push(("lateness", column(&|job| job.lateness().to_string())));
-    let over = plan.over().map_or(String::new(), |words| format!("# {words}\n"));
+    let over: String = plan.over().into_iter().chain(plan.warning()).map(|words| format!("# {words}\n")).collect();
     over + &list::text_with(&reading, &labels, clock, &more)
 }
 

@@ -4,6 +4,7 @@ use crate::heading::Heading;
 use crate::list;
 use crate::outcome::{bytes_of, Trouble};
 use crate::search::Found;
+use crate::taken::Taken;
 use depot_host::on_time::{Deadlines, OnTime};
 use depot_host::order::Order;
 use depot_host::{label_of, Job, JobSlack, Reading, Refusal, Row};
@@ -88,11 +89,13 @@ pub struct Planned {
     pub of_list: bool,
     /// Whether nobody was to be late, even if the plan ends later.
     pub on_time_asked: bool,
+    /// What was not settled, where it was taken before the search was over.
+    pub taken: Option<Taken>,
 }
 
 impl Planned {
     pub fn new(yard: &Yard, found: Found, heading: &Heading) -> Planned {
-        let Found { reading, card, slacks, order: numbering, on_time, on_time_asked, .. } = found;
+        let Found { reading, card, slacks, order: numbering, on_time, on_time_asked, taken, .. } = found;
         let always_late = Deadlines::of(&yard.sheet, &reading).always_late();
         let labels = labels(&yard.sheet, &reading);
         let mut slacks = slacks.into_iter().flatten();
@@ -112,6 +115,7 @@ impl Planned {
             on_time,
             of_list: yard.is_list(),
             on_time_asked,
+            taken,
         }
     }
 
@@ -126,6 +130,11 @@ impl Planned {
     /// Whether some bus is still on the road at the plan's start.
     pub fn has_arrivals(&self) -> bool {
         self.on_the_road().next().is_some()
+    }
+
+    /// Whether the slack of its jobs is known.
+    pub fn has_slack(&self) -> bool {
+        self.jobs.iter().any(|job| job.slack.is_some())
     }
 
     /// Whether modules rest between two jobs.
@@ -171,11 +180,14 @@ impl Planned {
     }
 
     /// That no plan ends earlier; where one that is late might, of which plans none does.
-    pub fn none_earlier(&self) -> &'static str {
-        if self.on_time_asked {
-            return "No valid plan in which nobody is late ends earlier.";
+    pub fn none_earlier(&self) -> String {
+        if let Some(bound) = self.bound().filter(|bound| *bound < self.end) {
+            return format!("The plan is valid. No valid plan of this sheet ends before {}.", self.in_short(bound));
         }
-        "No valid plan of this sheet ends earlier."
+        if self.on_time_asked {
+            return "No valid plan in which nobody is late ends earlier.".into();
+        }
+        "No valid plan of this sheet ends earlier.".into()
     }
 
     /// The plan's end, in words.

@@ -12,7 +12,8 @@ use depot_host::{JobSlack, Reading};
 use std::fmt::Write;
 
 pub fn run(words: &[String]) -> Result<Outcome, Trouble> {
-    let (asked, yard) = Asked::of_a_list("slack", &["--raw", "--json", "--by-line", "--on-time"], words)?;
+    let (asked, yard) =
+        Asked::of_a_list("slack", &["--raw", "--json", "--by-line", "--on-time"], &["--start", "--memory"], words)?;
     let found = match asked.plan(&yard, true) {
         Ok(found) => found,
         Err(failed) => return not_planned(&yard, failed, asked.form),

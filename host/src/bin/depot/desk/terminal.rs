@@ -2,8 +2,9 @@
 use super::keys;
 use super::line::{Line, Typed};
 use crate::outcome::{say, Trouble};
+use crate::width::{columns, OUTPUT};
 use std::env;
-use std::ffi::{c_int, c_ulong};
+use std::ffi::c_int;
 use std::io::{self, BufRead};
 
 /// `struct termios` of Linux.
@@ -19,24 +20,13 @@ struct Settings {
     speeds: [u32; 2],
 }
 
-#[repr(C)]
-#[derive(Default)]
-struct Size {
-    rows: u16,
-    columns: u16,
-    wide: u16,
-    high: u16,
-}
-
 extern "C" {
     fn tcgetattr(file: c_int, settings: *mut Settings) -> c_int;
     fn tcsetattr(file: c_int, when: c_int, settings: *const Settings) -> c_int;
-    fn ioctl(file: c_int, request: c_ulong, ...) -> c_int;
     fn raise(signal: c_int) -> c_int;
 }
 
 const INPUT: c_int = 0;
-const OUTPUT: c_int = 1;
 /// Settings count from what is written or read next.
 const NOW: c_int = 0;
 /// Ctrl-C and Ctrl-Z are signals; lines come whole; keys are shown; further keys have a meaning.
@@ -44,7 +34,6 @@ const BY_THE_TERMINAL: u32 = 0o1 | 0o2 | 0o10 | 0o100000;
 /// The places of the fewest bytes that are read, and of the time that is waited for more.
 const FEWEST: usize = 6;
 const WAITED: usize = 5;
-const GET_SIZE: c_ulong = 0x5413;
 const STOP: c_int = 20;
 
 /// What is said where Ctrl-C finds an empty line.
@@ -71,7 +60,7 @@ impl Terminal {
 
     /// The next line that is typed; none behind the last.
     pub fn line(&mut self, prompt: &str) -> Result<Option<String>, Trouble> {
-        let show = |line: &Line, before: &str| say(&format!("{before}{}", line.shown(prompt, columns())));
+        let show = |line: &Line, before: &str| say(&format!("{before}{}", line.shown(prompt, columns(OUTPUT))));
         show(&self.line, "")?;
         loop {
             let Some((key, length)) = keys::first(&self.ahead) else {
@@ -158,15 +147,4 @@ impl Drop for Terminal {
 fn set(settings: &Settings) {
     // SAFETY: the settings are lent for the call.
     unsafe { tcsetattr(INPUT, NOW, settings) };
-}
-
-/// How many columns the terminal has.
-fn columns() -> usize {
-    let mut size = Size::default();
-    // SAFETY: the size is lent for the call.
-    let answer = unsafe { ioctl(OUTPUT, GET_SIZE, &mut size) };
-    if answer == 0 && size.columns > 0 {
-        return size.columns.into();
-    }
-    80
 }

@@ -107,7 +107,8 @@ impl Stand<'_> {
         let name = plan.heading.depot().unwrap_or(&plan.name);
         let days = plan.clock.days(plan.end.into());
         let file = plan.heading.depot().map(|_| plan.name.clone());
-        let about: Vec<String> = plan.heading.dates(days).into_iter().chain(file).chain([plan.size()]).collect();
+        let about: Vec<String> =
+            plan.heading.dates(days).into_iter().chain(file).chain([plan.size()]).chain(plan.mark()).collect();
         let class = if plan.late().next().is_some() { "said late" } else { "said" };
         // a page before the start is one of a time of day: the same as a day later
         let at = plan.clock.hour(u32::try_from(self.minute).unwrap_or((self.minute + i64::from(DAY)) as u32));
