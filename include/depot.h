@@ -19,8 +19,8 @@
  *             pointer must lead to as many elements as are said, aligned as C asks; this is the one thing that no call can check.
  * Overlaps.   What a call writes must not overlap anything else that it is lent. What it only reads may overlap.
  * Threads.    Calls may run at the same time as long as none writes what another is lent.
- * Stack.      Measured, not proved: depot_plan, depot_end, depot_use and depot_slack stay within DEPOT_PLAN_STACK bytes, depot_size within
- *             DEPOT_SIZE_STACK, depot_sets within DEPOT_SETS_STACK, depot_runner_start and depot_runner_step within DEPOT_RUNNER_STACK,
+ * Stack.      Measured, not proved: depot_plan, depot_plan_within, depot_end, depot_use and depot_slack stay within DEPOT_PLAN_STACK bytes,
+ *             depot_size within DEPOT_SIZE_STACK, depot_sets within DEPOT_SETS_STACK, depot_runner_start and depot_runner_step within DEPOT_RUNNER_STACK,
  *             every other call within DEPOT_CALL_STACK.
  *             The tests of the host package hold these figures.
  * Names       that begin with depot_ or DEPOT_ belong to the library. It calls memcpy, memmove and memset, and nothing else.
@@ -66,8 +66,8 @@ extern "C" {
 /* ---- the version ------------------------------------------------------------------------------------------------------------- */
 
 /* Of this header, and as a number: major * 1000000 + minor * 1000 + patch. Bytes of sheets and cards may differ between minors. */
-#define DEPOT_VERSION "0.13.1"
-#define DEPOT_VERSION_NUMBER 13001
+#define DEPOT_VERSION "0.14.0"
+#define DEPOT_VERSION_NUMBER 14000
 
 /*
  * The number of the library that is linked. Compare it with DEPOT_VERSION_NUMBER at the start, so that header and library belong
@@ -152,6 +152,34 @@ enum depot_refusal {
  */
 DEPOT_MUST_USE
 uint32_t depot_plan(const uint8_t *sheet, size_t sheet_len, uint8_t *card, size_t card_len, uint8_t *work, size_t work_len);
+
+/* What planning with a limit answers. */
+struct depot_limited {
+    uint32_t refusal; /* 0, or the refusal's number; then all else is 0 */
+    uint16_t end;     /* the minute at which the plan on the card ends */
+    uint16_t bound;   /* no valid plan ends before this minute */
+    uint32_t exact;   /* 1 where the card is the one that depot_plan writes, else 0 */
+};
+
+/* The limit at which planning never gives up. */
+#define DEPOT_NO_LIMIT UINT64_MAX
+
+/*
+ * Plans a job sheet as depot_plan does, and gives up after about so many part-plans: the places that the search goes through, some million
+ * of them a second. Before the limit counts, every list is looked at for some ten milliseconds. The card's plan is always valid. Where
+ * exact is 1 it is the plan that depot_plan gives. Where it is 0, it may be another; it ends at most `end - bound` minutes later than the
+ * earliest plan, and where the two are equal it ends as early. A larger limit can give an earlier end and a later bound; the same limit and
+ * sheet give the same answer. With DEPOT_NO_LIMIT exact is 1.
+ *
+ * sheet, card, work  As for depot_plan.
+ * limit              How many part-plans may be visited, any number.
+ *
+ * The three do not overlap. Answers the figures, or a refusal: 1 to 3, 19, 4 to 10, in this order. Refused, card and work are as before.
+ * Stack: DEPOT_PLAN_STACK.
+ */
+DEPOT_MUST_USE
+struct depot_limited depot_plan_within(const uint8_t *sheet, size_t sheet_len, uint8_t *card, size_t card_len, uint8_t *work,
+                                       size_t work_len, uint64_t limit);
 
 /* What the call for the end alone answers. */
 struct depot_earliest {
@@ -516,6 +544,7 @@ struct depot_stepped depot_runner_step(struct depot_runner runner, struct depot_
 /* The sizes with which the archive was compiled: a compiler that has others must not link it. */
 DEPOT_STATIC_ASSERT(CHAR_BIT == 8, depot_byte_has_8_bits);
 DEPOT_STATIC_ASSERT(sizeof(void *) == 8 && sizeof(size_t) == 8, depot_pointer_has_8_bytes);
+DEPOT_STATIC_ASSERT(sizeof(struct depot_limited) == 12, depot_limited_has_12_bytes);
 DEPOT_STATIC_ASSERT(sizeof(struct depot_earliest) == 8, depot_earliest_has_8_bytes);
 DEPOT_STATIC_ASSERT(sizeof(struct depot_sized) == 8, depot_sized_has_8_bytes);
 DEPOT_STATIC_ASSERT(sizeof(struct depot_usage) == 12, depot_usage_has_12_bytes);

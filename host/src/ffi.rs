@@ -53,6 +53,16 @@ pub struct Earliest {
     pub end: u16,
 }
 
+/// What planning with a limit answers: refusal 0 with the end, the bound and the mark, or the number of the refusal with 0.
+#[repr(C)]
+#[derive(Clone, Copy, Debug, PartialEq, Eq)]
+pub struct Limited {
+    pub refusal: u32,
+    pub end: u16,
+    pub bound: u16,
+    pub exact: u32,
+}
+
 /// What the call for the least module count answers: refusal 0 with the count, or the number of the refusal with 0.
 #[repr(C)]
 #[derive(Clone, Copy, Debug, PartialEq, Eq)]
@@ -100,6 +110,16 @@ extern "C" {
     pub fn depot_version() -> u32;
 
     pub fn depot_plan(sheet: *const u8, sheet_len: usize, card: *mut u8, card_len: usize, work: *mut u8, work_len: usize) -> u32;
+
+    pub fn depot_plan_within(
+        sheet: *const u8,
+        sheet_len: usize,
+        card: *mut u8,
+        card_len: usize,
+        work: *mut u8,
+        work_len: usize,
+        limit: u64,
+    ) -> Limited;
 
     pub fn depot_end(sheet: *const u8, sheet_len: usize, work: *mut u8, work_len: usize) -> Earliest;
 

@@ -71,6 +71,29 @@ pub fn plan(sheet: &[u8], card: &mut [u8], work: &mut [u8]) -> Result<(), Refusa
     Refusal::or_done(answer)
 }
 
+/// The limit at which [`plan_within`] never gives up.
+pub const NO_LIMIT: u64 = u64::MAX;
+
+/// A plan that was found within a limit: the one on the card ends at `end`, and no valid plan of the sheet ends before `bound`. Where it is
+/// `exact`, the card is the one that [`plan`] writes.
+#[derive(Clone, Copy, Debug, PartialEq, Eq)]
+pub struct Limited {
+    pub end: u16,
+    pub bound: u16,
+    pub exact: bool,
+}
+
+/// Plans the job sheet as [`plan`] does, and gives up after about `limit` part-plans of the search. The plan on the card is valid.
+///
+/// `card` and `work` are as for [`plan`]. A refused call writes no byte.
+pub fn plan_within(sheet: &[u8], card: &mut [u8], work: &mut [u8], limit: u64) -> Result<Limited, Refusal> {
+    let lent = (card.as_mut_ptr(), card.len(), work.as_mut_ptr(), work.len());
+    // SAFETY: three live slices, of which none overlaps another; the library keeps no pointer.
+    let ffi::Limited { refusal, end, bound, exact } =
+        unsafe { ffi::depot_plan_within(sheet.as_ptr(), sheet.len(), lent.0, lent.1, lent.2, lent.3, limit) };
+    Refusal::or_done(refusal).map(|()| Limited { end, bound, exact: exact == 1 })
+}
+
 /// The end of the plan that [`plan`] gives, without a card: no valid plan of the sheet ends earlier.
 ///
 /// `work` is working memory as for [`plan`]. A refused call writes no byte.

@@ -4,8 +4,10 @@
 //! long after the start as it had to end before the plan's end. The library knows arrivals, so its earliest ends of mirrored lists say
 //! when the first plan ends in which nobody is late. Arrivals of the list itself have no mirror: where a bus is still on the road that
 //! minute is a bound, and it is the answer where the mirrored plan keeps the arrivals all the same.
+//!
+//! The planning call is the caller's, and so is why it has no answer: a refusal, or that nobody waits for it any longer.
 use crate::order::Order;
-use crate::{Card, Job, Reading, Refusal};
+use crate::{Card, Job, Reading};
 use std::cmp::Reverse;
 
 /// The last arrival that a sheet takes.
@@ -26,8 +28,14 @@ pub struct Plan {
 impl Plan {
     /// The plan of a sheet whose jobs keep their order.
     pub fn as_listed(sheet: &[u8], bytes: Vec<u8>) -> Plan {
-        let card = Card::of(&bytes).expect("an answered call leaves a card");
-        Plan { order: Order::as_listed(card.rows.len()), sheet: sheet.to_vec(), bytes, card }
+        let jobs = Card::of(&bytes).expect("an answered call leaves a card").rows.len();
+        Plan::of(Order::as_listed(jobs), sheet.to_vec(), bytes)
+    }
+
+    /// The plan of a sheet whose jobs stand in this order.
+    pub fn of(order: Order, sheet: Vec<u8>, bytes: Vec<u8>) -> Plan {
+        let card = order.card_back(&Card::of(&bytes).expect("an answered call leaves a card"));
+        Plan { order, sheet, bytes, card }
     }
 }
 
@@ -81,17 +89,39 @@ impl Deadlines<'_> {
 
     /// The plan that ends first, with the jobs in the order of their departures. Where that leaves somebody late, the order with the fewest
     /// late minutes of that one, that of the mirrored list and that of arrivals; and what is known of plans in which nobody is late.
-    pub fn plan(&self, mut call: impl FnMut(&[u8]) -> Result<Vec<u8>, Refusal>) -> Result<(Plan, OnTime), Refusal> {
-        let jobs = &self.figures.jobs;
-        let first = self.settled(Order::by_departure(jobs), &mut call)?;
-        if self.late_minutes(&first.card) == 0 {
-            return Ok((first, OnTime::This));
-        }
-        let end = first.card.end;
+    pub fn plan<E>(&self, mut call: impl FnMut(&[u8]) -> Result<Vec<u8>, E>) -> Result<(Plan, OnTime), E> {
+        let first = self.first(&mut call)?;
+        let (best, known) = self.improved(first, call);
+        Ok((best, known?))
+    }
+
+    /// The plan that ends first, with the jobs in the order of their departures, by one call.
+    pub fn first<E>(&self, mut call: impl FnMut(&[u8]) -> Result<Vec<u8>, E>) -> Result<Plan, E> {
+        self.planned(Order::by_departure(&self.figures.jobs), self.figures, &mut call)
+    }
+
+    /// The best plan by further calls, and what is known of plans in which nobody is late; where a call has no answer why not, and the best
+    /// plan up to there.
+    pub fn improved<E>(&self, first: Plan, mut call: impl FnMut(&[u8]) -> Result<Vec<u8>, E>) -> (Plan, Result<OnTime, E>) {
         let mut plans = vec![first];
-        let known = match self.mirrored(end, &mut call)? {
+        let known = self.further(&mut plans, &mut call);
+        let best = plans.into_iter().min_by_key(|plan| self.late_minutes(&plan.card)).expect("a first plan");
+        let known = if self.late_minutes(&best.card) == 0 { known.map(|_| OnTime::This) } else { known };
+        (best, known)
+    }
+
+    /// Settles the first plan, and where that leaves somebody late adds others.
+    fn further<E>(&self, plans: &mut Vec<Plan>, call: &mut impl FnMut(&[u8]) -> Result<Vec<u8>, E>) -> Result<OnTime, E> {
+        let jobs = &self.figures.jobs;
+        plans[0] = self.settled(plans[0].clone(), call)?;
+        if self.late_minutes(&plans[0].card) == 0 {
+            return Ok(OnTime::This);
+        }
+        let end = plans[0].card.end;
+        let known = match self.mirrored(end, call)? {
             Mirrored::Ends(at, starts) => {
-                plans.push(self.settled(self.in_turn(&starts), &mut call)?);
+                let plan = self.planned(self.in_turn(&starts), self.figures, call)?;
+                plans.push(self.settled(plan, call)?);
                 if at > end && self.has_arrived(&starts) {
                     OnTime::From(at)
                 } else {
@@ -102,18 +132,18 @@ impl Deadlines<'_> {
             Mirrored::Unknown(from) => OnTime::NotBefore(from),
         };
         if self.has_arrivals() && plans.iter().all(|plan| self.late_minutes(&plan.card) > 0) {
-            plans.push(self.settled(Order::by(jobs.len(), |job| (jobs[job].arrival, jobs[job].departure)), &mut call)?);
+            let order = Order::by(jobs.len(), |job| (jobs[job].arrival, jobs[job].departure));
+            let plan = self.planned(order, self.figures, call)?;
+            plans.push(self.settled(plan, call)?);
         }
-        let best = plans.into_iter().min_by_key(|plan| self.late_minutes(&plan.card)).expect("a first plan");
-        let known = if self.late_minutes(&best.card) == 0 { OnTime::This } else { known };
-        Ok((best, known))
+        Ok(known)
     }
 
     /// The first plan in which nobody is later than it must be, where it is known when that ends; none where its sheet cannot be written.
     ///
     /// The jobs stand in the order in which the mirrored plan starts them, and one that ends last in it is held back until then. So no plan
     /// of the sheet ends earlier, and by the tie rule each job starts no later than in the mirrored plan.
-    pub fn plan_ending(&self, at: u16, mut call: impl FnMut(&[u8]) -> Result<Vec<u8>, Refusal>) -> Result<Option<Plan>, Refusal> {
+    pub fn plan_ending<E>(&self, at: u16, mut call: impl FnMut(&[u8]) -> Result<Vec<u8>, E>) -> Result<Option<Plan>, E> {
         let Mirrored::Ends(_, starts) = self.mirrored(at, &mut call)? else { return Ok(None) };
         let jobs = &self.figures.jobs;
         let last = (0..jobs.len()).find(|job| starts[*job] + jobs[*job].minutes == at).filter(|job| starts[*job] <= LAST_ARRIVAL);
@@ -125,22 +155,14 @@ impl Deadlines<'_> {
     }
 
     /// The plan of these figures in an order.
-    fn planned(
-        &self,
-        order: Order,
-        figures: &Reading,
-        call: &mut impl FnMut(&[u8]) -> Result<Vec<u8>, Refusal>,
-    ) -> Result<Plan, Refusal> {
+    fn planned<E>(&self, order: Order, figures: &Reading, call: &mut impl FnMut(&[u8]) -> Result<Vec<u8>, E>) -> Result<Plan, E> {
         let sheet = order.sheet(self.list, figures);
-        let bytes = call(&sheet)?;
-        let card = order.card_back(&Card::of(&bytes).expect("an answered call leaves a card"));
-        Ok(Plan { order, sheet, bytes, card })
+        Ok(Plan::of(order, sheet.clone(), call(&sheet)?))
     }
 
-    /// The plan of an order. Where a bus is on the road or late, the jobs are put into the order in which they could start if each moved
+    /// A plan, settled. Where a bus is on the road or late, the jobs are put into the order in which they could start if each moved
     /// ahead as far as the others leave room: by the tie rule none starts later then, and none waits behind one that has not arrived.
-    fn settled(&self, order: Order, call: &mut impl FnMut(&[u8]) -> Result<Vec<u8>, Refusal>) -> Result<Plan, Refusal> {
-        let plan = self.planned(order, self.figures, call)?;
+    fn settled<E>(&self, plan: Plan, call: &mut impl FnMut(&[u8]) -> Result<Vec<u8>, E>) -> Result<Plan, E> {
         if !self.has_arrivals() && self.late_minutes(&plan.card) == 0 {
             return Ok(plan);
         }
@@ -196,7 +218,7 @@ impl Deadlines<'_> {
     /// at a later minute the list ends no earlier. So the first minute lies between such ends and a minute at which there is a plan.
     /// Behind the last deadline every mirrored arrival moves with the minute, and so does the end: if there is no plan by then, there
     /// is none.
-    fn mirrored(&self, from: u16, call: &mut impl FnMut(&[u8]) -> Result<Vec<u8>, Refusal>) -> Result<Mirrored, Refusal> {
+    fn mirrored<E>(&self, from: u16, call: &mut impl FnMut(&[u8]) -> Result<Vec<u8>, E>) -> Result<Mirrored, E> {
         let mut low = match self.asked(from, call)? {
             None => return Ok(Mirrored::Unknown(from)),
             Some(Ok(starts)) => return Ok(Mirrored::Ends(from, starts)),
@@ -227,11 +249,7 @@ impl Deadlines<'_> {
 
     /// The starts of a plan that ends by a minute and in which nobody is late, arrivals left aside, or the minute before which none ends.
     /// None where the mirrored list cannot be written.
-    fn asked(
-        &self,
-        at: u16,
-        call: &mut impl FnMut(&[u8]) -> Result<Vec<u8>, Refusal>,
-    ) -> Result<Option<Result<Vec<u16>, u16>>, Refusal> {
+    fn asked<E>(&self, at: u16, call: &mut impl FnMut(&[u8]) -> Result<Vec<u8>, E>) -> Result<Option<Result<Vec<u16>, u16>>, E> {
         let Some(figures) = self.mirror(at) else { return Ok(None) };
         let order = Order::by(self.due.len(), |job| Reverse(self.due[job]));
         let card = self.planned(order, &figures, call)?.card;

@@ -2,8 +2,8 @@
 use crate::guarded::{Against, Guarded};
 use crate::raw_sheet::Sheet;
 use crate::{
-    card_length, earliest_end, label, label_of, plan, read, sets, size, slack, usage, version, write, Desk, Job, Refusal, Runner,
-    LONGEST_LABEL, LONGEST_SHEET, MOST_JOBS, MOST_POWER,
+    card_length, earliest_end, label, label_of, plan, plan_within, read, sets, size, slack, usage, version, write, Desk, Job,
+    Refusal, Runner, LONGEST_LABEL, LONGEST_SHEET, MOST_JOBS, MOST_POWER,
 };
 use std::ffi::{c_int, c_void};
 use std::ptr;
@@ -83,6 +83,9 @@ pub fn of_every_call() -> Vec<(&'static str, usize)> {
     let mut card = [0; card_length(MOST_JOBS)];
     let sheets = lists.map(|jobs| Sheet::of(2, jobs).bytes());
     let planning = sheets.each_ref().map(|sheet| done(|| plan(sheet, &mut card, &mut work)));
+    let limited =
+        |limit| sheets.each_ref().map(|sheet| done(|| plan_within(sheet, &mut [0; card_length(MOST_JOBS)], &mut [], limit)));
+    let within = [limited(0), limited(1 << 20)].concat();
     let ends = sheets.each_ref().map(|sheet| done(|| earliest_end(sheet, &mut work)));
     let uses = sheets.each_ref().map(|sheet| done(|| usage(sheet, &mut work)));
     let slacks = sheets.each_ref().map(|sheet| done(|| slack(sheet, &mut work)));
@@ -105,6 +108,7 @@ pub fn of_every_call() -> Vec<(&'static str, usize)> {
     vec![
         ("depot_version", done(|| Ok(version()))),
         ("depot_plan", planning[0].max(planning[1])),
+        ("depot_plan_within", within.into_iter().max().expect("there are sheets")),
         ("depot_end", ends[0].max(ends[1])),
         ("depot_use", uses[0].max(uses[1])),
         ("depot_slack", slacks[0].max(slacks[1])),

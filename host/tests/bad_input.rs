@@ -299,6 +299,24 @@ fn words() {
         &["plan", "a", "--start", "1:00", "--start", "2:00"],
         "depot plan: --start stands twice; 'depot plan --help' shows what it takes\n",
     );
+    for name in ["", "a\u{1b}[1mb", "a\nb", "a\u{202e}b", &"x".repeat(61)] {
+        let allowed = "allowed is a name of 1 to 60 characters, none of which is a control character";
+        let shown: String =
+            name.chars().map(|c| if c.is_control() { c.escape_debug().to_string() } else { c.to_string() }).collect();
+        for verb in ["plan", "run"] {
+            let said = format!("depot {verb}: --depot: found '{shown}'; {allowed}; 'depot {verb} --help' shows what it takes\n");
+            usage(&[verb, "a", "--depot", name], &said);
+        }
+    }
+    for date in ["", "17.11.2026", "2026-02-29", "2026-11-31", "26-11-17"] {
+        let allowed = "allowed is a date as 2026-11-17, from 1970 to 9999";
+        let said = format!("depot plan: --date: found '{date}'; {allowed}; 'depot plan --help' shows what it takes\n");
+        usage(&["plan", "a", "--date", date], &said);
+    }
+    usage(&["plan", "a", "--now", "20:00"], "depot plan: --now goes with --wall; 'depot plan --help' shows what it takes\n");
+    let allowed = "allowed is a time of day, as 22:45, or 00:30+1 for one on the day after the start's";
+    let said = format!("depot plan: --now: found '7h'; {allowed}; 'depot plan --help' shows what it takes\n");
+    usage(&["plan", "examples/small-depot.csv", "--wall", "-", "--now", "7h"], &said);
     usage(&["sheet", "a"], "depot sheet: -o FILE is missing; 'depot sheet --help' shows what it takes\n");
     usage(&["sheet"], "depot sheet: a list is missing; 'depot sheet --help' shows what it takes\n");
     usage(&["list"], "depot list: a sheet is missing; 'depot list --help' shows what it takes\n");

@@ -339,6 +339,131 @@ fn work_lists_and_spreadsheets() {
     assert_eq!(depot(&["plan", "-", "--work", "--raw"], &sheet).status, 2);
 }
 
+/// The depot's name and the date stand over the plan in every form; past midnight the next date too, and `+1` is that date.
+#[test]
+fn depots_and_dates() {
+    let list = "examples/mixed-night.csv";
+    let given = ["--depot", "Nord & Süd <2>", "--date", "2026-12-31"];
+    let with = |words: &[&str]| depot(&[words, &given].concat(), b"").text();
+    let words = "Nord & Süd <2>, Thu 2026-12-31 to Fri 2027-01-01";
+    let marked = "Nord &amp; Süd &lt;2&gt;, Thu 2026-12-31 to Fri 2027-01-01";
+    for form in [&["plan", list][..], &["plan", list, "--work"], &["run", list]] {
+        let plain = depot(form, b"").text();
+        let said = with(form);
+        let (first, rest) = said.split_once('\n').unwrap();
+        assert_eq!(
+            (first, rest.replace("+1 is Fri 2027-01-01.", "+1 is the day after the start's.")),
+            (words, plain),
+            "{form:?}"
+        );
+        assert_eq!(form[0] == "plan", said.contains("+1 is Fri 2027-01-01."));
+    }
+    assert!(
+        with(&["plan", list, "--json"]).starts_with("{\"depot\": \"Nord & Süd <2>\", \"date\": \"2026-12-31\", \"end\": 480, ")
+    );
+    assert!(
+        with(&["run", list, "--json"]).starts_with("{\"depot\": \"Nord & Süd <2>\", \"date\": \"2026-12-31\", \"limit_kw\": ")
+    );
+    assert_eq!(with(&["plan", list, "--raw"]), depot(&["plan", list, "--raw"], b"").text());
+    let csv = with(&["plan", list, "--csv", "-"]);
+    assert_eq!(csv, format!("# {words}\n{}", depot(&["plan", list, "--csv", "-"], b"").text()));
+    let again = depot(&["plan", "-", "--json"], csv.as_bytes());
+    assert_eq!((again.status, again.text()), (0, depot(&["plan", list, "--json"], b"").text()));
+    for (form, named) in [
+        (&["plan", list, "--svg", "-"][..], format!(">{marked}, mixed-night.csv</text>")),
+        (&["plan", list, "--html", "-"], format!("<h2>{marked}, mixed-night.csv: charging plan</h2>")),
+        (&["plan", list, "--wall", "-"], "<h1>Nord &amp; Süd &lt;2&gt;</h1>\n<p>Thu 2026-12-31 to Fri 2027-01-01, ".into()),
+        (&["run", list, "--svg", "-"], format!(">{marked}, mixed-night.csv: the night on the feeder</text>")),
+        (&["run", list, "--html", "-"], format!("<title>{marked}, mixed-night.csv: the night on the feeder</title>")),
+    ] {
+        let drawn = with(form);
+        assert!(drawn.contains(&named) && !drawn.contains("<2>"), "{form:?}: {drawn}");
+    }
+    let short = file("short.csv", b"cabinet,2\nstart,21:00\nlabel,modules,minutes,departure\nA,1,30,23:00\n");
+    assert!(depot(&["plan", &short, "--date", "2026-11-17"], b"").text().starts_with("Tue 2026-11-17\nshort.csv: 1 job "));
+    let no_start = file("no-start.csv", b"cabinet,2\nlabel,modules,minutes,departure\nA,1,1440,2880\nB,2,60,9\n");
+    assert!(depot(&["plan", &no_start, "--date", "2026-11-17"], b"").text().starts_with("Tue 2026-11-17\nno-start.csv: 2 jobs "));
+}
+
+/// The page for the wall: with a script that goes by the browser's clock, or as at a time.
+#[test]
+fn walls() {
+    golden("wall-mixed-night.html", &["plan", "examples/mixed-night.csv", "--wall", "-"], 0);
+    let road = "examples/on-the-road.csv";
+    let asked = ["plan", road, "--wall", "-", "--now", "23:21", "--depot", "North depot", "--date", "2026-11-17"];
+    golden("wall-on-the-road.html", &asked, 0);
+    let page = |list: &str, words: &[&str]| depot(&[&["plan", list, "--wall", "-"], words].concat(), b"").text();
+    let shown = |page: &str, sign: &str| {
+        let lines: Vec<String> =
+            page.lines().filter(|line| line.starts_with(sign) && !line.contains(" hidden")).map(String::from).collect();
+        lines
+    };
+    let labels = |lines: &[String]| -> Vec<String> {
+        lines.iter().map(|line| line.split("<b>").nth(1).unwrap().split("</b>").next().unwrap().to_string()).collect()
+    };
+    let mixed = "examples/mixed-night.csv";
+    // at each minute those are on charge whose job the table has then, and a turn stays for five minutes
+    let json = depot(&["plan", mixed, "--json"], b"").text();
+    let figure = |job: &str, name: &str| -> u32 {
+        job.split(&format!("\"{name}\": ")).nth(1).unwrap().split([',', '}']).next().unwrap().parse().unwrap()
+    };
+    let jobs: Vec<(String, u32, u32)> = json
+        .split("{\"job\": ")
+        .skip(1)
+        .map(|job| {
+            let label = job.split("\"label\": \"").nth(1).unwrap().split('"').next().unwrap().to_string();
+            (label, figure(job, "start"), figure(job, "end"))
+        })
+        .collect();
+    for (time, minute) in [("20:15", 0), ("21:00", 45), ("22:44", 149), ("00:35", 260), ("04:14+1", 479), ("04:20", 485)] {
+        let page = page(mixed, &["--now", time]);
+        let mut expected: Vec<String> =
+            jobs.iter().filter(|(_, start, end)| (*start..*end).contains(&minute)).map(|(label, ..)| label.clone()).collect();
+        let mut found = labels(&shown(&page, "<li data-from="));
+        expected.sort();
+        found.sort();
+        assert_eq!(found, expected, "{time}");
+        let next = jobs.iter().filter(|(_, start, _)| *start > minute).count();
+        assert_eq!(shown(&page, "<li data-start=").len(), next.min(3), "{time}");
+        let turns = shown(&page, "<li data-at=");
+        assert!(turns.iter().all(|line| line.split('"').nth(1).unwrap().parse::<u32>().unwrap() + 5 > minute), "{time}");
+        assert_eq!(
+            turns.iter().filter(|line| line.contains("<small>now</small>")).count(),
+            usize::from([0, 45, 260, 479].contains(&minute))
+        );
+        assert_eq!((page.contains("<script"), page.contains("id=\"over\" class=\"said\">")), (false, minute == 485), "{time}");
+    }
+    let early = page(mixed, &["--now", "19:50"]);
+    assert!(
+        early.contains("<p id=\"before\" class=\"said\">The plan starts at 20:15.</p>")
+            && early.contains("<small>in 25 min</small>")
+    );
+    assert!(early.contains("<time id=\"clock\">19:50</time>"));
+    // without a date the script takes a time of day; with one, milliseconds of that day; none where the day cannot be told
+    assert!(page(mixed, &[]).contains("var plan = {start: 1215, end: 480, day: null, "));
+    assert!(page(mixed, &["--date", "1970-01-02"]).contains("var plan = {start: 1215, end: 480, day: 86400000, "));
+    let long = file("long.csv", b"cabinet,1\nstart,20:00\nlabel,modules,minutes,departure\nA,1,1440,1\n<b>,1,9,2880\n");
+    let standing = page(&long, &[]);
+    assert!(!standing.contains("<script") && standing.contains("20:00+1") && standing.contains("&lt;b&gt;"), "{standing}");
+    assert!(page(&long, &["--date", "2026-11-17"]).contains("<script"));
+    let sheet = depot(&["sheet", mixed, "-o", "-"], b"").output;
+    let bare = depot(&["plan", "-", "--wall", "-", "--now", "46"], &sheet).text();
+    assert!(!bare.contains("<script") && bare.contains("<time id=\"clock\">0:46</time>"), "{bare}");
+    for (minute, clock) in [("1400", "23:20"), ("4294967295", "71582788:15")] {
+        let over = depot(&["plan", "-", "--wall", "-", "--now", minute], &sheet).text();
+        assert!(
+            over.contains(&format!("<time id=\"clock\">{clock}</time>")) && over.contains("id=\"over\" class=\"said\">"),
+            "{over}"
+        );
+    }
+    assert!(page(mixed, &["--now", "20:15+99"]).contains("<time id=\"clock\">20:15</time>"));
+    let none = depot(&["plan", "-", "--wall", "-"], &[0, 0, 0, 0, 0, 0, 1, 0, 0, 0]);
+    assert_eq!((none.status, none.text().matches(">nobody</li>").count()), (0, 2));
+    for outside in ["http:", "https:", "src=", "href=", "@import", "NaN", "inf"] {
+        assert!(!page(mixed, &[]).contains(outside), "the page has {outside}");
+    }
+}
+
 /// A file that is standard output is all that goes there.
 #[test]
 fn files_to_standard_output() {

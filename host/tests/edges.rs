@@ -6,7 +6,7 @@ use depot_host::plain_search::{mislead, GROUP};
 use depot_host::raw_sheet::Sheet;
 use depot_host::reference::runner::Follower;
 use depot_host::{
-    card_length, ffi, reference, Desk, Job, Runner, LONGEST_CARD, LONGEST_LABEL, LONGEST_SHEET, MOST_JOBS, MOST_POWER,
+    card_length, ffi, reference, Desk, Job, Runner, LONGEST_CARD, LONGEST_LABEL, LONGEST_SHEET, MOST_JOBS, MOST_POWER, NO_LIMIT,
 };
 use std::ptr::null_mut;
 
@@ -216,6 +216,37 @@ fn slacks() {
             assert_eq!(answer, expected, "sheet {sheet:02x?}");
             let cleared = if answer.refusal == 0 { vec![0; work_length] } else { Vec::new() };
             assert!(work.has(&cleared) && lent.has(&sheet), "sheet {sheet:02x?}");
+        }
+    }
+}
+
+#[test]
+fn plans_within_a_limit() {
+    let zeros = [0; 64];
+    for sheet in edge_sheets() {
+        let n = reference::reading::read(&sheet).map_or(0, |sheet| sheet.jobs.len());
+        for limit in [0, 1, NO_LIMIT] {
+            for room in [card_length(n) - 1, card_length(n)] {
+                let expected = reference::planning::plan(&sheet, room);
+                for work_length in [0, 1, 64] {
+                    let (lent, card, work) = (Lent::of(&sheet), Lent::painted(room), Lent::painted(work_length));
+                    // SAFETY: three buffers of their own.
+                    let answer =
+                        unsafe { ffi::depot_plan_within(lent.at(), lent.len(), card.at(), room, work.at(), work_length, limit) };
+                    let about = format!("sheet {sheet:02x?}, limit {limit}, room {room}");
+                    assert_eq!(answer.refusal, refusal(&expected), "{about}");
+                    let cleared = if answer.refusal == 0 { &zeros[..work_length] } else { &[] };
+                    assert!(work.has(cleared) && lent.has(&sheet), "{about}");
+                    match expected {
+                        Err(_) => assert!(card.has(&[]) && (answer.end, answer.bound, answer.exact) == (0, 0, 0), "{about}"),
+                        Ok(ref bytes) => {
+                            assert!(answer.exact == 1 || limit < NO_LIMIT, "{about}");
+                            assert!(answer.exact == 0 || card.has(bytes), "{about}");
+                            assert!(answer.bound <= answer.end, "{about}");
+                        }
+                    }
+                }
+            }
         }
     }
 }
@@ -616,6 +647,8 @@ fn empty_buffers_may_have_any_pointer() {
     unsafe {
         assert_eq!(ffi::depot_plan(null_mut(), 0, null_mut(), 0, null_mut(), 0), 1);
         assert_eq!(ffi::depot_end(null_mut(), 0, null_mut(), 0).refusal, 1);
+        let limited = ffi::Limited { refusal: 1, end: 0, bound: 0, exact: 0 };
+        assert_eq!(ffi::depot_plan_within(null_mut(), 0, null_mut(), 0, null_mut(), 0, 0), limited);
         assert_eq!(ffi::depot_size(null_mut(), 0, 0, null_mut(), 0, null_mut(), 0), ffi::Sized { refusal: 1, modules: 0 });
         assert_eq!(ffi::depot_use(null_mut(), 0, null_mut(), 0), ffi::Usage { refusal: 1, per_mille: 0, remainder: 0 });
         assert_eq!(ffi::depot_slack(null_mut(), 0, null_mut(), 0).refusal, 1);

@@ -90,12 +90,14 @@ fn in_c(name: &str) -> String {
         "u8" => "uint8_t",
         "u16" => "uint16_t",
         "u32" => "uint32_t",
+        "u64" => "uint64_t",
         "i32" => "int32_t",
         "usize" => "size_t",
         "Job" => "struct depot_job",
         "Reading" => "struct depot_reading",
         "LabelPlace" => "struct depot_label_place",
         "Earliest" => "struct depot_earliest",
+        "Limited" => "struct depot_limited",
         "Usage" => "struct depot_usage",
         "Written" => "struct depot_written",
         "Desk" => "struct depot_desk",
@@ -167,7 +169,7 @@ fn constant(text: &str, name: &str) -> usize {
 #[test]
 fn calls_agree() {
     let declared = c_calls();
-    assert_eq!(declared.len(), 18);
+    assert_eq!(declared.len(), 19);
     assert_eq!(calls(&source("crates/depot/src/lib.rt")), declared);
     assert_eq!(calls(&source("host/src/ffi.rs")), declared);
 }
@@ -177,6 +179,7 @@ fn structs_agree() {
     let files = [
         ("Job", "crates/sheet_format/src/lib.rt", "host/src/sheet.rs"),
         ("Earliest", "crates/earliest/src/lib.rt", "host/src/ffi.rs"),
+        ("Limited", "crates/limited/src/lib.rt", "host/src/ffi.rs"),
         ("Usage", "crates/usage/src/lib.rt", "host/src/ffi.rs"),
         ("Reading", "crates/sheet/src/lib.rt", "host/src/ffi.rs"),
         ("LabelPlace", "crates/sheet/src/lib.rt", "host/src/ffi.rs"),
@@ -216,6 +219,7 @@ fn sizes_agree() {
     let sizes = [
         ("Job", size_of::<Job>()),
         ("Earliest", size_of::<ffi::Earliest>()),
+        ("Limited", size_of::<ffi::Limited>()),
         ("Usage", size_of::<ffi::Usage>()),
         ("Reading", size_of::<ffi::Reading>()),
         ("LabelPlace", size_of::<ffi::LabelPlace>()),
@@ -359,7 +363,7 @@ fn stack_is_within_the_header_s_figures() {
     assert_eq!(measured.len(), c_calls().len());
     for (call, bytes) in measured {
         let figure = match call {
-            "depot_plan" | "depot_end" | "depot_use" | "depot_slack" => "DEPOT_PLAN_STACK",
+            "depot_plan" | "depot_plan_within" | "depot_end" | "depot_use" | "depot_slack" => "DEPOT_PLAN_STACK",
             "depot_size" => "DEPOT_SIZE_STACK",
             "depot_sets" => "DEPOT_SETS_STACK",
             "depot_runner_start" | "depot_runner_step" => "DEPOT_RUNNER_STACK",

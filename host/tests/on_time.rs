@@ -123,6 +123,42 @@ fn mirrored_lists_say_when_nobody_is_late() {
     assert!(counts[2] + counts[3] <= 1_000, "few are left open: {counts:?}");
 }
 
+/// A caller who waits for so many answers only: the plan up to there is valid, ends as early, and no further call leaves more late minutes.
+#[test]
+fn calls_that_are_not_waited_for() {
+    let mut random = Random::new(SEED);
+    let mut stopped = 0;
+    for _ in 0..2_000 {
+        let mut sheet = sheets::good(&mut random);
+        let end = earliest_end(&sheet.bytes(), &mut []).expect("a good sheet");
+        with_departures(&mut random, &mut sheet.jobs, end);
+        let list = sheet.bytes();
+        let figures = read(&list).unwrap();
+        let deadlines = Deadlines::of(&list, &figures);
+        let (best, known) = deadlines.plan(call).unwrap();
+        let mut last = None;
+        for answers in 0..100 {
+            let mut left = answers;
+            let waiting = |sheet: &[u8]| {
+                left = usize::checked_sub(left, 1).ok_or(())?;
+                Ok::<_, ()>(call(sheet).expect("a plan"))
+            };
+            let (plan, found) = deadlines.improved(deadlines.first(call).unwrap(), waiting);
+            let late = deadlines.late_minutes(&plan.card);
+            assert!(plan.card.end == end && is_valid(&list, &plan), "{list:02x?}");
+            assert!(last.is_none_or(|last| late <= last), "{list:02x?}");
+            last = Some(late);
+            if let Ok(found) = found {
+                assert_eq!((plan.card, found), (best.card, known), "{list:02x?}");
+                break;
+            }
+            stopped += 1;
+        }
+    }
+    println!("{stopped} were stopped");
+    assert!(stopped >= 1_000);
+}
+
 /// Larger lists, where every order is too many: the answers agree with each other.
 #[test]
 fn larger_lists() {

@@ -59,6 +59,27 @@ fn no_rule_changes_an_answer_where_modules_rest() {
     assert!(that_bite(compare::search::compare_changeovers, 4_000, &Rules::each_left_out()) > 2_000);
 }
 
+/// On how many of the sheets each rule alone makes the search shorter.
+fn cuts_of(rules: &[(&str, Rules)], of_sheets: impl Iterator<Item = Vec<bool>>) -> Vec<usize> {
+    let mut cuts = vec![0; rules.len()];
+    of_sheets.for_each(|of_sheet| cuts.iter_mut().zip(of_sheet).for_each(|(cuts, cut)| *cuts += usize::from(cut)));
+    rules.iter().zip(&cuts).for_each(|((name, _), cuts)| println!("{name}: shorter on {cuts}"));
+    cuts
+}
+
+/// A comparison tells nothing of a rule that never cuts there: on sheets of up to 7 jobs, against every order, all but the lanes do, whose
+/// values are chosen from 9 jobs on. On lists of 9, against the search without cuts, all do.
+#[test]
+fn every_rule_cuts_where_it_is_compared() {
+    let rules = Rules::each_alone();
+    let mut random = Random::new(2_027);
+    let small = cuts_of(&rules, (0..4_000).map(|_| compare::search::compare_cuts(&mut random, &rules)));
+    assert!(rules.iter().zip(small).all(|((name, _), cuts)| cuts >= 500 || *name == "lanes"));
+    let families = families::all();
+    let larger = cuts_of(&rules, families.iter().step_by(3).map(|family| compare::search::compare_cuts_of(family, 1, &rules)));
+    assert!(rules.iter().zip(larger).all(|(_, cuts)| cuts >= 2));
+}
+
 #[test]
 fn order_and_end_are_the_library_s_where_modules_rest() {
     every_family(8, compare::search::compare_resting);

@@ -23,6 +23,7 @@ use Rattle.usage.proofs.Promised.{use-number, use-refused, use-passed}
 use Rattle.job_sets.proofs.Answers.{sets-number}
 use Rattle.slack.specs.Slack.{slacks}
 use Rattle.slack.proofs.Promised.{slack-number}
+use Rattle.limited.proofs.Promised.{limited-answered}
 use Rattle.sizing.specs.Sizing.{sizeChecks, sizeRefusal, sizeCardAfter, sizeWorkAfter}
 use Rattle.sizing.proofs.Refusals.{size-refused}
 use Rattle.desk.specs.declared.Desk.{Desk}
@@ -89,6 +90,7 @@ every-answer-is-right = record {
   rewritten = λ s out bytes e room. (read-is-written s bytes e out room, read-is-written-bytes s bytes e out room);
   valid = λ s card e. plan-answered s card e .1 .valid;
   tie-ruled = λ s card e. let a = plan-answered s card e in (a .0, a .1 .best, a .1 .written);
+  limited = limited-answered;
   claims = λ d r c l k one. claim-granted-when d (reachable-by-calls d .1 r) c l k one;
   holdings = λ limit assured ceilings e calls c. holdings-add-up limit assured ceilings e calls c;
   within = λ limit assured ceilings e calls. holdings-within limit assured ceilings e calls;

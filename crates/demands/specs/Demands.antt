@@ -1,8 +1,8 @@
 -- The demands R-1, R-2 and R-3 (docs/REQUIREMENTS.md), a record each. A sentence is one field or a few; ../proofs/Demands.antt proves them.
 --
 -- They speak of definitions. That the calls answer by these definitions, for whatever bytes and numbers they are lent, is the contract of
--- each call in crates/depot/src/lib.rt: depot_plan answers `planRefusal` and leaves `cardAfter` and `memoryAfter`, depot_size answers
--- `sizeAnswer`, with `sizeRefusal`, and leaves `sizeCardAfter` and `sizeWorkAfter`; depot_end answers `endAnswer`, depot_use `usage`,
+-- each call in crates/depot/src/lib.rt: depot_plan answers `planRefusal` and leaves `cardAfter` and `memoryAfter`, depot_plan_within
+-- refuses with `planRefusal` and leaves `LimitedCard` and `memoryAfter`, depot_size answers `sizeAnswer`, with `sizeRefusal`, and leaves `sizeCardAfter` and `sizeWorkAfter`; depot_end answers `endAnswer`, depot_use `usage`,
 -- depot_slack `slacks`, depot_sets `setsAnswer`, and all of these but the last leave `workAfter`; depot_read answers `reading`, depot_label
 -- `labelPlace`, depot_write `writeAnswer` and leaves `writeLeaves`; the desk's calls answer `opened`, `changed`, `claimed`, `handedBack` and
 -- `looked`, and opening where firmware keeps desk d leaves `openedOver d`;
@@ -31,6 +31,7 @@ use Rattle.card.specs.Card.{cardSize, cardOf}
 use Rattle.planable.specs.Planable.{sheetIn, planableChecks, planableRefusal, workAfter}
 use Rattle.planner.specs.Planning.{planChecks, planRefusal, cardAfter, memoryAfter}
 use Rattle.planner.specs.Planned.{ourPlan}
+use Rattle.limited.specs.Promised.{LimitedAnswered}
 use Rattle.sizing.specs.Sizing.{sizeChecks, sizeRefusal, sizeCardAfter, sizeWorkAfter}
 use Rattle.earliest.specs.Earliest.{endAnswer}
 use Rattle.usage.specs.Usage.{useChecks, useRefusal, usage}
@@ -105,6 +106,8 @@ pub record EveryAnswerIsRight : Type 0 where
   -- R-2.4: it is the one that the tie rule names, and the card's bytes are its
   pub tie-ruled : (s card : List ℕ) → planRefusal s (length card) ≡ 0
       → (order : List ℕ) × Best (sheetIn s) order × (cardAfter s card ≡ cardOf (sheetIn s) order ++ drop (cardSize (sheetIn s .jobs)) card)
+  -- P-26, P-27: the plan of an answered call with a limit is valid, no valid plan ends before its bound, and marked it is planning's
+  pub limited : LimitedAnswered
   -- R-2.5: a claim of 1 or more is granted if and only if the two sums allow it
   pub claims : (d : Desk) → LeftByCalls d → (c : ℕ) → c < d .count → (k : ℕ) → 1 ≤ k
       → (claimed d c k .refusal ≡ 0) ↔ ((holding d c + k ≤ ceilingOf d c) × (holding d c + k + reservedForOthers d c ≤ d .limit))

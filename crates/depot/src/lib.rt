@@ -5,6 +5,7 @@ use desk::Desk;
 use earliest::Earliest;
 use job_sets::SetCount;
 use lent::Looked;
+use limited::Limited;
 use runner::Runner;
 use runner::Started;
 use runner::Stepped;
@@ -18,7 +19,8 @@ use usage::Usage;
 ghost use mathlib.Core.Path.{_≡_};
 ghost use lib.ListN.{length};
 ghost use Rattle.planner.specs.Planning.{planRefusal, cardAfter, memoryAfter};
-ghost use Rattle.planable.specs.Planable.{planableRefusal, workAfter};
+ghost use Rattle.planable.specs.Planable.{sheetIn, planableRefusal, workAfter};
+ghost use Rattle.limited.specs.Limited.{refusedWith, LimitedCard};
 ghost use Rattle.earliest.specs.Earliest.{endAnswer};
 ghost use Rattle.job_sets.specs.Results.{setsAnswer};
 ghost use Rattle.sizing.specs.Sizing.{sizeAnswer, sizeCardAfter, sizeWorkAfter};
@@ -35,8 +37,8 @@ ghost use Rattle.depot.specs.Version.{version};
 
 // ---- the version
 
-// 0.13.1
-const VERSION: u32 = 13001;
+// 0.14.0
+const VERSION: u32 = 14000;
 
 // The number of this library's version; the header has the same.
 #[no_mangle]
@@ -57,6 +59,25 @@ pub extern "C" fn depot_plan(sheet: &[u8], card: &mut [u8], work: &mut [u8]) -> 
     ensures work { λ _. ⌜ now (work .exit) ≡ memoryAfter (now (sheet .entry)) (length (now (card .entry))) (now (work .entry)) ⌝ }
 {
     planner::plan(sheet, card, work)
+}
+
+// Planning with a limit: the search gives up after about so many part-plans, at UINT64_MAX never. Answered, or the first refusal of 1 to 10
+// and 19. Answered, the card of a valid plan is at the front of the lent card and the working memory is all zero; no valid plan ends before
+// the bound, and where the mark is 1 the card is planning's. Refused, every lent byte is as before. The three buffers do not overlap.
+#[no_mangle]
+pub extern "C" fn depot_plan_within(
+    sheet: &[u8],
+    card: &mut [u8],
+    work: &mut [u8],
+    limit: u64,
+) -> Limited
+    ensures refused { λ r. ⌜ (¬ (planRefusal (now (sheet .entry)) (length (now (card .entry))) ≡ 0)
+        → (r ≡ refusedWith (planRefusal (now (sheet .entry)) (length (now (card .entry))))) × (now (card .exit) ≡ now (card .entry))) ⌝ }
+    ensures answered { λ r. ⌜ (planRefusal (now (sheet .entry)) (length (now (card .entry))) ≡ 0
+        → LimitedCard (sheetIn (now (sheet .entry))) (now (card .entry)) (now (card .exit)) limit r) ⌝ }
+    ensures work { λ _. ⌜ now (work .exit) ≡ memoryAfter (now (sheet .entry)) (length (now (card .entry))) (now (work .entry)) ⌝ }
+{
+    limited::plan_limited(sheet, card, work, limit)
 }
 
 // The end alone: that of the plan that planning gives, or the first refusal of 1 to 9 and 19. Answered, the working memory is all zero;

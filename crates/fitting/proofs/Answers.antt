@@ -21,7 +21,6 @@ use Rattle.weights.specs.Weights.{Put}
 use Rattle.lanes.specs.Lanes.{servedOn, Serving}
 use Rattle.lanes.proofs.Laws.{div-rises}
 use Rattle.fitting.specs.declared.Frame.{Frame}
-use Rattle.fitting.specs.declared.ordering.Left.{Left}
 use Rattle.fitting.specs.Fitting.{cells, releaseAt, Ordered, AllAmong, Framed, HasRoom, FitsIn, RowOf, reachBy, Tabling, OverfullFrom}
 use Rattle.fitting.proofs.Tables.{column}
 
@@ -143,11 +142,11 @@ release-from at l k m = go (true-or-false (eqb (getD at k 0) noMinute))
     go (inl e) = rw e (le-refl l)
     go (inr e) = rw e m
 
-pub tabling : {t : List ℕ} (p : Part) {f : Frame} {left : Left} (at : List ℕ) {old release : List ℕ} {l gone free : ℕ} → Fit t
-    → Put (λ k. k) old release mostJobs (releaseAt at l) → f .least ≡ l → Framed f → HasRoom f (left .count)
-    → Ordered (λ k. getD release k 0) (countOf t) (left .order) (left .count)
-    → AllAmong (p .unplaced) (countOf t) (left .order) (left .count) → ((k : ℕ) → k < countOf t → l ≤ getD at k 0)
-    → ProfileOf p gone free (modulesOf t) l → Tabling t p f left release gone free
+pub tabling : {t : List ℕ} (p : Part) {f : Frame} {order : List ℕ} {n : ℕ} (at : List ℕ) {old release : List ℕ} {l gone free : ℕ} → Fit t
+    → Put (λ k. k) old release mostJobs (releaseAt at l) → f .least ≡ l → Framed f → HasRoom f n
+    → Ordered (λ k. getD release k 0) (countOf t) order n
+    → AllAmong (p .unplaced) (countOf t) order n → ((k : ℕ) → k < countOf t → l ≤ getD at k 0)
+    → ProfileOf p gone free (modulesOf t) l → Tabling t p f order n release gone free
 tabling p at {l = l} fit put e framed room ordered all starts profile = record {
   fit = fit;
   framed = framed;

@@ -13,7 +13,6 @@ use Rattle.tables.specs.Part.{Part}
 use Rattle.placement.specs.Profile.{ProfileOf}
 use Rattle.lanes.specs.Lanes.{servedOn}
 use Rattle.fitting.specs.declared.Frame.{Frame}
-use Rattle.fitting.specs.declared.ordering.Left.{Left}
 
 -- ---- figures
 
@@ -22,7 +21,7 @@ abbrev pub cells : ℕ
 cells = 6144
 
 abbrev pub slateSize : ℕ
-slateSize = cells + mostJobs + 2 * (mostJobs + 1)
+slateSize = cells + mostJobs + 4 * (mostJobs + 2) + 1
 
 -- what a job's value is at most
 abbrev pub topValue : ℕ
@@ -104,12 +103,12 @@ abbrev pub reachBy : Frame → (ℕ → ℕ) → ℕ → ℕ
 reachBy f row x = row (min x (f .close - f .least) / f .step)
 
 -- what a table asks of its figures
-pub record Tabling (t : List ℕ) (p : Part) (f : Frame) (left : Left) (release : List ℕ) (gone free : ℕ) : Type 0 where
+pub record Tabling (t : List ℕ) (p : Part) (f : Frame) (order : List ℕ) (n : ℕ) (release : List ℕ) (gone free : ℕ) : Type 0 where
   pub fit : Fit t
   pub framed : Framed f
-  pub room : HasRoom f (left .count)
-  pub ordered : Ordered (λ k. getD release k 0) (countOf t) (left .order) (left .count)
-  pub all : AllAmong (p .unplaced) (countOf t) (left .order) (left .count)
+  pub room : HasRoom f n
+  pub ordered : Ordered (λ k. getD release k 0) (countOf t) order n
+  pub all : AllAmong (p .unplaced) (countOf t) order n
   pub released : (k : ℕ) → k < countOf t → f .least ≤ getD release k 0
   pub profile : ProfileOf p gone free (modulesOf t) (f .least)
 

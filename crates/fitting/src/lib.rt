@@ -11,7 +11,6 @@ ghost use Rattle.placement.specs.Profile.{ProfileOf};
 ghost use Rattle.lanes.specs.Lanes.{mostServed};
 ghost use Rattle.fitting.specs.Fitting.{slateSize, releaseAt, Framed, HasRoom, Tabling, OverfullFrom};
 use figures::MOST_JOBS;
-use ordering::Left;
 use tables::Jobs;
 use tables::Part;
 
@@ -26,8 +25,8 @@ mod valuing;
 pub const CELLS: usize = 6144;
 
 // What the bound reckons on, lent: the rows of a table one behind another; from CELLS on the share of each job, of which its value is made;
-// and behind them what tables of so many jobs have paid.
-pub const SLATE_PLACES: usize = CELLS + MOST_JOBS + 2 * (MOST_JOBS + 1);
+// and behind them the accounts of what tables have paid.
+pub const SLATE_PLACES: usize = CELLS + MOST_JOBS + 4 * paying::ACCOUNTS + 1;
 
 pub type Slate = [u16; SLATE_PLACES];
 
@@ -72,27 +71,20 @@ fn gap(
     jobs: &Jobs,
     part: &Part,
     frame: Frame,
-    left: Left,
+    order: &[usize; MOST_JOBS],
+    count: usize,
     release: &[u16; MOST_JOBS],
     gone: usize,
     free: u16,
 ) -> u32
-    requires { ⌜ (Tabling (now jobs) (partIn (now part)) frame left (now release) gone free) × (length (now slate) ≡ slateSize) ⌝ }
+    requires { ⌜ (Tabling (now jobs) (partIn (now part)) frame (now order) count (now release) gone free) × (length (now slate) ≡ slateSize) ⌝ }
     ensures over { λ r. ⌜ (r ≡ 0 → OverfullFrom (now (jobs .entry)) (partIn (now (part .entry))) (λ k. getD (now (release .entry)) k 0)
         (frame .least) (frame .close)) ⌝ }
     ensures size { λ _. ⌜ length (now (slate .exit)) ≡ length (now (slate .entry)) ⌝ }
 {
     let unplaced = tables::unplaced(part);
     let value = valuing::values_of(slate, jobs, unplaced, frame.step);
-    let base = serving::fill_rows(
-        slate,
-        jobs,
-        frame,
-        &left.order,
-        left.count,
-        release,
-        &value.of,
-    );
+    let base = serving::fill_rows(slate, jobs, frame, order, count, release, &value.of);
     let served = serving::served(slate, base, frame, jobs, part, gone, free);
     gap_of(served, valuing::worth_of(jobs, &value.of))
 }
@@ -106,26 +98,71 @@ fn shown(
     jobs: &Jobs,
     part: &Part,
     frame: Frame,
-    left: Left,
+    order: &[usize; MOST_JOBS],
+    count: usize,
     release: &[u16; MOST_JOBS],
     gone: usize,
     free: u16,
 ) -> bool
-    requires { ⌜ (Tabling (now jobs) (partIn (now part)) frame left (now release) gone free) × (length (now slate) ≡ slateSize) ⌝ }
+    requires { ⌜ (Tabling (now jobs) (partIn (now part)) frame (now order) count (now release) gone free) × (length (now slate) ≡ slateSize) ⌝ }
     ensures over { λ r. ⌜ (r ≡ true → OverfullFrom (now (jobs .entry)) (partIn (now (part .entry))) (λ k. getD (now (release .entry)) k 0)
         (frame .least) (frame .close)) ⌝ }
     ensures size { λ _. ⌜ length (now (slate .exit)) ≡ length (now (slate .entry)) ⌝ }
 {
     let mut turns: usize = 0;
     while turns < TURNS {
-        let above = gap(slate, jobs, part, frame, left, release, gone, free);
+        let above = gap(slate, jobs, part, frame, order, count, release, gone, free);
         if above == 0 {
             return true;
         }
-        turning::turn(slate, jobs, part, frame, left, release, gone, free, above);
+        turning::turn(
+            slate,
+            jobs,
+            part,
+            frame,
+            order,
+            count,
+            release,
+            gone,
+            free,
+            above,
+        );
         turns += 1;
     }
-    gap(slate, jobs, part, frame, left, release, gone, free) == 0
+    gap(slate, jobs, part, frame, order, count, release, gone, free) == 0
+}
+
+// Whether a table shows it of the unplaced jobs, where no job starts before its start in `at`.
+fn tabled(
+    slate: &mut Slate,
+    jobs: &Jobs,
+    part: &Part,
+    at: &[u16; MOST_JOBS],
+    gone: usize,
+    free: u16,
+    least: u16,
+    close: u16,
+) -> bool
+    requires { ⌜ (((Fit (now jobs)) × (length (now slate) ≡ slateSize)) × (least ≤ close))
+        × (((k : ℕ) → k < countOf (now jobs) → least ≤ getD (now at) k 0)
+        × (ProfileOf (partIn (now part)) gone free (modulesOf (now jobs)) least)) ⌝ }
+    ensures over { λ r. ⌜ (r ≡ true → OverfullFrom (now (jobs .entry)) (partIn (now (part .entry))) (releaseAt (now (at .entry)) least) least close) ⌝ }
+    ensures size { λ _. ⌜ length (now (slate .exit)) ≡ length (now (slate .entry)) ⌝ }
+{
+    let release = ordering::releases_of(at, least);
+    let left = ordering::ordered(&release.of, tables::unplaced(part), tables::count(jobs));
+    let frame = frame_of(left.count, least, close);
+    shown(
+        slate,
+        jobs,
+        part,
+        frame,
+        &left.order,
+        left.count,
+        &release.of,
+        gone,
+        free,
+    )
 }
 
 // The fewest jobs of which a table is made.
@@ -153,26 +190,25 @@ pub fn overfull(
     if close < least {
         return false;
     }
-    let release = ordering::releases_of(at, least);
-    let left = ordering::ordered(&release.of, tables::unplaced(part), tables::count(jobs));
-    let count = left.count;
-    if count < FEWEST {
+    let account = paying::account_of(tables::unplaced(part));
+    if account < FEWEST {
+        paying::pass(slate, FEWEST);
         return false;
     }
-    if !paying::pays(slate, count) {
+    paying::enter(slate, account);
+    if !paying::pays(slate, account) {
         return false;
     }
-    let frame = frame_of(count, least, close);
-    let over = shown(slate, jobs, part, frame, left, &release.of, gone, free);
-    paying::note(slate, count, over);
+    let over = tabled(slate, jobs, part, at, gone, free, least, close);
+    paying::note(slate, account, over);
     over
 }
 
-// Sets shares and credits before the first part-plan.
+// Sets shares and accounts before the first part-plan.
 pub fn begin(slate: &mut Slate, jobs: &Jobs)
     requires { ⌜ Fit (now jobs) ⌝ }
     ensures { λ _. ⌜ length (now (slate .exit)) ≡ length (now (slate .entry)) ⌝ }
 {
     valuing::put_shares(slate, jobs);
-    paying::put_credits(slate);
+    paying::begin(slate);
 }

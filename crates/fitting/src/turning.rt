@@ -9,7 +9,6 @@ ghost use Rattle.fitting.specs.Fitting.{mostMove, Within};
 use super::CELLS;
 use super::Frame;
 use super::Slate;
-use super::ordering::Left;
 use super::serving::minutes_from;
 use figures::MOST_JOBS;
 use tables::Jobs;
@@ -79,11 +78,11 @@ fn steps_left(x: usize, room: usize, lasts: usize) -> usize {
 }
 
 // The i-th job.
-fn job_at(left: Left, i: usize) -> usize
-    requires { ⌜ (Within (left .order) (left .count)) × (i < left .count) ⌝ }
+fn job_at(order: &[usize; MOST_JOBS], count: usize, i: usize) -> usize
+    requires { ⌜ (Within (now order) count) × (i < count) ⌝ }
     ensures { λ r. ⌜ r < mostJobs ⌝ }
 {
-    left.order[i]
+    order[i]
 }
 
 // A step back through the rows.
@@ -110,23 +109,24 @@ fn traced(
     slate: &Slate,
     jobs: &Jobs,
     frame: Frame,
-    left: Left,
+    order: &[usize; MOST_JOBS],
+    count: usize,
     release: &[u16; MOST_JOBS],
     lanes: Lanes,
     t: u16,
     more: u16,
 ) -> Lanes
-    requires { ⌜ (0 < frame .step) × (Within (left .order) (left .count)) ⌝ }
+    requires { ⌜ (0 < frame .step) × (Within (now order) count) ⌝ }
 {
     if more == 0 {
         return lanes;
     }
     let mut next = lanes.of;
     let mut x = values::steps(minutes_from(t, frame.close), frame.step as u32);
-    let mut i = left.count;
+    let mut i = count;
     while 0 < i {
         i -= 1;
-        let j = job_at(left, i);
+        let j = job_at(order, count, i);
         let step = step_back(slate, frame, i, x, tables::kept(jobs, j), release[j]);
         next[j] = more_lanes(next[j], more, step.taken);
         x = step.x;
@@ -140,24 +140,35 @@ fn lanes_of(
     jobs: &Jobs,
     part: &Part,
     frame: Frame,
-    left: Left,
+    order: &[usize; MOST_JOBS],
+    count: usize,
     release: &[u16; MOST_JOBS],
     gone: usize,
     free: u16,
 ) -> Lanes
-    requires { ⌜ ((0 < frame .step) × (Within (left .order) (left .count)))
+    requires { ⌜ ((0 < frame .step) × (Within (now order) count))
         × (partIn (now part) .placed ≤ mostJobs) ⌝ }
 {
     let none = Lanes {
         of: [0u16; MOST_JOBS],
     };
     let placed = tables::placed(part);
-    let mut lanes = traced(slate, jobs, frame, left, release, none, frame.least, free);
+    let mut lanes = traced(
+        slate,
+        jobs,
+        frame,
+        order,
+        count,
+        release,
+        none,
+        frame.least,
+        free,
+    );
     let mut i = gone;
     while i < placed {
         let t = tables::until(part, i);
         let more = tables::held(part, i);
-        lanes = traced(slate, jobs, frame, left, release, lanes, t, more);
+        lanes = traced(slate, jobs, frame, order, count, release, lanes, t, more);
         i += 1;
     }
     lanes
@@ -172,13 +183,18 @@ fn difference(a: u16, b: u16) -> u16 {
 }
 
 // The squares of the differences between the lanes that a job needs and those that serve it, summed up.
-fn squares_of(jobs: &Jobs, lanes: &[u16; MOST_JOBS], left: Left) -> u64
-    requires { ⌜ Within (left .order) (left .count) ⌝ }
+fn squares_of(
+    jobs: &Jobs,
+    lanes: &[u16; MOST_JOBS],
+    order: &[usize; MOST_JOBS],
+    count: usize,
+) -> u64
+    requires { ⌜ Within (now order) count ⌝ }
 {
     let mut total: u64 = 0;
     let mut i: usize = 0;
-    while i < left.count {
-        let j = job_at(left, i);
+    while i < count {
+        let j = job_at(order, count, i);
         let d = difference(tables::need(jobs, j), lanes[j]);
         total += counting::times(d, d) as u64;
         i += 1;
@@ -216,16 +232,17 @@ fn move_shares(
     slate: &mut Slate,
     jobs: &Jobs,
     lanes: &[u16; MOST_JOBS],
-    left: Left,
+    order: &[usize; MOST_JOBS],
+    count: usize,
     gap: u32,
     squares: u64,
 )
-    requires { ⌜ (0 < squares) × (Within (left .order) (left .count)) ⌝ }
+    requires { ⌜ (0 < squares) × (Within (now order) count) ⌝ }
     ensures { λ _. ⌜ length (now (slate .exit)) ≡ length (now (slate .entry)) ⌝ }
 {
     let mut i: usize = 0;
-    while i < left.count {
-        let j = job_at(left, i);
+    while i < count {
+        let j = job_at(order, count, i);
         let need = tables::need(jobs, j);
         let by = move_of(gap, difference(need, lanes[j]), squares);
         slate[CELLS + j] = moved(slate[CELLS + j], by, lanes[j] < need);
@@ -234,13 +251,13 @@ fn move_shares(
 }
 
 // The largest share of the jobs that are left.
-fn largest_share(slate: &Slate, left: Left) -> u16
-    requires { ⌜ Within (left .order) (left .count) ⌝ }
+fn largest_share(slate: &Slate, order: &[usize; MOST_JOBS], count: usize) -> u16
+    requires { ⌜ Within (now order) count ⌝ }
 {
     let mut largest: u16 = 0;
     let mut i: usize = 0;
-    while i < left.count {
-        let j = job_at(left, i);
+    while i < count {
+        let j = job_at(order, count, i);
         largest = counting::larger(largest, slate[CELLS + j]);
         i += 1;
     }
@@ -256,13 +273,13 @@ fn doubled(share: u16) -> u16 {
 }
 
 // Doubles the shares of the jobs that are left.
-fn double_shares(slate: &mut Slate, left: Left)
-    requires { ⌜ Within (left .order) (left .count) ⌝ }
+fn double_shares(slate: &mut Slate, order: &[usize; MOST_JOBS], count: usize)
+    requires { ⌜ Within (now order) count ⌝ }
     ensures { λ _. ⌜ length (now (slate .exit)) ≡ length (now (slate .entry)) ⌝ }
 {
     let mut i: usize = 0;
-    while i < left.count {
-        let j = job_at(left, i);
+    while i < count {
+        let j = job_at(order, count, i);
         slate[CELLS + j] = doubled(slate[CELLS + j]);
         i += 1;
     }
@@ -274,22 +291,23 @@ pub fn turn(
     jobs: &Jobs,
     part: &Part,
     frame: Frame,
-    left: Left,
+    order: &[usize; MOST_JOBS],
+    count: usize,
     release: &[u16; MOST_JOBS],
     gone: usize,
     free: u16,
     gap: u32,
 )
-    requires { ⌜ ((0 < frame .step) × (Within (left .order) (left .count)))
+    requires { ⌜ ((0 < frame .step) × (Within (now order) count))
         × (partIn (now part) .placed ≤ mostJobs) ⌝ }
     ensures { λ _. ⌜ length (now (slate .exit)) ≡ length (now (slate .entry)) ⌝ }
 {
-    let lanes = lanes_of(slate, jobs, part, frame, left, release, gone, free);
-    let squares = squares_of(jobs, &lanes.of, left);
+    let lanes = lanes_of(slate, jobs, part, frame, order, count, release, gone, free);
+    let squares = squares_of(jobs, &lanes.of, order, count);
     if 0 < squares {
-        move_shares(slate, jobs, &lanes.of, left, gap, squares);
-        if largest_share(slate, left) < LOW_SHARE {
-            double_shares(slate, left);
+        move_shares(slate, jobs, &lanes.of, order, count, gap, squares);
+        if largest_share(slate, order, count) < LOW_SHARE {
+            double_shares(slate, order, count);
         }
     }
 }

@@ -1,4 +1,4 @@
--- List plans: what a choice or a given order leads to, and what an exchange keeps.
+-- List plans: what a choice or a given order leads to, and what a move keeps.
 use mathlib.Core.Path.{_≡_, sym, ap, _∙_, subst}
 use mathlib.Core.Logic.{_⊎_, inl, inr}
 use mathlib.Core.Bool.{true, false, not}
@@ -181,7 +181,7 @@ upto-all {t} {count} {k} {target} {p} {r} u l h =
     finished-order (u .known) (omega (arith, u .placed, u .inside, u .count-is))
     (subst (λ (n : ℕ). Finished p n target r) (u .count-is) h)
 
--- ---- what an exchange keeps
+-- ---- what a move keeps
 
 -- the same order
 pub improved-none : {S : Sheet} {best : Found} → OrderOf S best → Improved S best best
@@ -194,6 +194,6 @@ improved-by {S} {best} {tried} h t (inl (e, l)) = subst (λ (x : Found). Improve
     (record { is = t (λ z. absurd (omega (arith, h .low))); no-later = l })
 improved-by {S} {best} h t (inr e) = subst (λ (x : Found). Improved S best x) (sym e) (improved-none h)
 
--- one exchange more
+-- one move more
 pub improved-more : {S : Sheet} {listed best r : Found} → Improved S listed best → Improved S best r → Improved S listed r
 improved-more h k = record { is = k .is; no-later = omega (arith, h .no-later, k .no-later) }

@@ -1,10 +1,10 @@
--- Orders with their ends: that of a list plan, and those that exchanges of two jobs lead to.
+-- Orders with their ends: that of a list plan, and those that random moves lead to.
 use mathlib.Core.Path.{_≡_}
 use mathlib.Core.Bool.{false, not}
 use mathlib.Core.List.{List}
 use Prim.Native.Nat.{ℕ, _+_, _%_, _≤_, _<_}
 use lib.Dec.{ltb}
-use lib.ListN.{length, getD, take, set, replicate}
+use lib.ListN.{length, getD, take, replicate}
 use Rattle.counting.specs.Counting.{largest}
 use Rattle.figures.specs.Figures.{mostJobs, noMinute}
 use Rattle.schedule.specs.Plan.{Sheet}
@@ -35,7 +35,7 @@ pub record OrderOf (S : Sheet) (r : Found) : Type 0 where
   pub end : endOf S (take (S .jobs) (r .order)) ≡ r .end
   pub low : r .end < noMinute
 
--- ---- a given order tried
+-- ---- given starts tried
 
 -- no list plan
 abbrev pub noneListed : Found
@@ -56,11 +56,7 @@ pub record OneMore (t : List ℕ) (p r : Part) : Type 0 where
 abbrev pub Tried : Sheet → Found → Type 0
 Tried S r = ¬ (r .end ≡ noMinute) → OrderOf S r
 
--- ---- exchanges
-
--- the order with what stands at two places exchanged
-abbrev pub exchangedAt : List ℕ → ℕ → ℕ → List ℕ
-exchangedAt order a b = set (set order a (getD order b 0)) b (getD order a 0)
+-- ---- annealing
 
 -- an order that ends no later than this one
 pub record Improved (S : Sheet) (best r : Found) : Type 0 where

@@ -46,7 +46,7 @@ module _ (s card work : List ℕ) where
       passed : planableRefusal s ≡ 0
       passed = sym (f .refusal) ∙ z
 
-      ready : Ready s (r .jobs)
+      pub ready : Ready s (r .jobs)
       ready = ready-table s (r .jobs) passed (f .table z)
 
       pub few-jobs : countOf (r .jobs) ≤ mostJobs
@@ -68,7 +68,7 @@ module _ (s card work : List ℕ) where
         pub can-plan : Fit (r .jobs) × ((¬ Circular (sheetOf (r .jobs))) × (cardSize (countOf (r .jobs)) ≤ length card))
         can-plan = (ready .fit, (ready .free, ltb-false (length card) (cardSize (countOf (r .jobs))) l))
 
-        none : planRefusal s (length card) ≡ 0
+        pub none : planRefusal s (length card) ≡ 0
         unfolding firstFailing
         none = by-room false l
 

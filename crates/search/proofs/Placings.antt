@@ -71,7 +71,7 @@ upto-more S target w j h f o d (inr (i, l, b)) = go (last-or-below j i (omega (a
 
 module _ {S : Sheet} {w : List ℕ} {best : Found} (h : Placing S w best) where
   -- a lower job in the place
-  pub place-hit : {j : ℕ} {r : Found} → Outcome S (best .end) (w ++ (j ∷ [])) r → r .hit ≡ true → NoneUpto S (best .end) w j
+  pub place-hit : {j : ℕ} {r : Found} {left : ℕ} → Outcome S (best .end) (w ++ (j ∷ [])) r left → r .hit ≡ true → NoneUpto S (best .end) w j
       → Placing S (w ++ (j ∷ [])) r × (r .end ≡ best .end)
   place-hit {j} {r} o e n =
       let f = o .hit e in

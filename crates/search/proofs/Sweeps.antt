@@ -32,24 +32,35 @@ use Rattle.listing.specs.declared.Found.{Found}
 use Rattle.search.specs.Search.{Fails, Outcome, noneFound, TriedSo}
 
 -- no order
-pub none-outcome : {S : Sheet} {target : ℕ} {v : List ℕ} → Fails S target v → Outcome S target v noneFound
-none-outcome h = record { size = length-replicate {A = ℕ} 20 0; hit = λ e. clash false e refl; miss = λ e. h }
+pub none-outcome : {S : Sheet} {target : ℕ} {v : List ℕ} {left : ℕ} → Fails S target v → Outcome S target v noneFound left
+none-outcome h = record { size = length-replicate {A = ℕ} 20 0; hit = λ e. clash false e refl; miss = λ e s. h }
+
+-- none, where the search gave up
+pub given-up : {S : Sheet} {target : ℕ} {v : List ℕ} {left : ℕ} → left ≡ 0 → Outcome S target v noneFound left
+given-up n = record { size = length-replicate {A = ℕ} 20 0; hit = λ e. clash false e refl; miss = λ e s. absurd (s n) }
+
+-- of two reasons, what each shows
+pub ended : {A B X Y : Type 0} → A ⊎ B → (A → X) → (B → Y) → X ⊎ Y
+ended (inl a) f g = inl (f a)
+ended (inr b) f g = inr (g b)
 
 -- an order that begins with v and a job more begins with v
-pub found-below : {S : Sheet} {target : ℕ} (v : List ℕ) (j : ℕ) {r : Found} → Outcome S target (v ++ (j ∷ [])) r → r .hit ≡ true
-    → Outcome S target v r
-found-below v j {r} h e =
-    let f = h .hit e in
-    record {
-      size = h .size;
-      hit = λ _. record {
-        order = f .order;
-        begins = (j ∷ f .begins .0, f .begins .1 ∙ append-assoc v (j ∷ []) (f .begins .0));
-        end = f .end;
-        within = f .within;
-      };
-      miss = λ z. clash (r .hit) e z;
-    }
+pub found-below : {S : Sheet} {target : ℕ} (v : List ℕ) (j : ℕ) {r : Found} {left : ℕ} → Outcome S target (v ++ (j ∷ [])) r left
+    → (r .hit ≡ true) ⊎ (left ≡ 0) → Outcome S target v r left
+found-below {S = S} {target = target} v j {r} {left} h ends = record {
+  size = h .size;
+  hit = λ e. let f = h .hit e in record {
+    order = f .order;
+    begins = (j ∷ f .begins .0, f .begins .1 ∙ append-assoc v (j ∷ []) (f .begins .0));
+    end = f .end;
+    within = f .within;
+  };
+  miss = λ z s. either ends z s;
+}
+  where
+    either : (r .hit ≡ true) ⊎ (left ≡ 0) → r .hit ≡ false → ¬ (left ≡ 0) → Fails S target v
+    either (inl e) z s = clash (r .hit) e z
+    either (inr n) z s = absurd (s n)
 
 -- those of the first set that are no longer left lead nowhere, and c is the next
 pub record Sweep (t : List ℕ) (part : Part) (target : ℕ) (at : List ℕ) (first left tried : ℕ) (c : Choice) : Type 0 where

@@ -43,7 +43,7 @@ module _ {t : List ℕ} {part : Part} (known : Known t part) where
   -- ---- every job is placed
 
   module _ (all : part .placed ≡ jobs) where
-    pub visit-leaf : {target : ℕ} {r : Found} → Finished part jobs target r → Outcome S target w r
+    pub visit-leaf : {target : ℕ} {r : Found} {left : ℕ} → Finished part jobs target r → Outcome S target w r left
     unfolding CannotBeat
     visit-leaf {target} {r} f = record {
       size = f .order .size;
@@ -53,7 +53,7 @@ module _ {t : List ℕ} {part : Part} (known : Known t part) where
         end = finished-order known all f .end;
         within = ltb-false target (r .end) (not-true _ (sym (f .hit) ∙ h));
       };
-      miss = λ h o d b. rw (alone o d b) (omega (arith, end-is known all, f .end, ltb-true target (r .end) (not-false _ (sym (f .hit) ∙ h))));
+      miss = λ h s o d b. rw (alone o d b) (omega (arith, end-is known all, f .end, ltb-true target (r .end) (not-false _ (sym (f .hit) ∙ h))));
     }
       where
         alone : (o : List ℕ) → Order S o → Begins w o → o ≡ w

@@ -5,7 +5,9 @@ use mathlib.Core.Bool.{true, false}
 use mathlib.Core.List.{List, []}
 use Prim.Native.Nat.{ℕ, suc, _+_, _≤_, _<_}
 use native.Mathlib.Omega.{arith}
+use lib.Dec.{ltb}
 use lib.ListN.{replicate, length-replicate}
+use borrow.Author.Tests.{ltb-true, lt-ltb}
 use Rattle.counting.specs.Counting.{only}
 use Rattle.counting.proofs.Tests.{true-or-false, clash, less-or-not}
 use Rattle.bits.specs.Bits.{bit}
@@ -25,7 +27,8 @@ use Rattle.sums.specs.Sums.{Rounded}
 use Rattle.listing.specs.declared.Found.{Found}
 use Rattle.listing.specs.Listing.{OrderOf}
 use Rattle.preparing.specs.Preparing.{Tabled}
-use Rattle.search.specs.Search.{Remembered, Outcome, SettledSo, Going, keptAs, Lowering, Lowered, Lowest}
+use Rattle.search.specs.Search.{noLimit, Remembered, Outcome, SettledSo, Going, keptAs, Lowering, Lowered, Lowest, LowestIf}
+use Rattle.search.specs.Search.{TieRuled, NoneBefore, WithinLimit}
 use Rattle.search.proofs.Recalls.{remembered-less}
 
 -- ---- nothing is settled
@@ -49,8 +52,9 @@ enter {t} {part = part} target fit tabled low m first =
     record { low = low; known = first-known t part fit first; tabled = tabled; remembered = m }
 
 -- an order that ends by the target, and so earlier
-pub lower-hit : {S : Sheet} {best r : Found} (memory : List ℕ) {v : List ℕ} (target : ℕ) → OrderOf S best → target < best .end
-    → Outcome S target v r → r .hit ≡ true → Remembered S memory (suc target) → Lowered S best r × Remembered S memory (r .end)
+pub lower-hit : {S : Sheet} {best r : Found} {left : ℕ} (memory : List ℕ) {v : List ℕ} (target : ℕ) → OrderOf S best
+    → target < best .end → Outcome S target v r left → r .hit ≡ true → Remembered S memory (suc target)
+    → Lowered S best r left × Remembered S memory (r .end)
 lower-hit {S} {best} {r} memory target s l o e m =
     let f = o .hit e in (
       record {
@@ -76,45 +80,46 @@ module _ (t : List ℕ) (target goal : ℕ) where
       go (inr x) = absurd (omega (arith, h .none-between o d x))
 
 -- so that what is found of the one is found of the other
-pub rounded-outcome : {S : Sheet} {target goal : ℕ} {r : Found} → goal ≤ target
-    → ((o : List ℕ) → Order S o → suc goal ≤ endOf S o → suc target ≤ endOf S o) → Outcome S goal [] r → Outcome S target [] r
+pub rounded-outcome : {S : Sheet} {target goal : ℕ} {r : Found} {left : ℕ} → goal ≤ target
+    → ((o : List ℕ) → Order S o → suc goal ≤ endOf S o → suc target ≤ endOf S o)
+    → Outcome S goal [] r left → Outcome S target [] r left
 unfolding CannotBeat
 rounded-outcome l between m = record {
   size = m .size;
   hit = λ e. let f = m .hit e in record { order = f .order; begins = f .begins; end = f .end; within = omega (arith, f .within) };
-  miss = λ e o d b. between o d (m .miss e o d b);
+  miss = λ e s o d b. between o d (m .miss e s o d b);
 }
 
 -- ---- an end that is lowered
 
 -- none ends earlier
-pub lower-miss : {S : Sheet} {best : Found} → OrderOf S best → ((o : List ℕ) → Order S o → best .end ≤ endOf S o)
-    → Lowered S best (keptAs best)
+pub lower-miss : {S : Sheet} {best : Found} {left : ℕ} → OrderOf S best
+    → (¬ (left ≡ 0) → (o : List ℕ) → Order S o → best .end ≤ endOf S o) → Lowered S best (keptAs best) left
 lower-miss s least = record { is = kept-is s; hit = λ x. clash false x refl; miss = λ x. (refl, least) }
 
-pub none-by : {S : Sheet} {target : ℕ} {r : Found} → Outcome S target [] r → r .hit ≡ false
+pub none-by : {S : Sheet} {target : ℕ} {r : Found} {left : ℕ} → Outcome S target [] r left → r .hit ≡ false → ¬ (left ≡ 0)
     → (o : List ℕ) → Order S o → suc target ≤ endOf S o
 unfolding CannotBeat
-none-by m h o d = m .miss h o d (o, refl)
+none-by m h s o d = m .miss h s o d (o, refl)
 
 -- ---- a turn of the loop
 
 -- while earlier ends are looked for, an order and what is remembered; then no order ends earlier
-pub record Turn (t prepared : List ℕ) (best : Found) (memory : List ℕ) : Type 0 where
+pub record Turn (t prepared : List ℕ) (best : Found) (memory : List ℕ) (left : ℕ) : Type 0 where
   pub state : Lowering t prepared best memory
-  pub done : best .hit ≡ false → (o : List ℕ) → Order (sheetOf t) o
+  pub done : best .hit ≡ false → ¬ (left ≡ 0) → (o : List ℕ) → Order (sheetOf t) o
       → best .end ≤ endOf (sheetOf t) o
 
-pub turn-next : {t prepared : List ℕ} {best r : Found} {memory : List ℕ}
+pub turn-next : {t prepared : List ℕ} {best r : Found} {memory : List ℕ} {left : ℕ}
     (memory′ : List ℕ) → Lowering t prepared best memory
-    → Lowered (sheetOf t) best r → Remembered (sheetOf t) memory′ (r .end)
-    → Turn t prepared r memory′
+    → Lowered (sheetOf t) best r left → Remembered (sheetOf t) memory′ (r .end)
+    → Turn t prepared r memory′ left
 turn-next memory′ s l m = record {
   state = record { fit = s .fit; tabled = s .tabled; best-is = l .is; remembered = m };
   done = λ e. l .miss e .1;
 }
 
-pub turn-less : {S : Sheet} {best r : Found} → Lowered S best r → best .hit ≡ true
+pub turn-less : {S : Sheet} {best r : Found} {left : ℕ} → Lowered S best r left → best .hit ≡ true
     → r .end + only (r .hit) 1 < best .end + only (best .hit) 1
 turn-less {S} {best} {r} l e = rw e (go (true-or-false (r .hit)))
   where
@@ -122,10 +127,23 @@ turn-less {S} {best} {r} l e = rw e (go (true-or-false (r .hit)))
     go (inl h) = rw h (omega (arith, l .hit h))
     go (inr h) = rw h (omega (arith, l .miss h .0))
 
-pub turn-last : {t prepared : List ℕ} {best : Found} {memory : List ℕ}
-    → Turn t prepared best memory → best .hit ≡ false
-    → Lowest (sheetOf t) best
+pub turn-last : {t prepared : List ℕ} {best : Found} {memory : List ℕ} {left : ℕ} → Turn t prepared best memory left
+    → best .hit ≡ false → LowestIf (sheetOf t) best left
 turn-last t e = record { is = t .state .best-is; least = t .done e }
+
+-- without a limit the search does not give up
+pub goes-on : {left : ℕ} → left ≡ noLimit → ¬ (left ≡ 0)
+goes-on e z = omega (arith, e, z)
+
+-- where some part-plans are left, it did not either
+pub some-left : (left : ℕ) → ltb 0 left ≡ true → ¬ (left ≡ 0)
+some-left left e z = let some = ltb-true 0 left e in omega (arith, some, z)
+
+pub unlimited-left : (left : ℕ) → left ≡ noLimit → ltb 0 left ≡ true
+unlimited-left left e = lt-ltb 0 left (omega (arith, e))
+
+pub lowest-of : {S : Sheet} {r : Found} {left : ℕ} → LowestIf S r left → ¬ (left ≡ 0) → Lowest S r
+lowest-of h s = record { is = h .is; least = h .least s }
 
 -- ---- the questions, of all valid plans
 
@@ -142,9 +160,9 @@ listed-ends-by {t} {r} {target} fit h l =
     (λ _. order-ends-by (sheetOf t) (fit .lasting) (fit .narrow) _ (h .order) target (omega (arith, h .end)), λ _. refl)
 
 -- the outcome of the search
-pub found-ends-by : {t : List ℕ} {r : Found} {target : ℕ} → Fit t → Outcome (sheetOf t) target [] r
+pub found-ends-by : {t : List ℕ} {r : Found} {target left : ℕ} → Fit t → Outcome (sheetOf t) target [] r left → ¬ (left ≡ 0)
     → (r .hit ≡ true) ↔ EndsBy (sheetOf t) target
-found-ends-by {t} {r} {target} fit m = (there, λ some. back some (true-or-false (r .hit)))
+found-ends-by {t} {r} {target} fit m s = (there, λ some. back some (true-or-false (r .hit)))
   where
     there : r .hit ≡ true → EndsBy (sheetOf t) target
     there e =
@@ -153,4 +171,22 @@ found-ends-by {t} {r} {target} fit m = (there, λ some. back some (true-or-false
 
     back : EndsBy (sheetOf t) target → (r .hit ≡ true) ⊎ (r .hit ≡ false) → r .hit ≡ true
     back some (inl e) = e
-    back some (inr e) = absurd (none-ends-by (sheetOf t) (fit .lasting) (fit .narrow) target (none-by m e) some)
+    back some (inr e) = absurd (none-ends-by (sheetOf t) (fit .lasting) (fit .narrow) target (none-by m e s) some)
+
+-- ---- within a limit
+
+-- an order that the search gave up to lower
+pub bounded-within : {S : Sheet} {best : Found} {bound : ℕ} → OrderOf S best → NoneBefore S bound
+    → WithinLimit S (record { order = best .order; end = best .end; bound = bound; exact = false })
+bounded-within h b = record { size = h .size; order = h .order; end = h .end; bound = b; exact = λ e. clash false e refl }
+
+-- an order that ends first, and the tie rule's where the search did not give up
+pub settled-within : {S : Sheet} {found : Found} {left : ℕ} → Lowest S found → (¬ (left ≡ 0) → TieRuled S found)
+    → WithinLimit S (record { order = found .order; end = found .end; bound = found .end; exact = ltb 0 left })
+settled-within {S} {found} {left} h tied = record {
+  size = h .is .size;
+  order = h .is .order;
+  end = h .is .end;
+  bound = h .least;
+  exact = λ e. tied (some-left left e) .best;
+}

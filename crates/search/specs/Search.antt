@@ -19,6 +19,7 @@ use Rattle.listing.specs.declared.Found.{Found}
 use Rattle.listing.specs.Listing.{OrderOf}
 use Rattle.preparing.specs.Preparing.{Tabled}
 use Rattle.fitting.specs.Fitting.{slateSize}
+use Rattle.search.specs.declared.Within.{Within}
 use Rattle.memory.specs.Entries.{Entry, entries, entryAt, lastAt, endAt}
 
 -- ---- working memory
@@ -35,6 +36,16 @@ unfoldable pub Remembered : Sheet → List ℕ → ℕ → Type 0
 Remembered S m e = (k : ℕ) → k < entries m → 0 < entryAt m k .set
     → (v : List ℕ) × StandsFor S (entryAt m k) v × CannotBeat S e v
 
+-- ---- the limit
+
+-- How many part-plans may still be visited: 0 where the search has given up, noLimit where it never does.
+abbrev pub noLimit : ℕ
+noLimit = 18446744073709551615
+
+-- where there was no limit, there is none
+abbrev pub Unlimited : ℕ → ℕ → Type 0
+Unlimited before after = before ≡ noLimit → after ≡ noLimit
+
 -- ---- orders that end by a target
 
 -- no order that begins with v ends by the target
@@ -48,11 +59,11 @@ pub record Reaches (S : Sheet) (target : ℕ) (v : List ℕ) (r : Found) : Type 
   pub end : endOf S (take (S .jobs) (r .order)) ≡ r .end
   pub within : r .end ≤ target
 
--- such an order, or none
-pub record Outcome (S : Sheet) (target : ℕ) (v : List ℕ) (r : Found) : Type 0 where
+-- such an order, or none; where the search gave up, perhaps one
+pub record Outcome (S : Sheet) (target : ℕ) (v : List ℕ) (r : Found) (left : ℕ) : Type 0 where
   pub size : length (r .order) ≡ mostJobs
   pub hit : r .hit ≡ true → Reaches S target v r
-  pub miss : r .hit ≡ false → Fails S target v
+  pub miss : r .hit ≡ false → ¬ (left ≡ 0) → Fails S target v
 
 abbrev pub noneFound : Found
 noneFound = record { hit = false; end = noMinute; order = replicate mostJobs 0 }
@@ -116,16 +127,21 @@ pub record Lowering (t prepared : List ℕ) (best : Found) (memory : List ℕ) :
   pub best-is : OrderOf (sheetOf t) best
   pub remembered : Remembered (sheetOf t) memory (best .end)
 
--- an order that ends earlier, or the same end, before which no order ends
-pub record Lowered (S : Sheet) (best r : Found) : Type 0 where
+-- an order that ends earlier, or the same end, before which no order ends unless the search gave up
+pub record Lowered (S : Sheet) (best r : Found) (left : ℕ) : Type 0 where
   pub is : OrderOf S r
   pub hit : r .hit ≡ true → r .end < best .end
-  pub miss : r .hit ≡ false → (r .end ≡ best .end) × ((o : List ℕ) → Order S o → r .end ≤ endOf S o)
+  pub miss : r .hit ≡ false → (r .end ≡ best .end) × (¬ (left ≡ 0) → (o : List ℕ) → Order S o → r .end ≤ endOf S o)
 
 -- an order, and no order ends earlier
 pub record Lowest (S : Sheet) (r : Found) : Type 0 where
   pub is : OrderOf S r
   pub least : (o : List ℕ) → Order S o → r .end ≤ endOf S o
+
+-- the same, unless the search gave up
+pub record LowestIf (S : Sheet) (r : Found) (left : ℕ) : Type 0 where
+  pub is : OrderOf S r
+  pub least : ¬ (left ≡ 0) → (o : List ℕ) → Order S o → r .end ≤ endOf S o
 
 -- an order that ends first and begins with the jobs w, before which nothing ends as early
 pub record Placing (S : Sheet) (w : List ℕ) (r : Found) : Type 0 where
@@ -137,3 +153,17 @@ pub record Placing (S : Sheet) (w : List ℕ) (r : Found) : Type 0 where
 pub record TieRuled (S : Sheet) (r : Found) : Type 0 where
   pub best : tie.Best S (take (S .jobs) (r .order))
   pub end : r .end ≡ endOf S (take (S .jobs) (r .order))
+
+-- ---- within a limit
+
+-- no order ends before e
+abbrev pub NoneBefore : Sheet → ℕ → Type 0
+NoneBefore S e = (o : List ℕ) → Order S o → e ≤ endOf S o
+
+-- an order with its end and a minute before which none ends; where it is said to be exact, the tie rule's
+pub record WithinLimit (S : Sheet) (r : Within) : Type 0 where
+  pub size : length (r .order) ≡ mostJobs
+  pub order : Order S (take (S .jobs) (r .order))
+  pub end : endOf S (take (S .jobs) (r .order)) ≡ r .end
+  pub bound : NoneBefore S (r .bound)
+  pub exact : r .exact ≡ true → tie.Best S (take (S .jobs) (r .order))

@@ -17,9 +17,8 @@ ghost use Rattle.candidates.specs.Candidates.{Known, theoryPart, JobStarts};
 ghost use Rattle.listing.specs.Listing.{OrderOf};
 ghost use Rattle.preparing.specs.Preparing.{Tabled};
 ghost use Rattle.fitting.specs.Fitting.{slateSize};
-ghost use Rattle.search.specs.Search.{Outcome, Fails, noneFound, SettledSo, Going, Searching, Choosing, Remembered};
-ghost use Rattle.search.specs.Search.{keptAs, Lowering, Lowered, Lowest, Placing, TieRuled};
-use candidates::Choice;
+ghost use Rattle.search.specs.Search.{Unlimited, Outcome, Fails, noneFound, SettledSo, Going, Searching, Choosing, Remembered};
+ghost use Rattle.search.specs.Search.{noLimit, keptAs, Lowering, Lowered, Lowest, LowestIf, Placing, TieRuled, NoneBefore, WithinLimit};
 use figures::MOST_JOBS;
 use figures::NO_MINUTE;
 use fitting::SLATE_PLACES;
@@ -29,6 +28,27 @@ use tables::Jobs;
 use tables::PREPARED_PLACES;
 use tables::Part;
 use tables::Prepared;
+
+// ---- the limit
+
+// How many part-plans may be visited where there is no limit.
+pub const NO_LIMIT: u64 = 18446744073709551615;
+
+// Counts a part-plan, and whether none is left: the search then gives up, and what it answers says nothing. Without a limit it never does.
+fn used_up(left: &mut u64) -> bool
+    ensures spent { λ r. ⌜ (r ≡ true → now (left .exit) ≡ 0) ⌝ }
+    ensures limit { λ _. ⌜ Unlimited (now (left .entry)) (now (left .exit)) ⌝ }
+{
+    let now = *left;
+    if now == NO_LIMIT {
+        return false;
+    }
+    if now == 0 {
+        return true;
+    }
+    *left = now - 1;
+    now == 1
+}
 
 // ---- does some order end by the target?
 
@@ -75,12 +95,13 @@ fn cut_off(
 }
 
 // P-15: the search goes from a part-plan to each next job. Finds an order that goes on from this part-plan and ends by the
-// target, or that there is none. `settled` has for each placed job the jobs that were tried before it was chosen: in its place none of
+// target, or that there is none, unless the part-plans that are left are used up before. `settled` has for each placed job the jobs that were tried before it was chosen: in its place none of
 // them leads to such an order. `same` has those of the jobs that start at the last start.
 fn visit(
     memory: &mut [u8],
     settled: &mut [u32; MOST_JOBS],
     slate: &mut Slate,
+    left: &mut u64,
     part: &Part,
     same: u32,
     target: u16,
@@ -88,11 +109,15 @@ fn visit(
     prepared: &Prepared,
 ) -> Found
     requires { ⌜ Searching (now jobs) (now prepared) (partIn (now part)) target (now memory) (now settled) (now slate) same ⌝ }
-    ensures outcome { λ r. ⌜ Outcome (sheetOf (now (jobs .entry))) target (wordOf (partIn (now (part .entry)))) r ⌝ }
+    ensures outcome { λ r. ⌜ Outcome (sheetOf (now (jobs .entry))) target (wordOf (partIn (now (part .entry)))) r (now (left .exit)) ⌝ }
     ensures settled { λ _. ⌜ SettledSo (sheetOf (now (jobs .entry))) target (wordOf (partIn (now (part .entry)))) (now (settled .exit)) same ⌝ }
     ensures remembered { λ _. ⌜ Remembered (sheetOf (now (jobs .entry))) (now (memory .exit)) (suc target) ⌝ }
     ensures size { λ _. ⌜ length (now (slate .exit)) ≡ length (now (slate .entry)) ⌝ }
+    ensures limit { λ _. ⌜ Unlimited (now (left .entry)) (now (left .exit)) ⌝ }
 {
+    if used_up(left) {
+        return none_found();
+    }
     let count = tables::count(jobs);
     let unplaced = tables::unplaced(part);
     if u32::count_ones(unplaced) == 0 {
@@ -120,15 +145,19 @@ fn visit(
             memory,
             settled,
             slate,
+            left,
             part,
             same,
             target,
             jobs,
             prepared,
-            tried,
-            c,
+            Trial {
+                tried,
+                job: c.job,
+                start: c.start,
+            },
         );
-        if found.hit {
+        if found.hit || *left == 0 {
             return found;
         }
         untried = bits::clear32(untried, c.job);
@@ -139,28 +168,37 @@ fn visit(
     none_found()
 }
 
+// A job that is tried at its start, and the jobs that were tried before it.
+struct Trial {
+    tried: u32,
+    job: usize,
+    start: u16,
+}
+
 // "and from that job to the longer part-plan": the same for the orders that go on with this job, unless another stands for it.
 fn try_children(
     memory: &mut [u8],
     settled: &mut [u32; MOST_JOBS],
     slate: &mut Slate,
+    left: &mut u64,
     part: &Part,
     same: u32,
     target: u16,
     jobs: &Jobs,
     prepared: &Prepared,
-    tried: u32,
-    c: Choice,
+    trial: Trial,
 ) -> Found
     requires { ⌜ (Searching (now jobs) (now prepared) (partIn (now part)) target (now memory) (now settled) (now slate) same)
-        × (Choosing (now jobs) (partIn (now part)) target tried (c .job) (c .start)) ⌝ }
-    ensures outcome { λ r. ⌜ Outcome (sheetOf (now (jobs .entry))) target (wordOf (partIn (now (part .entry))) ++ (c .job ∷ [])) r ⌝ }
+        × (Choosing (now jobs) (partIn (now part)) target (trial .tried) (trial .job) (trial .start)) ⌝ }
+    ensures outcome { λ r. ⌜ Outcome (sheetOf (now (jobs .entry))) target (wordOf (partIn (now (part .entry))) ++ (trial .job ∷ [])) r (now (left .exit)) ⌝ }
     ensures settled { λ _. ⌜ SettledSo (sheetOf (now (jobs .entry))) target (wordOf (partIn (now (part .entry)))) (now (settled .exit)) same ⌝ }
     ensures remembered { λ _. ⌜ Remembered (sheetOf (now (jobs .entry))) (now (memory .exit)) (suc target) ⌝ }
     ensures size { λ _. ⌜ length (now (slate .exit)) ≡ length (now (slate .entry)) ⌝ }
+    ensures limit { λ _. ⌜ Unlimited (now (left .entry)) (now (left .exit)) ⌝ }
 {
-    let job = c.job;
-    let start = c.start;
+    let tried = trial.tried;
+    let job = trial.job;
+    let start = trial.start;
     if branching::passed_over(jobs, prepared, part, settled, same, tried, start, job) {
         return none_found();
     }
@@ -172,6 +210,7 @@ fn try_children(
         memory,
         settled,
         slate,
+        left,
         &child,
         same_now,
         target,
@@ -181,10 +220,18 @@ fn try_children(
 }
 
 // The same from a part-plan for which nothing is settled, unless jobs arrive too late for the target.
-fn seek(memory: &mut [u8], part: &Part, target: u16, jobs: &Jobs, prepared: &Prepared) -> Found
+fn seek(
+    memory: &mut [u8],
+    left: &mut u64,
+    part: &Part,
+    target: u16,
+    jobs: &Jobs,
+    prepared: &Prepared,
+) -> Found
     requires { ⌜ Going (now jobs) (now prepared) (partIn (now part)) target (now memory) ⌝ }
-    ensures outcome { λ r. ⌜ Outcome (sheetOf (now (jobs .entry))) target (wordOf (partIn (now (part .entry)))) r ⌝ }
+    ensures outcome { λ r. ⌜ Outcome (sheetOf (now (jobs .entry))) target (wordOf (partIn (now (part .entry)))) r (now (left .exit)) ⌝ }
     ensures remembered { λ _. ⌜ Remembered (sheetOf (now (jobs .entry))) (now (memory .exit)) (suc target) ⌝ }
+    ensures limit { λ _. ⌜ Unlimited (now (left .entry)) (now (left .exit)) ⌝ }
 {
     if areas::too_late(jobs, prepared, part, target) {
         return none_found();
@@ -196,6 +243,7 @@ fn seek(memory: &mut [u8], part: &Part, target: u16, jobs: &Jobs, prepared: &Pre
         memory,
         &mut settled,
         &mut slate,
+        left,
         part,
         0,
         target,
@@ -219,40 +267,50 @@ fn kept(best: Found) -> Found
 }
 
 // An order that ends by the target, or none. No order ends between the target and the goal that it is rounded to.
-fn decide(memory: &mut [u8], target: u16, jobs: &Jobs, prepared: &Prepared) -> Found
+fn decide(memory: &mut [u8], left: &mut u64, target: u16, jobs: &Jobs, prepared: &Prepared) -> Found
     requires { ⌜ (Fit (now jobs)) × ((Tabled (now jobs) (now prepared)) × ((target < noMinute) × (Remembered (sheetOf (now jobs)) (now memory) (suc target)))) ⌝ }
-    ensures outcome { λ r. ⌜ Outcome (sheetOf (now (jobs .entry))) target [] r ⌝ }
+    ensures outcome { λ r. ⌜ Outcome (sheetOf (now (jobs .entry))) target [] r (now (left .exit)) ⌝ }
     ensures remembered { λ _. ⌜ Remembered (sheetOf (now (jobs .entry))) (now (memory .exit)) (suc target) ⌝ }
+    ensures limit { λ _. ⌜ Unlimited (now (left .entry)) (now (left .exit)) ⌝ }
 {
     let goal = sums::rounded(jobs, target);
     let part = placement::first_part(jobs);
-    seek(memory, &part, goal, jobs, prepared)
+    seek(memory, left, &part, goal, jobs, prepared)
 }
 
 // An order that ends earlier, or the same one where there is none.
-fn lower(memory: &mut [u8], best: Found, jobs: &Jobs, prepared: &Prepared) -> Found
+fn lower(memory: &mut [u8], left: &mut u64, best: Found, jobs: &Jobs, prepared: &Prepared) -> Found
     requires { ⌜ Lowering (now jobs) (now prepared) best (now memory) ⌝ }
-    ensures lowered { λ r. ⌜ Lowered (sheetOf (now (jobs .entry))) best r ⌝ }
+    ensures lowered { λ r. ⌜ Lowered (sheetOf (now (jobs .entry))) best r (now (left .exit)) ⌝ }
     ensures remembered { λ r. ⌜ Remembered (sheetOf (now (jobs .entry))) (now (memory .exit)) (r .end) ⌝ }
+    ensures limit { λ _. ⌜ Unlimited (now (left .entry)) (now (left .exit)) ⌝ }
 {
     if best.end == 0 {
         return kept(best);
     }
-    let found = decide(memory, best.end - 1, jobs, prepared);
+    let found = decide(memory, left, best.end - 1, jobs, prepared);
     if found.hit {
         return found;
     }
     kept(best)
 }
 
-// An order that ends first of all.
-fn lowest(memory: &mut [u8], listed: Found, jobs: &Jobs, prepared: &Prepared) -> Found
+// An order that ends first of all, or one that the part-plans that are left were used up to find.
+fn lowest(
+    memory: &mut [u8],
+    left: &mut u64,
+    listed: Found,
+    jobs: &Jobs,
+    prepared: &Prepared,
+) -> Found
     requires { ⌜ Lowering (now jobs) (now prepared) listed (now memory) ⌝ }
-    ensures { λ r. ⌜ Lowest (sheetOf (now (jobs .entry))) r ⌝ }
+    ensures lowest { λ r. ⌜ LowestIf (sheetOf (now (jobs .entry))) r (now (left .exit)) ⌝ }
+    ensures remembered { λ r. ⌜ Remembered (sheetOf (now (jobs .entry))) (now (memory .exit)) (r .end) ⌝ }
+    ensures limit { λ _. ⌜ Unlimited (now (left .entry)) (now (left .exit)) ⌝ }
 {
-    let mut best = lower(memory, listed, jobs, prepared);
+    let mut best = lower(memory, left, listed, jobs, prepared);
     while best.hit {
-        best = lower(memory, best, jobs, prepared);
+        best = lower(memory, left, best, jobs, prepared);
     }
     best
 }
@@ -262,6 +320,7 @@ fn lowest(memory: &mut [u8], listed: Found, jobs: &Jobs, prepared: &Prepared) ->
 // An order that goes on from this part-plan with job j and ends by the target, or none.
 fn try_place(
     memory: &mut [u8],
+    left: &mut u64,
     part: &Part,
     j: usize,
     target: u16,
@@ -269,8 +328,9 @@ fn try_place(
     prepared: &Prepared,
 ) -> Found
     requires { ⌜ (Going (now jobs) (now prepared) (partIn (now part)) target (now memory)) × (j < countOf (now jobs)) ⌝ }
-    ensures outcome { λ r. ⌜ Outcome (sheetOf (now (jobs .entry))) target (wordOf (partIn (now (part .entry))) ++ (j ∷ [])) r ⌝ }
+    ensures outcome { λ r. ⌜ Outcome (sheetOf (now (jobs .entry))) target (wordOf (partIn (now (part .entry))) ++ (j ∷ [])) r (now (left .exit)) ⌝ }
     ensures remembered { λ _. ⌜ Remembered (sheetOf (now (jobs .entry))) (now (memory .exit)) (suc target) ⌝ }
+    ensures limit { λ _. ⌜ Unlimited (now (left .entry)) (now (left .exit)) ⌝ }
 {
     let start = candidates::start_or_none(jobs, part, j);
     if start == NO_MINUTE {
@@ -278,12 +338,14 @@ fn try_place(
     }
     let mut child = *part;
     placement::place(&mut child, jobs, j, start);
-    seek(memory, &child, target, jobs, prepared)
+    seek(memory, left, &child, target, jobs, prepared)
 }
 
-// An order that ends first, and at the next place has the least job that an order which ends first can have there.
+// An order that ends first, and at the next place has the least job that an order which ends first can have there, unless the search gave
+// up.
 fn settle_place(
     memory: &mut [u8],
+    left: &mut u64,
     part: &Part,
     best: Found,
     jobs: &Jobs,
@@ -291,17 +353,22 @@ fn settle_place(
 ) -> Found
     requires { ⌜ (Going (now jobs) (now prepared) (partIn (now part)) (best .end) (now memory))
         × ((Placing (sheetOf (now jobs)) (wordOf (partIn (now part))) best) × (partIn (now part) .placed < countOf (now jobs))) ⌝ }
-    ensures placed { λ r. ⌜ Placing (sheetOf (now (jobs .entry)))
-        (wordOf (partIn (now (part .entry))) ++ (getD (r .order) (partIn (now (part .entry)) .placed) 0 ∷ [])) r ⌝ }
+    ensures lowest { λ r. ⌜ Lowest (sheetOf (now (jobs .entry))) r ⌝ }
+    ensures placed { λ r. ⌜ (¬ (now (left .exit) ≡ 0) → Placing (sheetOf (now (jobs .entry)))
+        (wordOf (partIn (now (part .entry))) ++ (getD (r .order) (partIn (now (part .entry)) .placed) 0 ∷ [])) r) ⌝ }
     ensures remembered { λ r. ⌜ Remembered (sheetOf (now (jobs .entry))) (now (memory .exit)) (suc (r .end)) ⌝ }
+    ensures limit { λ _. ⌜ Unlimited (now (left .entry)) (now (left .exit)) ⌝ }
 {
     let k = tables::placed(part);
     let stop = counting::index(best.order[k]);
     let mut j: usize = 0;
     while j < stop {
-        let found = try_place(memory, part, j, best.end, jobs, prepared);
+        let found = try_place(memory, left, part, j, best.end, jobs, prepared);
         if found.hit {
             return found;
+        }
+        if *left == 0 {
+            return best;
         }
         j += 1;
     }
@@ -319,18 +386,29 @@ fn go_on(part: &mut Part, j: usize, jobs: &Jobs)
     placement::place(part, jobs, j, start);
 }
 
-// The tie rule's order, from one that ends first.
-fn first_order(memory: &mut [u8], least: Found, jobs: &Jobs, prepared: &Prepared) -> Found
+// The tie rule's order, from one that ends first, unless the search gave up.
+fn first_order(
+    memory: &mut [u8],
+    left: &mut u64,
+    least: Found,
+    jobs: &Jobs,
+    prepared: &Prepared,
+) -> Found
     requires { ⌜ (Lowest (sheetOf (now jobs)) least)
         × ((Fit (now jobs)) × ((Tabled (now jobs) (now prepared)) × (Remembered (sheetOf (now jobs)) (now memory) (suc (least .end))))) ⌝ }
-    ensures { λ r. ⌜ TieRuled (sheetOf (now (jobs .entry))) r ⌝ }
+    ensures lowest { λ r. ⌜ Lowest (sheetOf (now (jobs .entry))) r ⌝ }
+    ensures tied { λ r. ⌜ (¬ (now (left .exit) ≡ 0) → TieRuled (sheetOf (now (jobs .entry))) r) ⌝ }
+    ensures limit { λ _. ⌜ Unlimited (now (left .entry)) (now (left .exit)) ⌝ }
 {
     let count = tables::count(jobs);
     let mut best = least;
     let mut part = placement::first_part(jobs);
     let mut k: usize = 0;
     while k < count {
-        best = settle_place(memory, &part, best, jobs, prepared);
+        best = settle_place(memory, left, &part, best, jobs, prepared);
+        if *left == 0 {
+            return best;
+        }
         go_on(&mut part, counting::index(best.order[k]), jobs);
         k += 1;
     }
@@ -351,15 +429,36 @@ fn begin(prepared: &mut Prepared, jobs: &Jobs) -> Found
     listed
 }
 
-// An order that ends first of all, and the prepared table. What the memory held changes nothing.
-fn least_order(memory: &mut [u8], prepared: &mut Prepared, jobs: &Jobs) -> Found
+// How many part-plans are visited before more list plans are tried, at most, and how many of these.
+const FIRST_LIMIT: u64 = 100000;
+
+const MORE_MOVES: u32 = 40000;
+
+// How many of the part-plans that are left are visited first.
+fn first_share(left: u64) -> u64 {
+    if left < FIRST_LIMIT {
+        return left;
+    }
+    FIRST_LIMIT
+}
+
+// An order that ends first of all, unless the search gave up, and the prepared table. Where that takes a while, more list plans are tried
+// before the search goes on. What the memory held changes nothing.
+fn least_order(memory: &mut [u8], left: &mut u64, prepared: &mut Prepared, jobs: &Jobs) -> Found
     requires { ⌜ (length (now prepared) ≡ preparedSize) × ((Fit (now jobs)) × (¬ Circular (sheetOf (now jobs)))) ⌝ }
-    ensures lowest { λ r. ⌜ Lowest (sheetOf (now (jobs .entry))) r ⌝ }
+    ensures lowest { λ r. ⌜ LowestIf (sheetOf (now (jobs .entry))) r (now (left .exit)) ⌝ }
     ensures tabled { λ _. ⌜ Tabled (now (jobs .entry)) (now (prepared .exit)) ⌝ }
+    ensures limit { λ _. ⌜ Unlimited (now (left .entry)) (now (left .exit)) ⌝ }
 {
     memory::clear(memory);
     let listed = begin(prepared, jobs);
-    lowest(memory, listed, jobs, prepared)
+    let mut few = first_share(*left);
+    let soon = lowest(memory, &mut few, listed, jobs, prepared);
+    if few > 0 {
+        return soon;
+    }
+    let better = listing::improved(jobs, soon, MORE_MOVES, 2);
+    lowest(memory, left, better, jobs, prepared)
 }
 
 // The earliest end of all valid plans. What the memory held changes nothing, and it is left all zero: so too below.
@@ -369,7 +468,8 @@ pub fn earliest(memory: &mut [u8], jobs: &Jobs) -> u16
     ensures cleared { λ _. ⌜ now (memory .exit) ≡ replicate (length (now (memory .entry))) 0 ⌝ }
 {
     let mut prepared = [0u32; PREPARED_PLACES];
-    let least = least_order(memory, &mut prepared, jobs);
+    let mut left = NO_LIMIT;
+    let least = least_order(memory, &mut left, &mut prepared, jobs);
     memory::clear(memory);
     least.end
 }
@@ -388,7 +488,8 @@ fn some_ends_by(
     if listed.end <= target {
         return true;
     }
-    let found = decide(memory, target, jobs, prepared);
+    let mut left = NO_LIMIT;
+    let found = decide(memory, &mut left, target, jobs, prepared);
     found.hit
 }
 
@@ -413,9 +514,116 @@ pub fn run(memory: &mut [u8], jobs: &Jobs) -> Found
     ensures cleared { λ _. ⌜ now (memory .exit) ≡ replicate (length (now (memory .entry))) 0 ⌝ }
 {
     let mut prepared = [0u32; PREPARED_PLACES];
-    let least = least_order(memory, &mut prepared, jobs);
+    let mut left = NO_LIMIT;
+    let least = least_order(memory, &mut left, &mut prepared, jobs);
     memory::clear(memory);
-    let found = first_order(memory, least, jobs, &prepared);
+    let found = first_order(memory, &mut left, least, jobs, &prepared);
     memory::clear(memory);
     found
+}
+
+// ---- within a limit
+
+// An order with its end, a minute before which no order ends, and whether it is the tie rule's.
+pub struct Within {
+    pub order: [u8; MOST_JOBS],
+    pub end: u16,
+    pub bound: u16,
+    pub exact: bool,
+}
+
+// Whether so few part-plans show that no order ends by the target.
+fn refuted(memory: &mut [u8], few: u64, target: u16, jobs: &Jobs, prepared: &Prepared) -> bool
+    requires { ⌜ (Fit (now jobs)) × ((Tabled (now jobs) (now prepared)) × (target < noMinute)) ⌝ }
+    ensures { λ r. ⌜ (r ≡ true → NoneBefore (sheetOf (now (jobs .entry))) (suc target)) ⌝ }
+{
+    memory::clear(memory);
+    let mut left = few;
+    let found = decide(memory, &mut left, target, jobs, prepared);
+    if found.hit {
+        return false;
+    }
+    0 < left
+}
+
+// A minute up to this end before which no order ends: the last that halving finds, with so few part-plans for each question.
+fn bound_below(memory: &mut [u8], few: u64, end: u16, jobs: &Jobs, prepared: &Prepared) -> u16
+    requires { ⌜ (Fit (now jobs)) × ((Tabled (now jobs) (now prepared)) × (end < noMinute)) ⌝ }
+    ensures { λ r. ⌜ NoneBefore (sheetOf (now (jobs .entry))) r ⌝ }
+{
+    let mut low: u16 = 0;
+    let mut high = end;
+    while low < high {
+        let middle = low + (high - low) / 2;
+        if refuted(memory, few, middle, jobs, prepared) {
+            low = middle + 1;
+        } else {
+            high = middle;
+        }
+    }
+    low
+}
+
+// An order that the search gave up to lower, and a bound.
+fn bounded(memory: &mut [u8], few: u64, best: Found, jobs: &Jobs, prepared: &Prepared) -> Within
+    requires { ⌜ (Fit (now jobs)) × ((Tabled (now jobs) (now prepared)) × (OrderOf (sheetOf (now jobs)) best)) ⌝ }
+    ensures { λ r. ⌜ WithinLimit (sheetOf (now (jobs .entry))) r ⌝ }
+{
+    let bound = bound_below(memory, few, best.end, jobs, prepared);
+    let order = best.order;
+    Within {
+        order,
+        end: best.end,
+        bound,
+        exact: false,
+    }
+}
+
+// The tie rule's order from one that ends first, or that one where the search gave up.
+fn settled(
+    memory: &mut [u8],
+    left: &mut u64,
+    least: Found,
+    jobs: &Jobs,
+    prepared: &Prepared,
+) -> Within
+    requires { ⌜ (Lowest (sheetOf (now jobs)) least) × ((Fit (now jobs)) × (Tabled (now jobs) (now prepared))) ⌝ }
+    ensures answer { λ r. ⌜ WithinLimit (sheetOf (now (jobs .entry))) r ⌝ }
+    ensures unlimited { λ r. ⌜ (now (left .entry) ≡ noLimit → r .exact ≡ true) ⌝ }
+{
+    memory::clear(memory);
+    let found = first_order(memory, left, least, jobs, prepared);
+    let order = found.order;
+    Within {
+        order,
+        end: found.end,
+        bound: found.end,
+        exact: 0 < *left,
+    }
+}
+
+// The share of the limit that each question for the bound has, and the least of it.
+const BOUND_SHARE: u64 = 16;
+
+const LEAST_BOUND: u64 = 1000;
+
+// The tie rule's order, or after so many part-plans an order and a minute before which none ends. Without a limit, the tie rule's order.
+pub fn run_within(memory: &mut [u8], limit: u64, jobs: &Jobs) -> Within
+    requires { ⌜ (Fit (now jobs)) × (¬ Circular (sheetOf (now jobs))) ⌝ }
+    ensures answer { λ r. ⌜ WithinLimit (sheetOf (now (jobs .entry))) r ⌝ }
+    ensures unlimited { λ r. ⌜ (limit ≡ noLimit → r .exact ≡ true) ⌝ }
+    ensures cleared { λ _. ⌜ now (memory .exit) ≡ replicate (length (now (memory .entry))) 0 ⌝ }
+{
+    let mut prepared = [0u32; PREPARED_PLACES];
+    let mut left = limit;
+    let least = least_order(memory, &mut left, &mut prepared, jobs);
+    if left == 0 {
+        let few = limit / BOUND_SHARE + LEAST_BOUND;
+        let given_up = bounded(memory, few, least, jobs, &prepared);
+        memory::clear(memory);
+        return given_up;
+    }
+    let answer = settled(memory, &mut left, least, jobs, &prepared);
+    memory::clear(memory);
+    answer
 }

@@ -3,6 +3,7 @@
 mod asking;
 pub mod desk;
 mod left;
+pub mod limited;
 pub mod neighbours;
 pub mod older;
 pub mod planning;

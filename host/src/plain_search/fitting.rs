@@ -17,19 +17,32 @@ const SPEED: u64 = 24;
 const TURNS: usize = 2;
 /// The fewest jobs for which a table is made.
 const FEWEST: usize = 5;
-/// What tables of so many jobs may have cost beyond what they saved before they are left out, at most and at first; what a table costs that
-/// cuts nothing; and how many are left out before one is tried again.
+/// Whether tables pay: the largest credit, how many tables the first one pays, what a part-plan costs beside its table, the most that is
+/// counted, over how many part-plans the mean goes, and how many tables there are for each that is made where the credit is used up.
 const MOST_CREDIT: u16 = 4_096;
-const FIRST_CREDIT: u16 = 1_000;
-const COST: u16 = 16;
-const PAUSE: u16 = 32;
+const FIRST_TABLES: u16 = 4;
+const PART_PLAN: u16 = 3;
+const MOST_SPENT: u16 = 8_000;
+const MEAN: u16 = 8;
+const PAUSE: u16 = 64;
 
-/// Rows of the table one behind another, the share of each job, and for each number of jobs its credit and how many tables were left out.
+/// What is kept for one number of jobs: the credit; how many tables were left out; what was spent behind the part-plan of so many jobs that
+/// the search has entered and not left; and the mean of that, `MEAN` times.
+#[derive(Clone, Copy, Default)]
+struct Account {
+    credit: u16,
+    left_out: u16,
+    spent: u16,
+    behind: u16,
+}
+
+/// Rows of the table one behind another, the share of each job, an account for each number of jobs and one more, to which the part-plan of
+/// all jobs is charged, and the fewest jobs of a part-plan that is entered.
 pub struct Slate {
     cells: Box<[u16; CELLS]>,
     shares: [u16; MOST_JOBS],
-    credit: [u16; MOST_JOBS + 1],
-    left_out: [u16; MOST_JOBS + 1],
+    accounts: [Account; MOST_JOBS + 2],
+    entered: usize,
 }
 
 /// The jobs that are left by falling release, and how the table stands: its columns, the minutes of a step, and from when up to when lanes
@@ -76,28 +89,65 @@ impl Slate {
     pub fn new(tables: &Tables) -> Slate {
         let longest = u32::from(tables.counted.iter().copied().fold(1, u16::max));
         let shares = tables.counted.map(|kept| (u32::from(kept) * FIRST_SHARE / longest) as u16);
-        Slate { cells: Box::new([0; CELLS]), shares, credit: [FIRST_CREDIT; MOST_JOBS + 1], left_out: [0; MOST_JOBS + 1] }
+        let accounts = std::array::from_fn(|jobs| Account { credit: FIRST_TABLES * jobs as u16, ..Account::default() });
+        Slate { cells: Box::new([0; CELLS]), shares, accounts, entered: MOST_JOBS + 1 }
     }
 
     /// Whether the jobs that are left have more value than the lanes can serve. The shares are turned towards values that tell.
     pub fn overfull(&mut self, tables: &Tables, part: &Part, starts: &Starts, free: &Free, close: u16) -> bool {
+        if close < free.minute {
+            return false;
+        }
         let count = part.unplaced.count_ones() as usize;
-        if close < free.minute || count < FEWEST || !self.pays(count) {
+        if count < FEWEST {
+            self.spend(FEWEST, PART_PLAN);
+            return false;
+        }
+        self.enter(count);
+        if !self.pays(count) {
             return false;
         }
         let over = self.shows(&Frame::of(tables, part, starts, free, close));
-        let credit = &mut self.credit[count];
-        *credit = if over { (*credit + (1 << (count - 4).min(12))).min(MOST_CREDIT) } else { credit.saturating_sub(COST) };
+        self.note(count, over);
         over
     }
 
     /// Whether a table for so many jobs is to be made: where those before paid, and now and then.
     fn pays(&mut self, count: usize) -> bool {
-        if self.credit[count] > 0 {
+        let account = &mut self.accounts[count];
+        if account.credit > 0 {
             return true;
         }
-        self.left_out[count] = (self.left_out[count] + 1) % PAUSE;
-        self.left_out[count] == 0
+        account.left_out = (account.left_out + 1) % PAUSE;
+        account.left_out == 0
+    }
+
+    /// Charges an amount to the part-plan of so many jobs.
+    fn spend(&mut self, count: usize, amount: u16) {
+        let account = &mut self.accounts[count];
+        account.spent = (account.spent + amount).min(MOST_SPENT);
+    }
+
+    /// Enters a part-plan of so many jobs, and leaves those that have as many or fewer.
+    fn enter(&mut self, count: usize) {
+        for left in self.entered..=count {
+            let account = &mut self.accounts[left];
+            let spent = std::mem::take(&mut account.spent);
+            account.behind = if account.behind == 0 { MEAN * spent } else { account.behind - account.behind / MEAN + spent };
+            self.spend(left + 1, spent);
+        }
+        self.spend(count + 1, PART_PLAN);
+        self.entered = count;
+    }
+
+    /// Notes whether a table of so many jobs cut off the part-plan that was entered.
+    fn note(&mut self, count: usize, cut: bool) {
+        let cost = if cut { count / 2 } else { count } as u16;
+        self.spend(count + 1, cost);
+        let account = &mut self.accounts[count];
+        let gained = if cut { account.credit + account.behind / MEAN } else { account.credit };
+        account.credit = gained.saturating_sub(cost).min(MOST_CREDIT);
+        self.entered = count + usize::from(cut);
     }
 
     fn shows(&mut self, frame: &Frame) -> bool {

@@ -10,10 +10,10 @@ use Rattle.fitting.proofs.shown.Statement.{statement}
 use Rattle.fitting.proofs.shown.Tie as tie
 
 abbrev Inv-loop : tie.InvT-loop
-Inv-loop slate₀ jobs part frame left release gone free turns₀ slate turns = (turns ≤ 2) × (length slate ≡ slateSize)
+Inv-loop slate₀ jobs part frame order count release gone free turns₀ slate turns = (turns ≤ 2) × (length slate ≡ slateSize)
 
 abbrev μ-loop : tie.MeasureT-loop
-μ-loop slate₀ jobs part frame left release gone free turns₀ slate turns = 2 - turns
+μ-loop slate₀ jobs part frame order count release gone free turns₀ slate turns = 2 - turns
 
 loop-holds : tie.Need-loop-holds Inv-loop μ-loop
 loop-holds c = search needs

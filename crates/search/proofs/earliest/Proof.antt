@@ -1,15 +1,15 @@
 -- `search::earliest` meets its contract.
-use mathlib.Core.Path.{ap, _∙_}
+use mathlib.Core.Path.{refl, ap, _∙_}
 use Prim.Native.Nat.{ℕ}
 use lib.ListN.{replicate, length-replicate}
-use Rattle.search.proofs.Whole.{earliest-end}
+use Rattle.search.proofs.Whole.{goes-on, lowest-of, earliest-end}
 use Rattle.tables.specs.Prepared.{preparedSize}
 use borrow.Author.Needs.{needs}
 use Rattle.search.proofs.earliest.Statement.{statement}
 use Rattle.search.proofs.earliest.Tie as tie
 
 least-order-requires : tie.Need-least-order-requires
-least-order-requires c κs = (length-replicate {A = ℕ} preparedSize 0, c .before .before .before .pre)
+least-order-requires c κs = (length-replicate {A = ℕ} preparedSize 0, c .before .before .before .before .pre)
 
 clear-requires : tie.Need-clear-requires
 clear-requires c κs = search needs
@@ -19,8 +19,8 @@ same-length c = c .before .before .clear .kept .0 ∙ c .before .before .before 
 
 returns : tie.Need-returns
 returns c =
-    let found = c .before .before .before .before .before .before in
-    (earliest-end (found .before .before .before .before .pre .0) (found .least-order .ensures .0), c .before .before .clear .ensures ∙ ap (λ (k : ℕ). replicate k 0) (found .least-order .kept .0))
+    let past = c .before .before .before .before .before .before .before .before in
+    (earliest-end (past .before .before .before .pre .0) (lowest-of (c .before .before .before .before .before .before .least-order .ensures .0) (goes-on (c .before .before .before .before .before .before .least-order .ensures .1 .1 refl))), c .before .before .clear .ensures ∙ ap (λ (k : ℕ). replicate k 0) (c .before .before .before .before .before .before .least-order .kept .0))
 
 pub earliest-spec : {M : Type 1} → statement M
 earliest-spec = tie.close (tie.spec least-order-requires clear-requires same-length returns)

@@ -13,15 +13,15 @@ kept-requires c κs = search needs
 returns : tie.Need-returns
 returns c =
     let p = c .before .before .before .before .pre in
-    rw (c .kept .ensures) (lower-miss (p .best-is) (λ o d. omega (arith, c .before .if1 .taken)), p .remembered)
+    rw (c .kept .ensures) (lower-miss (p .best-is) (λ s o d. omega (arith, c .before .if1 .taken)), (p .remembered, λ e. e))
 
 sub-decide : tie.Need-sub-decide
-sub-decide c = omega (arith, c .before .before .if1 .left)
+sub-decide c = omega (arith, c .before .before .before .if1 .left)
 
 decide-requires : tie.Need-decide-requires
 decide-requires c κs =
-    let p = c .before .before .before .before .before .pre in
-    let some = c .before .before .if1 .left in
+    let p = c .before .before .before .before .before .before .pre in
+    let some = c .before .before .before .if1 .left in
     (p .fit, (p .tabled, (omega (arith, p .best-is .low, some), remembered-less _ _ (omega (arith, some)) (p .remembered))))
 
 same-length : tie.Need-same-length
@@ -29,10 +29,11 @@ same-length c = c .before .before .before .decide .kept .0
 
 returns-2 : tie.Need-returns-2
 returns-2 c =
-    let asked = c .before .before .before .before .before .before in
+    let past = c .before .before .before .before .before .before .before .before in
     let decide = c .before .before .before .decide in
-    let best = asked .before .before .before .args .best in
-    lower-hit (decide .last .0) (best .end - 1) (asked .before .before .before .pre .best-is) (omega (arith, asked .if1 .left)) (decide .ensures .0) (c .if2 .taken) (decide .ensures .1)
+    let best = past .before .before .args .best in
+    let hit = lower-hit (decide .last .0) (best .end - 1) (past .before .before .pre .best-is) (omega (arith, c .before .before .before .before .before .before .before .if1 .left)) (decide .ensures .0) (c .if2 .taken) (decide .ensures .1 .0) in
+    (hit .0, (hit .1, decide .ensures .1 .1))
 
 kept-requires-2 : tie.Need-kept-requires-2
 kept-requires-2 c κs = search needs
@@ -42,12 +43,12 @@ same-length-2 c = c .before .before .before .before .decide .kept .0
 
 returns-3 : tie.Need-returns-3
 returns-3 c =
-    let asked = c .before .before .before .before .before .before .before in
+    let past = c .before .before .before .before .before .before .before .before in
     let decide = c .before .before .before .before .decide .ensures in
-    let some = asked .if1 .left in
+    let some = c .before .before .before .before .before .before .before .before .if1 .left in
     rw (c .kept2 .ensures) (
-      lower-miss (asked .before .before .before .pre .best-is) (λ o d. omega (arith, some, none-by (decide .0) (c .before .if2 .left) o d)),
-      remembered-less _ _ (omega (arith, some)) (decide .1),
+      lower-miss (past .before .before .before .pre .best-is) (λ s o d. omega (arith, some, none-by (decide .0) (c .before .if2 .left) s o d)),
+      (remembered-less _ _ (omega (arith, some)) (decide .1 .0), decide .1 .1),
     )
 
 pub lower-spec : {M : Type 1} → statement M

@@ -21,22 +21,21 @@ none-found-requires c κs = search needs
 
 returns : tie.Need-returns
 returns c =
-    let start = c .before .before .before .before in
-    let g = start .pre in
-    let cut = too-late-cut (g .known) (start .args .target) (start .args .prepared .now) (g .tabled .chains) (g .tabled .heads)
+    let g = c .before .before .before .before .pre in
+    let cut = too-late-cut (g .known) (c .before .before .before .before .args .target) (c .before .before .before .before .args .prepared .now) (g .tabled .chains) (g .tabled .heads)
     (c .before .before .too-late .ensures (c .before .if1 .taken)) in
-    (rw (c .none-found .ensures) (none-outcome cut), g .remembered)
+    (rw (c .none-found .ensures) (none-outcome cut), (g .remembered, λ e. e))
 
 begin-requires : tie.Need-begin-requires
 begin-requires c κs = c .before .before .before .before .pre .known .fit
 
 visit-requires : tie.Need-visit-requires
 visit-requires c κs =
-    let start = c .before .before .before .before .before .before .before .before in
-    let a = start .args in
+    let past = c .before .before .before .before .before .before .before .before in
+    let a = past .before .args in
     record {
-      going = start .pre;
-      slated = c .before .before .before .begin .ensures ∙ length-replicate {A = ℕ} slateSize 0;
+      going = past .before .pre;
+      slated = c .before .before .before .before .begin .ensures ∙ length-replicate {A = ℕ} slateSize 0;
       settled-so = none-settled (sheetOf (a .jobs .now)) (a .target) (wordOf (partIn (a .part .now)));
     }
 
@@ -44,7 +43,7 @@ same-length : tie.Need-same-length
 same-length c = c .before .before .visit .kept .0
 
 returns-2 : tie.Need-returns-2
-returns-2 c = let visit = c .before .before .visit .ensures in (visit .0, visit .1 .1 .0)
+returns-2 c = let visit = c .before .before .visit .ensures in (visit .0, (visit .1 .1 .0, visit .1 .1 .1 .1))
 
 pub seek-spec : {M : Type 1} → statement M
 seek-spec =

@@ -16,7 +16,7 @@ returns : tie.Need-returns
 returns c =
     let pre = c .before .before .before .before .pre in
     let g = pre .0 in
-    (rw (c .none-found .ensures) (none-outcome (not-next g (pre .1) (c .before .before .start-or-none .ensures) (c .before .if1 .taken))), g .remembered)
+    (rw (c .none-found .ensures) (none-outcome (not-next g (pre .1) (c .before .before .start-or-none .ensures) (c .before .if1 .taken))), (g .remembered, λ e. e))
 
 place-requires : tie.Need-place-requires
 place-requires c κs =
@@ -27,23 +27,22 @@ place-requires c κs =
 
 seek-requires : tie.Need-seek-requires
 seek-requires c κs =
-    let goes-on = c .before .before .before .before .before in
-    let pre = c .before .before .before .before .before .before .before .before .pre in
+    let past = c .before .before .before .before .before .before .before .before in
+    let pre = past .before .pre in
     let g = pre .0 in
-    let start = goes-on .before .start-or-none .ensures in
-    place-enter g (pre .1) start (start-low (g .known) start (goes-on .if1 .left)) (c .before .before .place .ensures)
+    let start = c .before .before .before .before .before .before .before .start-or-none .ensures in
+    place-enter g (pre .1) start (start-low (g .known) start (c .before .before .before .before .before .before .if1 .left)) (c .before .before .before .place .ensures)
 
 same-length : tie.Need-same-length
 same-length c = c .before .before .seek .kept .0
 
 returns-2 : tie.Need-returns-2
 returns-2 c =
-    let placed = c .before .before .before .before .before in
-    let goes-on = placed .before .before .before in
-    let pre = goes-on .before .before .before .pre in
+    let past = c .before .before .before .before .before .before .before .before in
+    let pre = past .before .before .before .before .pre in
     let g = pre .0 in
-    let start = goes-on .before .start-or-none .ensures in
-    let word = child-word (g .known) (pre .1) start (start-low (g .known) start (goes-on .if1 .left)) (placed .place .ensures) in
+    let start = past .before .before .start-or-none .ensures in
+    let word = child-word (g .known) (pre .1) start (start-low (g .known) start (past .before .if1 .left)) (c .before .before .before .before .before .before .place .ensures) in
     let seek = c .before .before .seek .ensures in
     (rw word at (seek .0), seek .1)
 

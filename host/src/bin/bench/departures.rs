@@ -51,13 +51,11 @@ pub fn measure(options: &Options) {
             let as_listed = Plan::as_listed(&sheet, call(&sheet).expect("a plan"));
             let mut first = None;
             let deadlines = Deadlines::of(&sheet, &figures);
-            let (best, known) = deadlines
-                .plan(|sheet| {
-                    let card = call(sheet)?;
-                    first.get_or_insert_with(|| (sheet.to_vec(), card.clone()));
-                    Ok(card)
-                })
-                .expect("a plan");
+            let mut keep = |sheet: &[u8], card: &[u8]| {
+                first.get_or_insert_with(|| (sheet.to_vec(), card.to_vec()));
+            };
+            let planned = deadlines.plan(|sheet| call(sheet).inspect(|card| keep(sheet, card)));
+            let (best, known) = planned.expect("a plan");
             let (first_sheet, first_card) = first.expect("a first call");
             let first_card = Card::of(&first_card).expect("a card");
             assert!(as_listed.card.end == end && first_card.end == end && best.card.end == end, "{}", list.name);

@@ -2,7 +2,7 @@
 //! within a time.
 use depot_host::drawing::colours::{self, Palette, LIGHT};
 use depot_host::drawing::markup::escaped;
-use depot_host::drawing::words::{anchored, at, width, within, BOLD};
+use depot_host::drawing::words::{anchored, at, width, within};
 use std::fmt::Write;
 
 /// A group's lists: how many, and a line for each working memory.
@@ -100,7 +100,7 @@ fn panel(panel: &Panel, cutoff: f64) -> String {
     let solved = if least == most { most.to_string() } else { format!("{least} to {most}") };
     let solved = format!("{solved} of {} solved", panel.lists);
     let room = CURVES_WIDE - width(&solved, SIZE) - 10.0;
-    let mut svg = within("strong", SIZE * BOLD, LEFT, ABOVE - 12.0, &panel.name, room);
+    let mut svg = within("strong", SIZE, LEFT, ABOVE - 12.0, &panel.name, room);
     svg += &anchored("soft", "end", LEFT + CURVES_WIDE, ABOVE - 12.0, &solved);
     svg += &axes(cutoff);
     let (x, middle) = (10.0, y(0.5));

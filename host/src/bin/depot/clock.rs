@@ -1,6 +1,6 @@
 //! The yard's clock: minutes counted from the plan's start as times of day.
 
-const DAY: u32 = 24 * 60;
+pub const DAY: u32 = 24 * 60;
 
 /// A clock that shows the time of day, from that of minute 0 on, or the hours since minute 0.
 #[derive(Clone, Copy, Debug, PartialEq, Eq)]
@@ -30,6 +30,21 @@ impl Clock {
         let days = all / DAY;
         let marked = if days == 0 { String::new() } else { format!("+{days}") };
         format!("{}{marked}", hours(all % DAY))
+    }
+
+    /// The time of day alone, whatever the day; without a start the hours since it.
+    pub fn hour(self, minute: u32) -> String {
+        self.start.map_or_else(|| self.time(minute), |start| hours((start + minute) % DAY))
+    }
+
+    /// How many days after the start's a minute lies; 0 without a start.
+    pub fn days(self, minute: u32) -> u32 {
+        self.start.map_or(0, |start| (start + minute) / DAY)
+    }
+
+    /// The time of day at minute 0, in minutes after midnight.
+    pub fn start(self) -> Option<u32> {
+        self.start
     }
 
     /// The minutes up to the last one at which the time of day, or the time since the start, is a whole number of steps; the start in front

@@ -9,7 +9,7 @@ The plans, ends and grants come from the proved library; this tool reads lists a
 usage: depot VERB ..
 
   depot plan LIST.csv            the plan that ends first, as a table
-  depot plan LIST.csv --svg OUT  and as a picture; --html OUT for a page
+  depot plan LIST.csv --svg OUT  and as a picture; --html OUT for a page, --wall OUT for a screen on the wall
   depot end LIST.csv             the earliest end alone, in a sentence
   depot size LIST.csv --by TIME  how many modules are enough, so that the last bus is full by then
   depot use LIST.csv ..          how much of the cabinet is used, of one list or of several
@@ -60,9 +60,13 @@ usage: depot end LIST|SHEET [OPTION..]
 Says when the last bus is full at the earliest: the end of the plan that 'depot plan' shows, and of no plan, whoever makes it, earlier.
 It takes less time than the plan.
 
+A search that lasts says on standard error how it stands. Ctrl-C takes the best end so far, as does the end of --within: it is marked as
+not shown to be the earliest, with the minute before which no plan ends. The exit status is 0. A second Ctrl-C ends the program.
+
   --start HH:MM    the plan's start as a time of day, in place of the list's
   --raw            the minute alone, counted from the start
   --json           for programs
+  --within SECS    the best end after so many seconds, 0.1 to 86400, where the search is not over by then; if it is, nothing is different
   --memory BYTES   working memory of the search, 0 to 16G, with K, M or G (16M); no length changes the answer
 ";
 
@@ -106,17 +110,28 @@ it is.
 
 Table, page, picture and --json have the list's order and numbers; --raw, --card and --sheet those of the sheet that was planned.
 
+A search that lasts says on standard error how long it has lasted, when the best plan so far ends, and when none ends before. Ctrl-C takes
+the best plan so far, as does the end of --within: a valid plan, marked as not shown to be the earliest, with the minutes that can be
+gained at most. It has no slack, and a cabinet that plans its sheet may come to another. The exit status is 0. With --on-time there is
+nothing to take, and it is 1. A second Ctrl-C ends the program.
+
   --by-line        the list's jobs on the sheet in the order of its lines, as 'depot sheet' writes it
   --on-time        the first plan in which nobody is late, though it may end later; on its sheet a bus may be held back
   --start HH:MM    the plan's start as a time of day, in place of the list's; the list's times of day count from it
+  --depot NAME     the depot's name, up to 60 characters: over table, work list, picture and pages, in --json and as a remark in --csv
+  --date DATE      the date of the plan's start, as 2026-11-17, in the same places; past midnight the next date too
   --work           the night's work by the clock in place of the table: who is plugged in and unplugged when, and on which modules
   --raw            exactly the printing program's lines
   --json           for programs
   --svg OUT        a picture of the plan too
-  --html OUT       a page with the picture, the table and the work by the clock too
+  --html OUT       a page with the picture, the table and the work by the clock too, for wide and narrow screens and for paper
+  --wall OUT       a page for a screen on the wall too: who is on charge, who is next, what is to be done, and who is late, in large type;
+                   it goes by the browser's clock, every night from the start's time of day on, and with --date in that night alone
+  --now TIME       the wall's page as at this time, 22:45, without a script; a minute counted from the start where the list has none
   --csv OUT        the list with columns for start, end, modules, slack and lateness too, for a spreadsheet; it is a list again
   --sheet OUT      the job sheet that was planned too: a cabinet that plans it comes to this plan
   --card OUT       the plan card's bytes too, of that sheet; of these files one may be -, standard output, and is then all that goes there
+  --within SECS    the best plan after so many seconds, 0.1 to 86400, where the search is not over by then; if it is, nothing is different
   --memory BYTES   working memory of the search, 0 to 16G, with K, M or G (16M); no length changes the answer
 ";
 
@@ -188,6 +203,8 @@ Commands:
 
 LIMIT, SHARE, CEILING and KW are kilowatts in whole hundreds of watts: 30, 12.5; or so many modules of a size: 3x30 is three of 30 kW.
 A controller is named by its number, from 0, or by its name. Lines that begin with # are remarks.
+At a keyboard the arrows, Home, End, Backspace and Delete edit a line, and up and down bring earlier ones back; Ctrl-C gives a line up, Ctrl-D
+on an empty one ends the desk.
 
   --svg OUT        a picture of the calls: what each controller holds behind each, what stays reserved, and the limit
   --json           an object for each command, for programs; figures in kW too
@@ -219,6 +236,8 @@ neighbour claims all that a look shows, every minute, and hands back at some min
   --by-line          the plan of 'depot plan --by-line'
   --on-time          the plan of 'depot plan --on-time'
   --start HH:MM      the plan's start as a time of day, in place of the list's
+  --depot NAME       the depot's name, over text, picture and page, and in --json
+  --date DATE        the date of the plan's start, as 2026-11-17, in the same places
   --json             for programs
   --svg OUT          a picture of the night too
   --html OUT         a page with the night's picture, the plan's and the calls too; one of the two may be -, standard output, and is

@@ -12,6 +12,7 @@ pub fn notes(plan: &Planned) -> Vec<String> {
     let nobody = if notes.is_empty() { "nobody" } else { "nobody else" };
     if plan.late().any(|job| job.always_late.is_none_or(|end| job.row.end > end)) {
         notes.push(match plan.on_time {
+            None if plan.bound().is_some() => "It is not settled whether fewer buses need be late.".into(),
             None if plan.of_list => "No plan ends earlier; of those that end alike the order of the lines decides.".into(),
             None => "No plan ends earlier; of those that end alike the order of the sheet's jobs decides.".into(),
             Some(OnTime::From(at)) => format!(

@@ -19,7 +19,8 @@ pub fn text(plan: &Planned) -> String {
         more.push(("slack", column(&|job| job.slack.map_or(String::new(), |slack| slack.slack.to_string()))));
     }
     more.push(("lateness", column(&|job| job.lateness().to_string())));
-    list::text_with(&reading, &labels, clock, &more)
+    let over: String = plan.over().into_iter().chain(plan.warning()).map(|words| format!("# {words}\n")).collect();
+    over + &list::text_with(&reading, &labels, clock, &more)
 }
 
 /// Modules as `0..3 8`: a spreadsheet takes `1-8` for a date.

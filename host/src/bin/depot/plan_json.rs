@@ -18,8 +18,19 @@ pub fn text(plan: &Planned) -> String {
     if !plan.has_start {
         members.remove(1);
     }
+    let place = members.iter().position(|(name, _)| *name == "cabinet").expect("the cabinet is a member");
+    members.splice(place..place, exactness(plan));
+    members.splice(0..0, plan.heading.members());
     members.extend(plan.on_time.and_then(first_on_time));
     json::object(&members) + "\n"
+}
+
+/// Whether it is the plan that planning gives; where that is not shown, a minute before which no plan ends.
+fn exactness(plan: &Planned) -> Vec<(&'static str, String)> {
+    let bound = plan.bound();
+    let time = bound.filter(|_| plan.has_start).map(|minute| ("bound_time", time(plan, minute)));
+    let bound_member = bound.map(|minute| ("bound", minute.to_string()));
+    [Some(("exact", bound.is_none().to_string())), bound_member, time].into_iter().flatten().collect()
 }
 
 /// The end of the first plan in which nobody is late, or a minute before which none of them ends; null where there is none.

@@ -103,7 +103,7 @@ pub fn columns(plan: &Planned) -> Vec<Column> {
     if plan.jobs.iter().any(|job| job.job.earlier != 0) {
         columns.push(column("after", false, &|_, job| plan.after(job)));
     }
-    if plan.jobs.iter().any(|job| job.slack.is_some()) {
+    if plan.has_slack() {
         columns.push(column("slack", true, &|_, job| job.slack.map_or(String::new(), |slack| slack_in_words(slack.slack))));
     }
     columns.push(column("lateness", true, &|_, job| lateness_in_words(job.lateness())));
@@ -112,13 +112,20 @@ pub fn columns(plan: &Planned) -> Vec<Column> {
 
 /// What is said below the table.
 pub fn notes(plan: &Planned) -> Vec<String> {
-    let days = plan.days_in_words().map(String::from).into_iter().collect();
+    let days = plan.days_in_words().into_iter().collect();
     [lateness::notes(plan), road::notes(plan), days].concat()
+}
+
+/// A line with the depot and the dates, where they are given; and one with what is to be known first of a plan that is not settled.
+pub fn over(plan: &Planned, style: Style) -> String {
+    let lines = [plan.over().map(|words| style.bold(&words)), plan.warning().map(|words| style.bad(&words))];
+    lines.into_iter().flatten().map(|line| line + "\n").collect()
 }
 
 /// The plan as a table for people.
 pub fn table(plan: &Planned, style: Style) -> String {
-    let mut text = format!("{}: {}\n", style.bold(&plan.name), summary(plan).join("\n"));
+    let mut text = over(plan, style);
+    writeln!(text, "{}: {}", style.bold(&plan.name), summary(plan).join("\n")).unwrap();
     if plan.jobs.is_empty() {
         return text;
     }
@@ -135,7 +142,8 @@ pub fn table(plan: &Planned, style: Style) -> String {
         writeln!(text, "{line}").unwrap();
     }
     let order: Vec<&str> = plan.order.iter().map(|job| plan.jobs[usize::from(*job)].label.as_str()).collect();
-    writeln!(text, "\nStarting order: {}.\n{} {OF_SLACK}", order.join(", "), plan.none_earlier()).unwrap();
+    let of_slack = if plan.has_slack() { format!(" {OF_SLACK}") } else { String::new() };
+    writeln!(text, "\nStarting order: {}.\n{}{of_slack}", order.join(", "), plan.none_earlier()).unwrap();
     for note in notes(plan) {
         writeln!(text, "{note}").unwrap();
     }

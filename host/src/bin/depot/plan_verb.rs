@@ -2,17 +2,23 @@
 use crate::arguments::{Arguments, Takes};
 use crate::clock::{Clock, START_ALLOWED};
 use crate::files::Files;
+use crate::heading::Heading;
 use crate::outcome::{say, Outcome, Trouble};
 use crate::planned::{Planned, Yard};
 use crate::search::{By, Failed, Found};
 use crate::style::Style;
-use crate::{chart, json, lateness, page, plan_csv, plan_json, plan_text, pointer, search, work_list};
+use crate::waiting::{self, Waiting};
+use crate::{chart, json, lateness, page, plan_csv, plan_json, plan_text, pointer, search, wall, work_list};
 use depot_host::{units, Refusal};
+use std::time::Duration;
 
 const TAKES: Takes = Takes {
     verb: "plan",
     flags: &["--raw", "--json", "--work", "--by-line", "--on-time"],
-    values: &["--start", "--svg", "--html", "--csv", "--card", "--sheet", "--memory"],
+    values: &[
+        "--start", "--depot", "--date", "--svg", "--html", "--wall", "--now", "--csv", "--card", "--sheet", "--within",
+        "--memory",
+    ],
     plain: &["a list or a sheet"],
     needed: 1,
     more: false,
@@ -37,19 +43,30 @@ pub enum Form {
 pub fn run(words: &[String]) -> Result<Outcome, Trouble> {
     let arguments = Arguments::read(&TAKES, words)?;
     let asked = Asked::by(&arguments)?;
-    let files = Files::of(&arguments, &["--sheet", "--card", "--svg", "--html", "--csv"])?;
+    let files = Files::of(&arguments, &["--sheet", "--card", "--svg", "--html", "--wall", "--csv"])?;
+    if arguments.value("--now").is_some() && arguments.value("--wall").is_none() {
+        return Err(Trouble::usage("--now goes with --wall", arguments.verb()));
+    }
     let yard = Yard::open(arguments.plain(0).expect("a file is needed"), asked.start)?;
+    let now = wall::now(&arguments, &yard)?;
     let with_slack = asked.form != Form::Raw || ["--html", "--csv"].iter().any(|file| arguments.value(file).is_some());
-    let found = match asked.plan(&yard, with_slack) {
+    let found = match asked.plan_until(&yard, with_slack, &mut Waiting::until(asked.within, yard.clock)) {
         Ok(found) => found,
         Err(failed) => return not_planned(&yard, failed, asked.form),
     };
     let (sheet, bytes) = (found.sheet.clone(), found.bytes.clone());
-    let plan = Planned::new(&yard, found);
+    let plan = Planned::new(&yard, found, &asked.heading);
+    if let Some(warning) = plan.warning().filter(|_| asked.form != Form::Table || files.takes_output()) {
+        eprintln!("{}: {warning}", yard.name);
+    }
+    if plan.bound().is_some() && arguments.value("--sheet").is_some() {
+        eprintln!("{}: a cabinet that plans this sheet may come to another plan", yard.name);
+    }
     files.write("--sheet", || sheet)?;
     files.write("--card", || bytes)?;
     files.write("--svg", || chart::file(&plan).into_bytes())?;
     files.write("--html", || page::text(&plan).into_bytes())?;
+    files.write("--wall", || wall::text(&plan, now).into_bytes())?;
     files.write("--csv", || plan_csv::text(&plan).into_bytes())?;
     files.then_say(|| match asked.form {
         Form::Table if arguments.has("--work") => work_list::text(&plan, Style::of_output()),
@@ -64,6 +81,9 @@ pub struct Asked {
     pub form: Form,
     pub start: Option<Clock>,
     pub memory: usize,
+    /// How long the search is waited for at most.
+    pub within: Option<Duration>,
+    pub heading: Heading,
     by: Option<By>,
 }
 
@@ -82,19 +102,24 @@ impl Asked {
             (false, true) => Some(By::OnTime),
             (false, false) => None,
         };
-        Ok(Asked { form, start, memory, by })
+        let within = arguments.read_value("--within", waiting::seconds, waiting::WITHIN_ALLOWED)?;
+        Ok(Asked { form, start, memory, within, heading: Heading::by(arguments)?, by })
     }
 
     /// The plan of a yard: where nothing else is asked for that of a list by its departures, and a sheet as it is.
     pub fn plan(&self, yard: &Yard, with_slack: bool) -> Result<Found, Failed> {
-        let usual = if yard.is_list() { By::Departure } else { By::Line };
-        search::run(&yard.sheet, self.by.unwrap_or(usual), self.memory, with_slack)
+        self.plan_until(yard, with_slack, &mut Waiting::for_ever())
     }
 
-    /// What is asked of a verb that takes one list, these flags, a start and the search's memory; and the list.
-    pub fn of_a_list(verb: &str, flags: &[&str], words: &[String]) -> Result<(Asked, Yard), Trouble> {
-        let takes =
-            Takes { verb, flags, values: &["--start", "--memory"], plain: &["a list or a sheet"], needed: 1, more: false };
+    /// The same; where it is waited for no longer the best plan so far.
+    fn plan_until(&self, yard: &Yard, with_slack: bool, waiting: &mut Waiting) -> Result<Found, Failed> {
+        let usual = if yard.is_list() { By::Departure } else { By::Line };
+        search::run(&yard.sheet, self.by.unwrap_or(usual), self.memory, with_slack, waiting)
+    }
+
+    /// What is asked of a verb that takes one list, these flags and options; and the list.
+    pub fn of_a_list(verb: &str, flags: &[&str], values: &[&str], words: &[String]) -> Result<(Asked, Yard), Trouble> {
+        let takes = Takes { verb, flags, values, plain: &["a list or a sheet"], needed: 1, more: false };
         let arguments = Arguments::read(&takes, words)?;
         let asked = Asked::by(&arguments)?;
         let yard = Yard::open(arguments.plain(0).expect("a file is needed"), asked.start)?;
@@ -119,6 +144,10 @@ pub fn not_planned(yard: &Yard, failed: Failed, form: Form) -> Result<Outcome, T
         Failed::Refused(refusal) => refused(yard, refusal, form),
         Failed::Late(known) => {
             eprintln!("{}: {}", yard.name, lateness::of_none(yard, known));
+            Ok(Outcome::Refused)
+        }
+        Failed::Stopped(after) => {
+            eprintln!("{}: no plan in which nobody is late was found in {after} of searching", yard.name);
             Ok(Outcome::Refused)
         }
     }

@@ -1,8 +1,10 @@
 //! What is planned: a job sheet from a file, and the plan on the card that the library left.
 use crate::clock::{how_long, Clock};
+use crate::heading::Heading;
 use crate::list;
 use crate::outcome::{bytes_of, Trouble};
 use crate::search::Found;
+use crate::taken::Taken;
 use depot_host::on_time::{Deadlines, OnTime};
 use depot_host::order::Order;
 use depot_host::{label_of, Job, JobSlack, Reading, Refusal, Row};
@@ -70,6 +72,7 @@ impl PlannedJob {
 /// A plan: what the sheet says of each job, and what the card says of it.
 pub struct Planned {
     pub name: String,
+    pub heading: Heading,
     pub modules: u16,
     /// The minutes that a module rests between two jobs.
     pub changeover: u16,
@@ -86,11 +89,13 @@ pub struct Planned {
     pub of_list: bool,
     /// Whether nobody was to be late, even if the plan ends later.
     pub on_time_asked: bool,
+    /// What was not settled, where it was taken before the search was over.
+    pub taken: Option<Taken>,
 }
 
 impl Planned {
-    pub fn new(yard: &Yard, found: Found) -> Planned {
-        let Found { reading, card, slacks, order: numbering, on_time, on_time_asked, .. } = found;
+    pub fn new(yard: &Yard, found: Found, heading: &Heading) -> Planned {
+        let Found { reading, card, slacks, order: numbering, on_time, on_time_asked, taken, .. } = found;
         let always_late = Deadlines::of(&yard.sheet, &reading).always_late();
         let labels = labels(&yard.sheet, &reading);
         let mut slacks = slacks.into_iter().flatten();
@@ -98,6 +103,7 @@ impl Planned {
         let job = |(((label, job), row), always_late)| PlannedJob { label, job, row, slack: slacks.next(), always_late };
         Planned {
             name: yard.name.rsplit('/').next().unwrap_or(&yard.name).into(),
+            heading: heading.clone(),
             modules: reading.modules,
             changeover: reading.changeover,
             jobs: parts.map(job).collect(),
@@ -109,6 +115,7 @@ impl Planned {
             on_time,
             of_list: yard.is_list(),
             on_time_asked,
+            taken,
         }
     }
 
@@ -123,6 +130,11 @@ impl Planned {
     /// Whether some bus is still on the road at the plan's start.
     pub fn has_arrivals(&self) -> bool {
         self.on_the_road().next().is_some()
+    }
+
+    /// Whether the slack of its jobs is known.
+    pub fn has_slack(&self) -> bool {
+        self.jobs.iter().any(|job| job.slack.is_some())
     }
 
     /// Whether modules rest between two jobs.
@@ -142,9 +154,24 @@ impl Planned {
     }
 
     /// What `+1` behind a time means, where some time of the plan has it.
-    pub fn days_in_words(&self) -> Option<&'static str> {
-        let last = self.jobs.iter().map(|job| self.free_from(job).max(job.job.departure)).max()?;
-        (self.has_start && self.clock.time(last.into()).contains('+')).then_some(DAYS)
+    pub fn days_in_words(&self) -> Option<String> {
+        self.days_up_to(self.jobs.iter().map(|job| self.free_from(job).max(job.job.departure)).max()?)
+    }
+
+    /// What `+1` behind a time means, where some time up to this minute has it.
+    pub fn days_up_to(&self, minute: u16) -> Option<String> {
+        let days = self.clock.days(minute.into());
+        (days > 0).then(|| self.heading.marks(days))
+    }
+
+    /// The depot and the dates of the plan, where they are given.
+    pub fn over(&self) -> Option<String> {
+        self.heading.words(self.clock.days(self.end.into()))
+    }
+
+    /// What stands over a picture or a page: depot, dates and the list's name.
+    pub fn title(&self) -> String {
+        self.over().into_iter().chain([self.name.clone()]).collect::<Vec<_>>().join(", ")
     }
 
     /// How many of what, in words.
@@ -153,11 +180,14 @@ impl Planned {
     }
 
     /// That no plan ends earlier; where one that is late might, of which plans none does.
-    pub fn none_earlier(&self) -> &'static str {
-        if self.on_time_asked {
-            return "No valid plan in which nobody is late ends earlier.";
+    pub fn none_earlier(&self) -> String {
+        if let Some(bound) = self.bound().filter(|bound| *bound < self.end) {
+            return format!("The plan is valid. No valid plan of this sheet ends before {}.", self.in_short(bound));
         }
-        "No valid plan of this sheet ends earlier."
+        if self.on_time_asked {
+            return "No valid plan in which nobody is late ends earlier.".into();
+        }
+        "No valid plan of this sheet ends earlier.".into()
     }
 
     /// The plan's end, in words.
@@ -182,9 +212,6 @@ impl Planned {
         format!("minute {minute}")
     }
 }
-
-/// What `+1` behind a time means.
-pub const DAYS: &str = "+1 is the day after the start's.";
 
 /// The jobs of a set.
 pub fn members(set: u32) -> Vec<usize> {

@@ -31,7 +31,7 @@ pub fn notes(plan: &Planned) -> Vec<String> {
     if held.len() > NAMED {
         notes.push(format!("So do {} more.", held.len() - NAMED));
     }
-    if let Some(first) = held.first().filter(|_| plan.numbering.is_the_list_s()) {
+    if let Some(first) = held.first().filter(|_| plan.numbering.is_the_list_s() && plan.bound().is_none()) {
         notes.push(format!(
             "Of orders that end alike the one is taken that comes first by the lines of the list: with the line of {} above that of {} \
              the plan may be another.",
@@ -92,6 +92,7 @@ mod tests {
         };
         Planned {
             name: String::new(),
+            heading: crate::heading::Heading::default(),
             modules: 2,
             changeover: 0,
             jobs: jobs.iter().enumerate().map(job).collect(),
@@ -103,6 +104,7 @@ mod tests {
             on_time: None,
             of_list: true,
             on_time_asked: false,
+            taken: None,
         }
     }
 

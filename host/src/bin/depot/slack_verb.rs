@@ -1,9 +1,10 @@
 //! `depot slack`: which bus may wait and which holds up a departure, and the waits of a list that others imply.
 use crate::clock::Clock;
+use crate::heading::DAYS;
 use crate::outcome::{say, Outcome, Trouble};
 use crate::plan_text::{lines, Column};
 use crate::plan_verb::{not_planned, Asked, Form};
-use crate::planned::{counted, labels, slack_in_words, Yard, DAYS, OF_SLACK};
+use crate::planned::{counted, labels, slack_in_words, Yard, OF_SLACK};
 use crate::search::Found;
 use crate::style::Style;
 use crate::{json, list};
@@ -11,7 +12,8 @@ use depot_host::{JobSlack, Reading};
 use std::fmt::Write;
 
 pub fn run(words: &[String]) -> Result<Outcome, Trouble> {
-    let (asked, yard) = Asked::of_a_list("slack", &["--raw", "--json", "--by-line", "--on-time"], words)?;
+    let (asked, yard) =
+        Asked::of_a_list("slack", &["--raw", "--json", "--by-line", "--on-time"], &["--start", "--memory"], words)?;
     let found = match asked.plan(&yard, true) {
         Ok(found) => found,
         Err(failed) => return not_planned(&yard, failed, asked.form),

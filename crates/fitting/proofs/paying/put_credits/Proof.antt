@@ -1,7 +1,7 @@
 -- `fitting::paying::put_credits` meets its contract.
 use mathlib.Core.Path.{_≡_}
 use Prim.Native.Nat.{_+_, _-_, _≤_}
-use lib.ListN.{length, length-set}
+use lib.ListN.{length}
 use Rattle.figures.specs.Figures.{mostJobs}
 use borrow.Author.Needs.{needs}
 use Rattle.fitting.proofs.paying.put_credits.Statement.{statement}
@@ -15,6 +15,9 @@ abbrev μ-loop : tie.MeasureT-loop
 
 loop-holds : tie.Need-loop-holds Inv-loop μ-loop
 loop-holds c = search needs
+
+first-credit-requires : tie.Need-first-credit-requires Inv-loop μ-loop
+first-credit-requires c κs = search needs
 
 add-slate : tie.Need-add-slate Inv-loop μ-loop
 add-slate c = search needs
@@ -32,7 +35,7 @@ loop-less : tie.Need-loop-less Inv-loop μ-loop
 loop-less c = search needs
 
 loop-again : tie.Need-loop-again Inv-loop μ-loop
-loop-again c = (search needs, simp length-set (c .before .loop .inv .1))
+loop-again c = search needs
 
 returns : tie.Need-returns Inv-loop μ-loop
 returns c = c .before .loop .inv .1
@@ -44,6 +47,7 @@ put-credits-spec =
     Inv-loop
     μ-loop
     loop-holds
+    first-credit-requires
     add-slate
     mul-slate
     element-write-slate

@@ -7,10 +7,10 @@ use Rattle.fitting.proofs.turning.double_shares.Statement.{statement}
 use Rattle.fitting.proofs.turning.double_shares.Tie as tie
 
 abbrev Inv-loop : tie.InvT-loop
-Inv-loop slate₀ left i₀ slate i = (i ≤ left .count) × (length slate ≡ length slate₀)
+Inv-loop slate₀ order count i₀ slate i = (i ≤ count) × (length slate ≡ length slate₀)
 
 abbrev μ-loop : tie.MeasureT-loop
-μ-loop slate₀ left i₀ slate i = left .count - i
+μ-loop slate₀ order count i₀ slate i = count - i
 
 loop-holds : tie.Need-loop-holds Inv-loop μ-loop
 loop-holds c = (search needs, refl)
@@ -46,10 +46,10 @@ loop-less : tie.Need-loop-less Inv-loop μ-loop
 loop-less c = search needs
 
 loop-again : tie.Need-loop-again Inv-loop μ-loop
-loop-again c = (search needs, simp length-set (c .before .before .before .before .before .loop .inv .1))
+loop-again c = (search needs, simp length-set (c .before .before .before .before .loop .inv .1))
 
 returns : tie.Need-returns Inv-loop μ-loop
-returns c = c .before .before .loop .inv .1
+returns c = c .before .loop .inv .1
 
 pub double-shares-spec : {M : Type 1} → statement M
 double-shares-spec =

@@ -8,10 +8,10 @@ use Rattle.fitting.proofs.turning.lanes_of.Statement.{statement}
 use Rattle.fitting.proofs.turning.lanes_of.Tie as tie
 
 abbrev Inv-loop : tie.InvT-loop
-Inv-loop slate jobs part frame left release gone free placed lanes₀ i₀ lanes i = placed ≡ partIn part .placed
+Inv-loop slate jobs part frame order count release gone free placed lanes₀ i₀ lanes i = placed ≡ partIn part .placed
 
 abbrev μ-loop : tie.MeasureT-loop
-μ-loop slate jobs part frame left release gone free placed lanes₀ i₀ lanes i = placed - i
+μ-loop slate jobs part frame order count release gone free placed lanes₀ i₀ lanes i = placed - i
 
 placed-requires : tie.Need-placed-requires Inv-loop μ-loop
 placed-requires c κs = search needs

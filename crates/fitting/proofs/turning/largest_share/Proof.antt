@@ -5,10 +5,10 @@ use Rattle.fitting.proofs.turning.largest_share.Statement.{statement}
 use Rattle.fitting.proofs.turning.largest_share.Tie as tie
 
 abbrev Inv-loop : tie.InvT-loop
-Inv-loop slate left largest₀ i₀ largest i = i ≤ left .count
+Inv-loop slate order count largest₀ i₀ largest i = i ≤ count
 
 abbrev μ-loop : tie.MeasureT-loop
-μ-loop slate left largest₀ i₀ largest i = left .count - i
+μ-loop slate order count largest₀ i₀ largest i = count - i
 
 loop-holds : tie.Need-loop-holds Inv-loop μ-loop
 loop-holds c = search needs

@@ -7,10 +7,10 @@ use Rattle.fitting.proofs.turning.move_shares.Statement.{statement}
 use Rattle.fitting.proofs.turning.move_shares.Tie as tie
 
 abbrev Inv-loop : tie.InvT-loop
-Inv-loop slate₀ jobs lanes left gap squares i₀ slate i = (i ≤ left .count) × (length slate ≡ length slate₀)
+Inv-loop slate₀ jobs lanes order count gap squares i₀ slate i = (i ≤ count) × (length slate ≡ length slate₀)
 
 abbrev μ-loop : tie.MeasureT-loop
-μ-loop slate₀ jobs lanes left gap squares i₀ slate i = left .count - i
+μ-loop slate₀ jobs lanes order count gap squares i₀ slate i = count - i
 
 loop-holds : tie.Need-loop-holds Inv-loop μ-loop
 loop-holds c = (search needs, refl)
@@ -69,10 +69,10 @@ loop-less c = search needs
 loop-again : tie.Need-loop-again Inv-loop μ-loop
 loop-again c =
     let past = c .before .before .before .before .before .before .before .before in
-    (search needs, simp length-set (past .before .before .loop .inv .1))
+    (search needs, simp length-set (past .before .loop .inv .1))
 
 returns : tie.Need-returns Inv-loop μ-loop
-returns c = c .before .before .loop .inv .1
+returns c = c .before .loop .inv .1
 
 pub move-shares-spec : {M : Type 1} → statement M
 move-shares-spec =

@@ -5,10 +5,10 @@ use Rattle.fitting.proofs.turning.squares_of.Statement.{statement}
 use Rattle.fitting.proofs.turning.squares_of.Tie as tie
 
 abbrev Inv-loop : tie.InvT-loop
-Inv-loop jobs lanes left total₀ i₀ total i = (i ≤ left .count) × (total ≤ 4294967295 * i)
+Inv-loop jobs lanes order count total₀ i₀ total i = (i ≤ count) × (total ≤ 4294967295 * i)
 
 abbrev μ-loop : tie.MeasureT-loop
-μ-loop jobs lanes left total₀ i₀ total i = left .count - i
+μ-loop jobs lanes order count total₀ i₀ total i = count - i
 
 loop-holds : tie.Need-loop-holds Inv-loop μ-loop
 loop-holds c = search needs

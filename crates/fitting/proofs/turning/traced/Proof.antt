@@ -6,10 +6,10 @@ use Rattle.fitting.proofs.turning.traced.Statement.{statement}
 use Rattle.fitting.proofs.turning.traced.Tie as tie
 
 abbrev Inv-loop : tie.InvT-loop
-Inv-loop slate jobs frame left release t more next₀ x₀ i₀ next x i = i ≤ left .count
+Inv-loop slate jobs frame order count release t more next₀ x₀ i₀ next x i = i ≤ count
 
 abbrev μ-loop : tie.MeasureT-loop
-μ-loop slate jobs frame left release t more next₀ x₀ i₀ next x i = i
+μ-loop slate jobs frame order count release t more next₀ x₀ i₀ next x i = i
 
 returns : tie.Need-returns Inv-loop μ-loop
 returns c = search needs

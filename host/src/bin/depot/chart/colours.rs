@@ -42,8 +42,8 @@ pub fn rules(plan: &Planned, palette: &Palette) -> String {
 pub fn page_rules(plan: &Planned, palette: &Palette) -> String {
     let Palette { paper, ink, soft, grid, late, .. } = palette;
     format!(
-        "body{{background:{paper};color:{ink}}}th,td{{border-bottom:1px solid {grid}}}th,footer{{color:{soft}}}\
-         tr.late td{{background:{}}}tr.late td:last-child{{color:{}}}{}",
+        "body{{background:{paper};color:{ink}}}th,td{{border-bottom:1px solid {grid}}}th,footer,.below,td::before{{color:{soft}}}.cards tr{{border-color:{grid}}}\
+         tr.late{{background:{}}}tr.late td:last-child{{color:{}}}{}",
         late.0,
         late.1,
         rules(plan, palette)

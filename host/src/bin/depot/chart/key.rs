@@ -51,7 +51,7 @@ fn row(plan: &Planned, frame: &Frame, number: usize, planned: &PlannedJob, class
     let y = frame.key_top() + 10.0 + KEY_ROW * (number as f64 + 1.0);
     let left = frame.key_left;
     let mut svg = swatch(left, y - 9.5, class);
-    svg += &words::within("strong", 11.0 * words::BOLD, left + LABEL, y, label, LABEL_ROOM);
+    svg += &words::within("strong", 11.0, left + LABEL, y, label, LABEL_ROOM);
     let time = |minute: u16| plan.clock.time(minute.into());
     let mut cells = vec![job.modules.to_string(), time(row.start), time(row.end), time(job.departure)];
     if plan.has_arrivals() {

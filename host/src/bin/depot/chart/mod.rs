@@ -34,7 +34,7 @@ fn picture(plan: &Planned, style: &str) -> String {
     let mut svg = format!(
         "<svg xmlns=\"http://www.w3.org/2000/svg\" class=\"chart\" width=\"{width}\" height=\"{height}\" \
          viewBox=\"0 0 {width} {height}\" role=\"img\" aria-label=\"{}\">\n{style}",
-        escaped(&format!("{}: {}", plan.name, plan_text::summary(plan).join(" ")))
+        escaped(&format!("{}: {}", title_of(plan), plan_text::summary(plan).join(" ")))
     );
     svg += "<defs><pattern id=\"late\" width=\"6\" height=\"6\" patternUnits=\"userSpaceOnUse\" patternTransform=\"rotate(45)\">\
             <line class=\"hatch\" x1=\"0\" y1=\"0\" x2=\"0\" y2=\"6\"/></pattern></defs>\n";
@@ -53,6 +53,11 @@ fn picture(plan: &Planned, style: &str) -> String {
     svg + "</svg>\n"
 }
 
+/// The plan's title, with a mark where it is not shown to be the earliest.
+fn title_of(plan: &Planned) -> String {
+    [plan.title()].into_iter().chain(plan.mark()).collect::<Vec<_>>().join(": ")
+}
+
 fn title(plan: &Planned) -> String {
     const SIZE: f64 = 13.0;
     let room = frame::WIDTH - 2.0 * frame::MARGIN;
@@ -60,7 +65,7 @@ fn title(plan: &Planned) -> String {
     if let Some(late) = lines.get_mut(1).filter(|late| words::width(late, SIZE) > 1.1 * room) {
         *late = plan_text::late_in_words(plan, 0);
     }
-    let mut svg = words::within("title", 19.0 * words::BOLD, frame::MARGIN, 34.0, &plan.name, room);
+    let mut svg = words::within("title", 19.0, frame::MARGIN, 34.0, &title_of(plan), room);
     for (place, line) in lines.iter().enumerate() {
         svg += &words::within("lead", SIZE, frame::MARGIN, 54.0 + 17.0 * place as f64, line, room);
     }

@@ -1,4 +1,5 @@
 //! The log of a desk: every command with its time and its answer, added to a file.
+use crate::date::Date;
 use crate::outcome::unwritable;
 use std::fs::{File, OpenOptions};
 use std::io::Write;
@@ -26,23 +27,8 @@ impl Log {
 
 /// Date and time of so many seconds since 1970 began, in UTC.
 fn utc(seconds: u64) -> String {
-    let (mut days, second) = (seconds / 86_400, seconds % 86_400);
-    let leap = |year: u64| year.is_multiple_of(4) && (!year.is_multiple_of(100) || year.is_multiple_of(400));
-    let mut year = 1970;
-    while days >= 365 + u64::from(leap(year)) {
-        days -= 365 + u64::from(leap(year));
-        year += 1;
-    }
-    let february = 28 + u64::from(leap(year));
-    let mut month = 1;
-    for length in [31, february, 31, 30, 31, 30, 31, 31, 30, 31, 30, 31] {
-        if days < length {
-            break;
-        }
-        days -= length;
-        month += 1;
-    }
-    format!("{year}-{month:02}-{:02} {:02}:{:02}:{:02} UTC", days + 1, second / 3600, second / 60 % 60, second % 60)
+    let (date, second) = (Date::of_days(seconds / 86_400), seconds % 86_400);
+    format!("{date} {:02}:{:02}:{:02} UTC", second / 3600, second / 60 % 60, second % 60)
 }
 
 #[test]

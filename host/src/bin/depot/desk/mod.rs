@@ -2,10 +2,14 @@
 mod bars;
 pub mod command;
 mod kept;
+mod keys;
+mod line;
 mod log;
 mod picture;
 mod reasons;
 mod session;
+#[cfg(target_os = "linux")]
+mod terminal;
 
 use crate::arguments::{Arguments, Takes};
 use crate::coding::text_of;
@@ -78,11 +82,17 @@ fn from_script(session: &mut Session, lines: &mut Lines, as_json: bool, file: &s
     Ok(())
 }
 
-/// Takes the lines of standard input; with a prompt on a terminal.
+const PROMPT: &str = "desk> ";
+
+/// Takes the lines of standard input; on a terminal with a prompt, and edited as they are typed where it can move its cursor.
 fn from_input(session: &mut Session, lines: &mut Lines, as_json: bool, terminal: bool) -> Result<(), Trouble> {
-    let prompt = || if terminal { say("desk> ").map(|_| ()) } else { Ok(()) };
+    let prompt = || if terminal { say(PROMPT).map(|_| ()) } else { Ok(()) };
     if terminal {
         say(WELCOME)?;
+        #[cfg(target_os = "linux")]
+        if let Some(terminal) = terminal::Terminal::open() {
+            return from_keys(session, lines, as_json, terminal);
+        }
     }
     prompt()?;
     for line in io::stdin().lock().split(b'\n') {
@@ -91,6 +101,17 @@ fn from_input(session: &mut Session, lines: &mut Lines, as_json: bool, terminal:
             return Ok(());
         }
         prompt()?;
+    }
+    Ok(())
+}
+
+/// Takes the lines that are typed at a terminal.
+#[cfg(target_os = "linux")]
+fn from_keys(session: &mut Session, lines: &mut Lines, as_json: bool, mut terminal: terminal::Terminal) -> Result<(), Trouble> {
+    while let Some(line) = terminal.line(PROMPT)? {
+        if !lines.take(session, &line, as_json, "")? {
+            break;
+        }
     }
     Ok(())
 }

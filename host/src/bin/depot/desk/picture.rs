@@ -81,7 +81,7 @@ pub fn file(name: &str, steps: &[Step]) -> String {
         escaped(&format!("{name}: {} calls on a share desk", steps.len())),
         rules(&LIGHT)
     );
-    svg += &within("title", 19.0 * depot_host::drawing::words::BOLD, MARGIN, 34.0, name, WIDTH - 2.0 * MARGIN);
+    svg += &within("title", 19.0, MARGIN, 34.0, name, WIDTH - 2.0 * MARGIN);
     svg += &at("lead", MARGIN, 56.0, "Each row is a call: what is held behind it, what stays reserved, and the feeder's limit.");
     for (place, step) in steps.iter().enumerate() {
         svg += &row(step, TOP + ROW * place as f64, &x);

@@ -23,7 +23,7 @@ pub fn text(night: &Night) -> String {
         ("within_the_limit", night.within.to_string()),
         ("most_held_kw", in_kw(night.most.0)),
     ];
-    json::object(&members) + "\n"
+    json::object(&[&plan.heading.members()[..], &members].concat()) + "\n"
 }
 
 fn call(night: &Night, event: &Event) -> String {

@@ -23,7 +23,19 @@ use others::{Greedy, Others, Script};
 const TAKES: Takes = Takes {
     verb: "run",
     flags: &["--json", "--by-line", "--on-time"],
-    values: &["--start", "--size", "--limit", "--controller", "--script", "--seed", "--svg", "--html", "--memory"],
+    values: &[
+        "--start",
+        "--depot",
+        "--date",
+        "--size",
+        "--limit",
+        "--controller",
+        "--script",
+        "--seed",
+        "--svg",
+        "--html",
+        "--memory",
+    ],
     plain: &["a list or a sheet"],
     needed: 1,
     more: false,
@@ -45,7 +57,7 @@ pub fn run(words: &[String]) -> Result<Outcome, Trouble> {
         Err(failed) => return not_planned(&yard, failed, form),
     };
     let (sheet, card) = (found.sheet.clone(), found.bytes.clone());
-    let plan = Planned::new(&yard, found);
+    let plan = Planned::new(&yard, found, &asked.heading);
     let (feeder, others) = match desk(&arguments, &plan, size, limit)? {
         Ok(opened) => opened,
         Err((refusal, why)) => return told(&yard.name, refusal, &why, form),

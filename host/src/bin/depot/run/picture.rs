@@ -4,7 +4,7 @@ use super::words::{ending, summary};
 use crate::chart::{picture_rules, LIGHT};
 use depot_host::drawing::colours::TINTS;
 use depot_host::drawing::markup::escaped;
-use depot_host::drawing::words::{anchored, at, width, within, BOLD};
+use depot_host::drawing::words::{anchored, at, width, within};
 use depot_host::units::in_kw;
 use std::fmt::Write;
 
@@ -85,7 +85,7 @@ fn picture(night: &Night, style: &str) -> String {
     let mut svg = format!(
         "<svg xmlns=\"http://www.w3.org/2000/svg\" class=\"chart\" width=\"{WIDTH}\" height=\"{HEIGHT}\" \
          viewBox=\"0 0 {WIDTH} {HEIGHT}\" role=\"img\" aria-label=\"{}\">\n{style}<rect class=\"paper\" width=\"{WIDTH}\" height=\"{HEIGHT}\"/>\n",
-        escaped(&format!("{}: {words}", night.plan.name))
+        escaped(&format!("{}: {words}", night.plan.title()))
     );
     svg += &title(night);
     svg += &areas(night, &frame);
@@ -100,7 +100,7 @@ fn picture(night: &Night, style: &str) -> String {
 
 fn title(night: &Night) -> String {
     let room = WIDTH - 2.0 * MARGIN;
-    let mut svg = within("title", 19.0 * BOLD, MARGIN, 34.0, &format!("{}: the night on the feeder", night.plan.name), room);
+    let mut svg = within("title", 19.0, MARGIN, 34.0, &format!("{}: the night on the feeder", night.plan.title()), room);
     for (place, line) in [summary(night), ending(night)].concat().iter().enumerate() {
         svg += &within("lead", 13.0, MARGIN, 56.0 + 17.0 * place as f64, line, room);
     }

@@ -1,7 +1,7 @@
 //! The night in words: every call with its time and its answer, the feeder over time, and how it ended.
 use super::bars;
 use super::night::{Event, Kind, Night};
-use crate::plan_text::Column;
+use crate::plan_text::{over, Column};
 use crate::planned::counted;
 use crate::style::Style;
 use depot_host::units::in_kw;
@@ -110,7 +110,8 @@ pub fn columns(night: &Night) -> Vec<Column> {
 
 /// The whole night as text.
 pub fn text(night: &Night, style: Style) -> String {
-    let mut text = format!("{}: {}\n\n", style.bold(&night.plan.name), summary(night).join("\n"));
+    let mut text = over(&night.plan, style);
+    write!(text, "{}: {}\n\n", style.bold(&night.plan.name), summary(night).join("\n")).unwrap();
     let columns = columns(night);
     for place in 0..=night.events.len() {
         let mut line = String::new();

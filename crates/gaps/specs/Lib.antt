@@ -1,0 +1,2 @@
+-- How many steps a plan by gaps has.
+pub mod Gaps

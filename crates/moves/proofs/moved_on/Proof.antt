@@ -1,0 +1,58 @@
+-- `moves::moved_on` meets its contract.
+use Prim.Native.Nat.{_-_, _≤_}
+use borrow.Author.Needs.{needs}
+use Rattle.moves.proofs.moved_on.Statement.{statement}
+use Rattle.moves.proofs.moved_on.Tie as tie
+
+abbrev Inv-loop : tie.InvT-loop
+Inv-loop order a b next₀ taken i₀ next i = (a ≤ i) × (i ≤ b)
+
+abbrev μ-loop : tie.MeasureT-loop
+μ-loop order a b next₀ taken i₀ next i = b - i
+
+element-copy-out-taken : tie.Need-element-copy-out-taken Inv-loop μ-loop
+element-copy-out-taken c = search needs
+
+loop-holds : tie.Need-loop-holds Inv-loop μ-loop
+loop-holds c = search needs
+
+add-next : tie.Need-add-next Inv-loop μ-loop
+add-next c = search needs
+
+element-copy-out-next : tie.Need-element-copy-out-next Inv-loop μ-loop
+element-copy-out-next c = search needs
+
+array-write-next : tie.Need-array-write-next Inv-loop μ-loop
+array-write-next c = search needs
+
+add-i : tie.Need-add-i Inv-loop μ-loop
+add-i c = search needs
+
+loop-less : tie.Need-loop-less Inv-loop μ-loop
+loop-less c = search needs
+
+loop-again : tie.Need-loop-again Inv-loop μ-loop
+loop-again c = search needs
+
+array-write-next-2 : tie.Need-array-write-next-2 Inv-loop μ-loop
+array-write-next-2 c = search needs
+
+returns : tie.Need-returns Inv-loop μ-loop
+returns c = search needs
+
+pub moved-on-spec : {M : Type 1} → statement M
+moved-on-spec =
+    tie.close
+    (tie.spec
+    Inv-loop
+    μ-loop
+    element-copy-out-taken
+    loop-holds
+    add-next
+    element-copy-out-next
+    array-write-next
+    add-i
+    loop-less
+    loop-again
+    array-write-next-2
+    returns)

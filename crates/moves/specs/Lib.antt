@@ -1,0 +1,2 @@
+-- What a move makes of an order.
+pub mod Moves
