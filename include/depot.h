@@ -165,11 +165,12 @@ struct depot_limited {
 #define DEPOT_NO_LIMIT UINT64_MAX
 
 /*
- * Plans a job sheet as depot_plan does, and gives up after about so many part-plans: the places that the search goes through, some million
- * of them a second. Before the limit counts, every list is looked at for some ten milliseconds. The card's plan is always valid. Where
+ * Plans a job sheet as depot_plan does, and gives up after so many part-plans: the places that the search goes through, up to some million
+ * of them a second. Not proved: it visits at most three times the limit and 16,000 of them, the bound's questions included, and spends some
+ * 50 ms on list plans where the list is not planned soon. The card's plan is always valid. Where
  * exact is 1 it is the plan that depot_plan gives. Where it is 0, it may be another; it ends at most `end - bound` minutes later than the
- * earliest plan, and where the two are equal it ends as early. A larger limit can give an earlier end and a later bound; the same limit and
- * sheet give the same answer. With DEPOT_NO_LIMIT exact is 1.
+ * earliest plan, and where the two are equal it ends as early. A larger limit can give an earlier end and a later bound; the same
+ * limit, sheet and length of work give the same answer. With DEPOT_NO_LIMIT exact is 1.
  *
  * sheet, card, work  As for depot_plan.
  * limit              How many part-plans may be visited, any number.
