@@ -11,7 +11,7 @@ use lib.Seq.{get_or-append_seam, get_or-append-add}
 use borrow.Author.Tests.{eqb-true, eq-eqb}
 use Rattle.counting.proofs.Tests.{clash}
 use Rattle.schedule.specs.Plan.{Sheet, Narrow}
-use Rattle.schedule.specs.ListPlan.{PartPlan, no_jobs, Follows, start_of, place, empty_part, place_all, part_of}
+use Rattle.schedule.specs.ListPlan.{PartPlan, no_jobs, Follows, start_of, place, empty_part, place_all, part_of, placing}
 use Rattle.schedule.proofs.Starts.{ready_says, start_may}
 use Rattle.schedule.proofs.Along.{place_all-append, place_all_keeps, next_start-kept}
 use Rattle.schedule.proofs.Prefixes.{follows_split}
@@ -113,7 +113,7 @@ place_splits (a ∷ v) (suc t) l =
 pub place_within : (S : Sheet) (d : ℕ → Bool) (v : List ℕ) → Follows S d v → (t : ℕ) → t < length v → get_or v t 0 < S.jobs
 place_within S d [] f t l = absurd (omega arith)
 place_within S d (j ∷ v) f zero l = (ready_says S d j f.0).job
-place_within S d (j ∷ v) f (suc t) l = place_within S _ v f.1 t (omega arith)
+place_within S d (j ∷ v) f (suc t) l = place_within S (placing d j) v f.1 t (omega arith)
 
 -- the place of a job that u has placed
 pub place_in_lem : (S : Sheet) (u p : List ℕ) (k : ℕ) → (part_of S u).placed k ≡ true → (t : ℕ) × (t < length u) × (get_or (u ++ p) t 0 ≡ k)

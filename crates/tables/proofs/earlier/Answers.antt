@@ -1,0 +1,8 @@
+-- `tables::earlier` meets its contract.
+use Rattle.tables.specs.Tables.{earlier_at}
+use borrow.Author.Rules.{rules}
+use Rattle.tables.proofs.earlier.Goals as goal
+
+pub returns : goal.returns
+unfolding earlier_at
+returns c = c.whole.ensures

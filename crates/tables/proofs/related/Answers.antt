@@ -1,0 +1,9 @@
+-- `tables::related` meets its contract.
+use mathlib.Core.Path.{sym}
+use Rattle.tables.specs.Prepared.{related_from}
+use Rattle.tables.proofs.Laws.{at_from}
+use borrow.Author.Rules.{rules}
+use Rattle.tables.proofs.related.Goals as goal
+
+pub returns : goal.returns
+returns c = sym (at_from related_from c.args.prepared.now c.args.i)
