@@ -9,8 +9,8 @@ use Rattle.search.proofs.lower.Goals as goal
 pub returns-then-best-eq0 : goal.returns-then-best-eq0
 returns-then-best-eq0 c =
     let p = c.requires in
-    let answer = rw c.kept.ensures (lower_miss p.best_is (λ s o d. omega (arith, c.if-best-eq0.true)), (p.remembered, λ e. e)) in
-    record { lowered = answer.0; remembered = answer.1.0; limit = answer.1.1 }
+    rw c.kept.ensures
+    (record { lowered = lower_miss p.best_is (λ s o d. omega (arith, c.if-best-eq0.true)); remembered = p.remembered; limit = λ e. e })
 
 pub overflow_sub-best : goal.overflow_sub-best
 overflow_sub-best c = omega (arith, c.if-best-eq0.false)
@@ -40,8 +40,8 @@ returns c =
     let past = c in
     let decide = c.decide-found.ensures in
     let some = c.if-best-eq0.false in
-    let answer = rw c.kept-2.ensures (
-      lower_miss past.requires.best_is (λ s o d. omega (arith, some, none_by decide.outcome c.if-found.false s o d)),
-      (remembered_less _ _ (omega (arith, some)) decide.remembered, decide.limit),
-    ) in
-    record { lowered = answer.0; remembered = answer.1.0; limit = answer.1.1 }
+    rw c.kept-2.ensures (record {
+      lowered = lower_miss past.requires.best_is (λ s o d. omega (arith, some, none_by decide.outcome c.if-found.true s o d));
+      remembered = remembered_less _ _ (omega (arith, some)) decide.remembered;
+      limit = decide.limit;
+    })

@@ -68,7 +68,7 @@ loop-j-preserved c =
     let try = c.try_place-found in (
       omega (arith, c.loop-j-test.true),
       (
-        upto_more _ a.t4.end (word_of p) loop.j loop.invariant.1.0 (try.ensures.outcome.miss c.if-found.false (λ e. omega (arith, c.if-left-eq0.false, e))),
+        upto_more _ a.best.end (word_of p) loop.j loop.invariant.1.0 (try.ensures.outcome.miss c.if-found.false (λ e. omega (arith, c.if-left-eq0.false, e))),
         (try.ensures.remembered, (try.auto.memory ∙ loop.invariant.1.1.1.0, λ e. try.ensures.limit (loop.invariant.1.1.1.1 e))),
       ),
     )
@@ -83,7 +83,7 @@ returns c =
     let g = pre.0 in
     let h = pre.1.0 in
     let k = (part_in a.part.now).placed in
-    let order = a.t4.order in
+    let order = a.best.order in
     let some = placed_at h k (word-length g.known) pre.1.1 in
     let at : c.loop-j.j ≡ get_or order k 0 = omega (arith, c.loop-j.invariant.0, c.loop-j-test.false, rw c.placed-k.ensures at c.index-stop.ensures) in
     record { lowest = h.lowest; placed = λ s. place_miss h (get_or order k 0) some.0 some.1 (rw at at c.loop-j.invariant.1.0); remembered = c.loop-j.invariant.1.1.0; limit = c.loop-j.invariant.1.1.1.1 }

@@ -40,5 +40,4 @@ returns c =
     let start = past.start_or_none-start.ensures in
     let word = child_word g.known pre.1 start (start_low g.known start past.if-start.false) c.place.ensures in
     let seek = c.seek.ensures in
-    let answer = (rw word at seek.outcome, seek) in
-    record { outcome = answer.0; remembered = answer.1.0; limit = answer.1.1 }
+    record { outcome = rw word at seek.outcome; remembered = seek.remembered; limit = seek.limit }
