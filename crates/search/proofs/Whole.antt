@@ -19,7 +19,7 @@ use Rattle.schedule.specs.Ends.{EarliestEnd, EndsBy}
 use Rattle.schedule.specs.Beginnings.{CannotBeat}
 use Rattle.schedule.proofs.Theorems.{earliest_of_orders, order_ends_by, none_ends_by}
 use Rattle.tables.specs.Tables.{sheet_of, Fit}
-use Rattle.tables.specs.Part.{Part, word_of}
+use Rattle.tables.specs.Part.{Part}
 use Rattle.tables.proofs.Laws.{zeros}
 use Rattle.placement.specs.Part.{FirstPart}
 use Rattle.candidates.proofs.Children.{first_known}

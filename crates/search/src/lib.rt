@@ -1,5 +1,7 @@
 // The search for the tie rule's order. One search decides whether some order that goes on from a part-plan ends by a target: it lowers the
 // end until no order ends earlier, and then it settles the places of the order one after another.
+#![tactic(auto)]
+
 ghost use Rattle.std.specs.Prelude.{◌≡◌, true, ◌↔◌, [], ◌∷◌, ◌++◌, suc, ◌+◌, ◌<◌, length, get_or, replicate};
 ghost use Rattle.figures.specs.Figures.{no_minute};
 ghost use Rattle.schedule.specs.Plan.{Circular};

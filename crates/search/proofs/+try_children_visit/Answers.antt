@@ -1,20 +1,17 @@
 -- `search::visit` and `search::try_children`, which call each other, meet their contracts.
 use mathlib.Core.Path.{◌≡◌, refl, ap, ◌∙◌}
-use Prim.Native.Nat.{ℕ, suc, ◌+◌, ◌*◌, ◌<◌}
+use Prim.Native.Nat.{◌<◌}
 use native.Mathlib.Omega.{arith}
 use lib.Count.{ones}
-use lib.ListN.{length}
-use borrow.Author.Tests.{eqb-true, eqb-false}
-use Rattle.tables.specs.Tables.{sheet_of, count_of}
+use Rattle.tables.specs.Tables.{count_of}
 use Rattle.tables.specs.Part.{part_in, word_of}
 use Rattle.tables.specs.Prepared.{related_in}
 use Rattle.placement.proofs.Parts.{ends_fit}
 use Rattle.candidates.proofs.Children.{word_within}
-use Rattle.search.specs.Search.{SettledSo, Remembered, Unlimited}
 use Rattle.search.proofs.Turns.{visit_leaf, visit_all, visit_remember}
 use Rattle.search.proofs.Passing.{passed_cut, choice_placeable, choice_fewer, choice_word, choice_searching, settled_less}
-use Rattle.search.proofs.Sweeps.{none_outcome, given_up, found_below, ended, Sweep, sweep_first, chosen_in, chosen_low, sweep_next, sweep_all, all_tried, trying}
-use Prim.Native.Nat.{ℕ, ◌<◌}
+use Rattle.search.proofs.Sweeps.{none_outcome, given_up, found_below, sweep_first, chosen_in, chosen_low, sweep_next, sweep_all, all_tried, trying}
+use Prim.Native.Nat.{◌<◌}
 use mathlib.Core.Bool.{true}
 use mathlib.Core.Logic.{◌⊎◌, inl, inr}
 use Rattle.search.proofs.+try_children_visit.Goals as goal

@@ -1,11 +1,7 @@
 -- `search::bound_below` meets its contract.
-use mathlib.Core.Path.{◌≡◌, refl, ◌∙◌}
-use Prim.Native.Nat.{◌+◌, ◌-◌, ◌≤◌, zero-le}
+use mathlib.Core.Path.{refl, ◌∙◌}
+use Prim.Native.Nat.{zero-le}
 use native.Mathlib.Omega.{arith}
-use lib.ListN.{length}
-use Rattle.tables.specs.Tables.{sheet_of}
-use Rattle.search.specs.Search.{NoneBefore}
-use borrow.Author.Rules.{rules}
 use Rattle.search.proofs.bound_below.Goals as goal
 
 pub loop-low-init : goal.loop-low-init

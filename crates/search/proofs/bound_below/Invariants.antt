@@ -1,11 +1,9 @@
 -- `search::bound_below` meets its contract.
-use mathlib.Core.Path.{◌≡◌, refl, ◌∙◌}
-use Prim.Native.Nat.{◌+◌, ◌-◌, ◌≤◌, zero-le}
-use native.Mathlib.Omega.{arith}
+use mathlib.Core.Path.{◌≡◌}
+use Prim.Native.Nat.{◌-◌, ◌≤◌}
 use lib.ListN.{length}
 use Rattle.tables.specs.Tables.{sheet_of}
 use Rattle.search.specs.Search.{NoneBefore}
-use borrow.Author.Rules.{rules}
 use Rattle.search.proofs.bound_below.Given as goal
 
 abbrev pub invariant-loop-low : goal.invariant-loop-low

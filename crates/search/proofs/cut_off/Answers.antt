@@ -7,7 +7,6 @@ use Rattle.tables.specs.Part.{part_in}
 use Rattle.bounds.proofs.Cuts.{bounding, hopeless_cut}
 use Rattle.bounds.proofs.Shortages.{fitted_cut}
 use Rattle.search.proofs.Turns.{recall_cut}
-use borrow.Author.Rules.{rules}
 use Rattle.search.proofs.cut_off.Goals as goal
 
 pub hopeless-requires : goal.hopeless-requires

@@ -1,6 +1,5 @@
 -- `search::decide` meets its contract.
 use native.Mathlib.Omega.{arith}
-use Rattle.tables.specs.Tables.{sheet_of}
 use Rattle.tables.specs.Part.{part_in}
 use Rattle.candidates.proofs.Children.{first_word}
 use Rattle.search.proofs.Recalls.{remembered_less, remembered_until}

@@ -4,7 +4,6 @@ use Prim.Native.Nat.{ℕ}
 use lib.ListN.{replicate, length-replicate}
 use Rattle.search.proofs.Whole.{goes_on, lowest_of, earliest_end_lem}
 use Rattle.tables.specs.Prepared.{prepared_size}
-use borrow.Author.Rules.{rules}
 use Rattle.search.proofs.earliest.Goals as goal
 
 pub least_order-least-requires : goal.least_order-least-requires

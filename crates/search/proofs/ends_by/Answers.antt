@@ -5,7 +5,6 @@ use lib.ListN.{length, replicate, length-replicate}
 use Rattle.tables.specs.Tables.{sheet_of}
 use Rattle.search.proofs.Recalls.{remembered-none}
 use Rattle.tables.specs.Prepared.{prepared_size}
-use borrow.Author.Rules.{rules}
 use Rattle.search.proofs.ends_by.Goals as goal
 
 pub begin-listed-requires : goal.begin-listed-requires

@@ -1,13 +1,7 @@
 -- `search::first_order` meets its contract.
-use mathlib.Core.Path.{◌≡◌, refl, ◌∙◌}
-use Prim.Native.Nat.{◌-◌}
+use mathlib.Core.Path.{refl, ◌∙◌}
 use native.Mathlib.Omega.{arith}
-use lib.ListN.{length}
-use Rattle.tables.specs.Tables.{count_of}
-use Rattle.tables.specs.Part.{part_in}
-use Rattle.search.proofs.Placings.{Standing, stands_first, stands_below, settled_next, stands_next, stands_all}
-use Rattle.search.specs.Search.{Unlimited}
-use borrow.Author.Rules.{rules}
+use Rattle.search.proofs.Placings.{stands_first, stands_below, settled_next, stands_next, stands_all}
 use Rattle.search.proofs.first_order.Goals as goal
 
 pub first_part-part-requires : goal.first_part-part-requires

@@ -1,13 +1,11 @@
 -- `search::first_order` meets its contract.
-use mathlib.Core.Path.{◌≡◌, refl, ◌∙◌}
+use mathlib.Core.Path.{◌≡◌}
 use Prim.Native.Nat.{◌-◌}
-use native.Mathlib.Omega.{arith}
 use lib.ListN.{length}
 use Rattle.tables.specs.Tables.{count_of}
 use Rattle.tables.specs.Part.{part_in}
-use Rattle.search.proofs.Placings.{Standing, stands_first, stands_below, settled_next, stands_next, stands_all}
+use Rattle.search.proofs.Placings.{Standing}
 use Rattle.search.specs.Search.{Unlimited}
-use borrow.Author.Rules.{rules}
 use Rattle.search.proofs.first_order.Given as goal
 
 abbrev pub invariant-loop-k : goal.invariant-loop-k

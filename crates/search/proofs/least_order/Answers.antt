@@ -4,7 +4,6 @@ use native.Mathlib.Omega.{arith}
 use lib.ListN.{length}
 use Rattle.tables.specs.Tables.{sheet_of}
 use Rattle.search.proofs.Recalls.{remembered-none, remembered_less}
-use borrow.Author.Rules.{rules}
 use Rattle.search.proofs.least_order.Goals as goal
 
 pub begin-listed-requires : goal.begin-listed-requires

@@ -3,7 +3,6 @@ use Prim.Native.Nat.{◌-◌}
 use native.Mathlib.Omega.{arith}
 use Rattle.search.proofs.Recalls.{remembered_less}
 use Rattle.search.proofs.Whole.{lower_hit, lower_miss, none_by}
-use borrow.Author.Rules.{rules}
 use Rattle.search.proofs.lower.Goals as goal
 
 pub returns-then-best-eq0 : goal.returns-then-best-eq0
@@ -41,7 +40,7 @@ returns c =
     let decide = c.decide-found.ensures in
     let some = c.if-best-eq0.false in
     rw c.kept-2.ensures (record {
-      lowered = lower_miss past.requires.best_is (λ s o d. omega (arith, some, none_by decide.outcome c.if-found.true s o d));
+      lowered = lower_miss past.requires.best_is (λ s o d. omega (arith, some, none_by decide.outcome c.if-found.false s o d));
       remembered = remembered_less _ _ (omega (arith, some)) decide.remembered;
       limit = decide.limit;
     })

@@ -1,10 +1,6 @@
 -- `search::lowest` meets its contract.
-use mathlib.Core.Path.{◌≡◌, refl, ◌∙◌}
-use Prim.Native.Nat.{◌+◌}
-use lib.ListN.{length}
-use Rattle.counting.specs.Counting.{only}
-use Rattle.search.proofs.Whole.{Turn, turn_next, turn_less, turn_last}
-use Rattle.search.specs.Search.{Unlimited}
+use mathlib.Core.Path.{refl, ◌∙◌}
+use Rattle.search.proofs.Whole.{turn_next, turn_less, turn_last}
 use Rattle.search.proofs.lowest.Goals as goal
 
 pub lower-best-requires : goal.lower-best-requires

@@ -1,9 +1,9 @@
 -- `search::lowest` meets its contract.
-use mathlib.Core.Path.{◌≡◌, refl, ◌∙◌}
+use mathlib.Core.Path.{◌≡◌}
 use Prim.Native.Nat.{◌+◌}
 use lib.ListN.{length}
 use Rattle.counting.specs.Counting.{only}
-use Rattle.search.proofs.Whole.{Turn, turn_next, turn_less, turn_last}
+use Rattle.search.proofs.Whole.{Turn}
 use Rattle.search.specs.Search.{Unlimited}
 use Rattle.search.proofs.lowest.Given as goal
 

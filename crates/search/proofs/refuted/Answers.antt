@@ -7,7 +7,6 @@ use Rattle.counting.proofs.Tests.{clash}
 use Rattle.tables.specs.Tables.{sheet_of}
 use Rattle.search.proofs.Recalls.{remembered-none}
 use Rattle.search.proofs.Whole.{some_left, none_by}
-use borrow.Author.Rules.{rules}
 use Rattle.search.proofs.refuted.Goals as goal
 
 pub decide-found-requires : goal.decide-found-requires

@@ -6,7 +6,6 @@ use Rattle.tables.specs.Tables.{sheet_of}
 use Rattle.search.proofs.Recalls.{remembered-none}
 use Rattle.search.proofs.Whole.{goes_on, lowest_of}
 use Rattle.tables.specs.Prepared.{prepared_size}
-use borrow.Author.Rules.{rules}
 use Rattle.search.proofs.run.Goals as goal
 
 pub least_order-least-requires : goal.least_order-least-requires

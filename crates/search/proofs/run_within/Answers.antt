@@ -5,7 +5,6 @@ use native.Mathlib.Omega.{arith}
 use lib.ListN.{replicate, length-replicate}
 use Rattle.search.proofs.Whole.{lowest_of}
 use Rattle.tables.specs.Prepared.{prepared_size}
-use borrow.Author.Rules.{rules}
 use Rattle.search.proofs.run_within.Goals as goal
 
 pub least_order-least-requires : goal.least_order-least-requires

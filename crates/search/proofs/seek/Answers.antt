@@ -9,7 +9,6 @@ use Rattle.bounds.proofs.Cuts.{held_later}
 use Rattle.bounds.proofs.Late.{too_late_cut}
 use Rattle.search.proofs.Sweeps.{none_outcome}
 use Rattle.search.proofs.Whole.{none_settled}
-use borrow.Author.Rules.{rules}
 use Rattle.search.proofs.seek.Goals as goal
 
 pub too_late-requires : goal.too_late-requires

@@ -5,7 +5,6 @@ use lib.ListN.{length}
 use Rattle.tables.specs.Tables.{sheet_of}
 use Rattle.search.proofs.Recalls.{remembered-none}
 use Rattle.search.proofs.Whole.{unlimited_left, settled_within}
-use borrow.Author.Rules.{rules}
 use Rattle.search.proofs.settled.Goals as goal
 
 pub first_order-found-requires : goal.first_order-found-requires

@@ -2,7 +2,6 @@
 use Rattle.candidates.proofs.Children.{start_low, child_placeable, child_word}
 use Rattle.search.proofs.Sweeps.{none_outcome}
 use Rattle.search.proofs.Placings.{not_next, place_enter}
-use borrow.Author.Rules.{rules}
 use Rattle.search.proofs.try_place.Goals as goal
 
 pub start_or_none-start-requires : goal.start_or_none-start-requires

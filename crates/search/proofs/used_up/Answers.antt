@@ -4,7 +4,6 @@ use mathlib.Core.Bool.{false}
 use native.Mathlib.Omega.{arith}
 use Rattle.counting.proofs.Tests.{clash}
 use borrow.Author.Tests.{eqb-true}
-use borrow.Author.Rules.{rules}
 use Rattle.search.proofs.used_up.Goals as goal
 
 pub returns-then-now : goal.returns-then-now
