@@ -10,7 +10,7 @@ pub mod layout;
 
 // A job, in the widths of its record.
 #[repr(C)]
-#[derive(Drop)]
+#[derive(Clone, Copy)]
 pub struct Job {
     pub label_len: u8,
     pub modules: u8,
