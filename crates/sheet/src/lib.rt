@@ -1,4 +1,6 @@
 // Job sheets: reading and writing. The label of a job is the crate `labels`.
+#![tactic(auto)]
+
 ghost use Rattle.std.specs.Prelude.{◌≡◌, ◌+◌, ◌*◌, ◌≤◌, length};
 ghost use Rattle.checking.specs.Checking.{first_failing};
 ghost use Rattle.sheet_format.specs.Figures.{most_jobs, record_size, trailer_size, longest_label};
