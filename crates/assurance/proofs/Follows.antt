@@ -8,15 +8,15 @@ use native.Mathlib.Omega.{arith}
 use native.Mathlib.Nat.{le_refl, le_trans}
 use lib.Dec.{ltb, eqb}
 use borrow.Author.Tests.{eqb-true, eq-eqb, lt-ltb, le-ltb}
-use Rattle.counting.specs.Counting.{only, sum, largest, joined}
+use Rattle.counting.specs.Counting.{only, sum, joined}
 use Rattle.counting.proofs.Tests.{clash, less-or-not, eqb_turned}
 use Rattle.counting.proofs.Sums.{sum_same, sum-zero, sum-at}
 use Rattle.counting.proofs.Ranges.{le-largest}
 use Rattle.counting.proofs.Joins.{joined_same}
-use Rattle.schedule.specs.Plan.{Sheet, Plan, finish}
+use Rattle.schedule.specs.Plan.{Sheet, Plan}
 use Rattle.desk.specs.Calls.{Call, claim, hand_back}
-use Rattle.assurance.specs.Following.{Event, begin, end, job_of, is_end, minute, call_of, same_event, times, MayPrecede, InOrder, bears, own_calls, FollowsPlan}
-use Rattle.assurance.specs.Minutes.{due_at, hand_backs_due, claims_due, due_calls, last_minute}
+use Rattle.assurance.specs.Following.{Event, begin, end, job_of, minute, call_of, same_event, times, MayPrecede, InOrder, own_calls, FollowsPlan}
+use Rattle.assurance.specs.Minutes.{due_at, due_calls, last_minute}
 use Rattle.assurance.proofs.Turns.{due}
 
 -- ---- lists of events

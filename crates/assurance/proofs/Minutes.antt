@@ -7,16 +7,16 @@ use Prim.Native.Nat.{ℕ, zero, suc, ◌+◌, ◌-◌, ◌*◌, ◌≤◌, ◌<�
 use native.Mathlib.Omega.{arith}
 use native.Mathlib.Nat.{add-mul, mul-le-mul_right, one-le-mul, le_refl}
 use lib.Dec.{ltb, leb, eqb}
-use borrow.Author.Tests.{lt-ltb, le-ltb, le-leb, lt-leb, eq-eqb, ne_eqb, eqb-true}
+use borrow.Author.Tests.{lt-ltb, le-ltb, le-leb, lt-leb, eq-eqb, ne_eqb}
 use Rattle.counting.specs.Counting.{only, sum, joined}
 use Rattle.counting.proofs.Tests.{less-or-not, same_or_not, only-mul}
 use Rattle.counting.proofs.Sums.{sum_same, sum-add, sum-mul, sum-le}
-use Rattle.schedule.specs.Plan.{Sheet, Plan, Valid, finish, Lasting, Needing}
+use Rattle.schedule.specs.Plan.{Sheet, Plan, Valid, Lasting, Needing}
 use Rattle.schedule.proofs.Timed.{runs, load}
 use Rattle.schedule.proofs.Earliest.{load-le}
 use Rattle.desk.specs.declared.Desk.{Desk}
 use Rattle.desk.specs.Calls.{Call, claim, hand_back, refusal_of, desk_after, desk_after_all, granted}
-use Rattle.assurance.specs.Following.{begin, end, minute, plan_need, Ready}
+use Rattle.assurance.specs.Following.{end, minute, plan_need, Ready}
 use Rattle.assurance.specs.Minutes.{hand_backs_due, claims_due, due_calls, held_before, first_refusal}
 use Rattle.assurance.proofs.Shares.{own_claim, own_hand_back}
 

@@ -1,5 +1,5 @@
 -- F-11: the calls of a plan that fall due in a minute, and what is held between two minutes.
-use Rattle.std.specs.Prelude.{Bool, not, ◌&&◌, cond, List, [], ◌∷◌, ◌++◌, ℕ, ◌+◌, ltb, eqb}
+use Rattle.std.specs.Prelude.{not, ◌&&◌, cond, List, [], ◌∷◌, ◌++◌, ℕ, ◌+◌, ltb, eqb}
 use Rattle.counting.specs.Counting.{only, sum, largest, joined}
 use Rattle.schedule.specs.Plan.{Sheet, Plan}
 use Rattle.desk.specs.declared.Desk.{Desk}

@@ -1,4 +1,6 @@
 // Whether some job would have to end before itself: jobs are taken out one after another, each of them when none of its earlier jobs is left.
+#![tactic(auto)]
+
 ghost use Rattle.std.specs.Prelude.{◌≤◌};
 ghost use Rattle.figures.specs.Figures.{most_jobs};
 ghost use Rattle.tables.specs.Tables.{sheet_of, count_of};

@@ -148,7 +148,8 @@ figures_in_force f d (hand_back c k ∷ l) h =
 figures_in_force f d (look c ∷ l) h =
     figures_in_force f (desk_after d (look c)) l (kept_force f d (desk_after d (look c)) (one_only d (look c) refl) h)
 figures_in_force f d (change n a t ∷ l) h =
-    figures_in_force _ (desk_after d (change n a t)) l (change_force f d n a t h)
+    figures_in_force (cond (granted d (change n a t)) (record { limit = n; assured = a; ceilings = t }) f)
+    (desk_after d (change n a t)) l (change_force f d n a t h)
 
 -- ---- since the first opening
 

@@ -84,7 +84,7 @@ reachable-after {d} r (change l a t) = go (eqb (change_refusal d l a t) 0) refl
 
 pub reachable-after_all : {d : Desk} → Reachable d → (l : List Call) → Reachable (desk_after_all d l)
 reachable-after_all r [] = r
-reachable-after_all r (x ∷ l) = reachable-after_all (reachable-after r x) l
+reachable-after_all {d = d} r (x ∷ l) = reachable-after_all {d = desk_after d x} (reachable-after r x) l
 
 -- ---- from an answered opening
 

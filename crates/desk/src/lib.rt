@@ -1,5 +1,7 @@
 // The share desk: the power that 2 to 8 controllers hold on one feeder, in hundreds of watts.
 // A call takes the desk and hands back the desk as it then is. The crate `opening` opens one, `share_change` gives it new figures.
+#![tactic(auto)]
+
 ghost use Rattle.std.specs.Prelude.{◌≡◌, true, false, ◌≤◌, ◌<◌, ◌-◌, max, min};
 ghost use Rattle.counting.specs.Counting.{sum, every};
 ghost use Rattle.desk.specs.Desk.{most_power, most_controllers, holding, ceiling_of, reserved, reserved_for_others, with_holding};
@@ -17,7 +19,7 @@ pub const MOST_CONTROLLERS: usize = 8;
 
 // The desk as firmware keeps it, its figures in hundreds of watts: a place for each controller, and 0 past the last.
 #[repr(C)]
-#[derive(Drop)]
+#[derive(Clone, Copy)]
 pub struct Desk {
     // How many controllers there are.
     pub count: u32,
@@ -32,21 +34,21 @@ pub struct Desk {
 }
 
 // What opening answers: the refusal's number, or 0 and the desk. Refused: a desk of zeros.
-#[derive(Drop)]
+#[derive(Clone, Copy)]
 pub struct Opened {
     pub refusal: u32,
     pub desk: Desk,
 }
 
 // What a claim, a hand-back or a change answers: the refusal's number, or 0, and the desk as it then is.
-#[derive(Drop)]
+#[derive(Clone, Copy)]
 pub struct Booked {
     pub refusal: u32,
     pub desk: Desk,
 }
 
 // What a look answers: the refusal's number, or 0, the desk, and the largest claim that would be granted now.
-#[derive(Drop)]
+#[derive(Clone, Copy)]
 pub struct Looked {
     pub refusal: u32,
     pub desk: Desk,

@@ -1,4 +1,6 @@
 // The job table of a reading, and whether some job is too wide for the cabinet.
+#![tactic(auto)]
+
 ghost use Rattle.std.specs.Prelude.{◌≡◌, ◌≤◌, ◌<◌, length};
 ghost use Rattle.figures.specs.Figures.{most_jobs};
 ghost use Rattle.schedule.specs.Plan.{over_wide};

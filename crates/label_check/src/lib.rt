@@ -1,4 +1,6 @@
 // The labels of a sheet, run together: whether one of them is wrong (check 7).
+#![tactic(auto)]
+
 ghost use Rattle.std.specs.Prelude.{◌≡◌, ◌-◌, ◌≤◌, length, take, drop};
 ghost use Rattle.sheet_format.specs.Figures.{most_jobs};
 ghost use Rattle.sheet_format.specs.Format.{jobs_in, label_lengths};

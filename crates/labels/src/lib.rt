@@ -1,4 +1,6 @@
 // The label of a job: of a sheet, and of what reading the sheet answered.
+#![tactic(auto)]
+
 ghost use Rattle.std.specs.Prelude.{◌≡◌, ◌+◌};
 ghost use Rattle.checking.specs.Checking.{first_failing};
 ghost use Rattle.sheet.specs.Read.{reading};

@@ -1,4 +1,6 @@
 // What opening and a look answer where firmware keeps the desk. Refused, opening hands the kept desk back.
+#![tactic(auto)]
+
 ghost use Rattle.std.specs.Prelude.{◌≡◌};
 ghost use Rattle.lent.specs.Lent.{opened_over, looked_at};
 

@@ -1,4 +1,6 @@
 // Which jobs follow which, directly or through others: sets of jobs, made once of a job table.
+#![tactic(auto)]
+
 ghost use Rattle.std.specs.Prelude.{◌≡◌, cond, ◌<◌, ◌≤◌};
 ghost use Rattle.std.specs.Int.Bits.{bit_or};
 ghost use Rattle.figures.specs.Figures.{most_jobs};

@@ -1,4 +1,6 @@
 // Opening a share desk.
+#![tactic(auto)]
+
 ghost use Rattle.std.specs.Prelude.{◌≡◌, ℕ, ◌≤◌, ◌<◌, length, get_or};
 ghost use Rattle.desk.specs.Desk.{most_power, most_controllers, padded, no_desk};
 ghost use Rattle.desk.specs.Checks.{wrong_pair, some_pair_wrong, shares_in_all};

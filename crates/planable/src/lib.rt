@@ -1,4 +1,6 @@
 // What every planning call begins with: the sheet is read and checked, and its job table made.
+#![tactic(auto)]
+
 ghost use Rattle.std.specs.Prelude.{◌≡◌, ◌≤◌};
 ghost use Rattle.figures.specs.Figures.{most_jobs};
 ghost use Rattle.tables.specs.Tables.{sheet_of, count_of};

@@ -1,4 +1,6 @@
 // The records of a sheet: read, written, and with the labels checked.
+#![tactic(auto)]
+
 ghost use Rattle.std.specs.Prelude.{◌≡◌, ◌+◌, ◌*◌, ◌≤◌, length};
 ghost use Rattle.counting.specs.Counting.{joined};
 ghost use Rattle.checking.specs.Checking.{first_failing};

@@ -1,4 +1,6 @@
 // New figures for a running share desk: a limit, assured shares and ceilings for the same controllers. All holdings carry over.
+#![tactic(auto)]
+
 ghost use Rattle.std.specs.Prelude.{◌≡◌, eqb, length};
 ghost use Rattle.desk.specs.Calls.{changed};
 ghost use Rattle.share_change.specs.Change.{refused_with, carried_over, taken_over};

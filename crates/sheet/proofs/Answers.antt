@@ -16,7 +16,7 @@ use Rattle.sheet.specs.declared.Reading.{Reading}
 use Rattle.sheet_format.specs.Figures.{longest_sheet, record_size, trailer_size}
 use Rattle.sheet_format.specs.Format.{job_from, job_of, labels_of, label_lengths, offset_of, count_of, modules_of, changeover_of}
 use Rattle.sheet_format.specs.Format.{cabinet, cabinet_of}
-use Rattle.sheet_format.specs.Checks.{faulty, some_faulty, wrong_offset, wrong_labels, figure_checks, content_checks}
+use Rattle.sheet_format.specs.Checks.{faulty, wrong_offset, wrong_labels, figure_checks, content_checks}
 use Rattle.sheet.specs.Read.{read_checks, read_refusal, answered, refused, reading}
 use Rattle.sheet_format.specs.Checks.{trailer_checks}
 use Rattle.sheet_format.specs.Format.{places}

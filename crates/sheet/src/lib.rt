@@ -1,4 +1,6 @@
 // Job sheets: reading and writing. The label of a job is the crate `labels`.
+#![tactic(auto)]
+
 ghost use Rattle.std.specs.Prelude.{◌≡◌, ◌+◌, ◌*◌, ◌≤◌, length};
 ghost use Rattle.checking.specs.Checking.{first_failing};
 ghost use Rattle.sheet_format.specs.Figures.{most_jobs, record_size, trailer_size, longest_label};
@@ -17,7 +19,7 @@ use sheet_format::layout::{RECORD_SIZE, TRAILER_SIZE};
 
 // What reading answers: refusal 0 with the jobs, n, N and the changeover, or the number of the refusal with all else 0.
 #[repr(C)]
-#[derive(Drop)]
+#[derive(Clone, Copy)]
 pub struct Reading {
     pub refusal: u32,
     pub jobs: [Job; MOST_JOBS],
@@ -28,7 +30,7 @@ pub struct Reading {
 
 // Where a label lies: refusal 0 with its offset in the sheet and its length, or the number of the refusal with all else 0.
 #[repr(C)]
-#[derive(Drop)]
+#[derive(Clone, Copy)]
 pub struct LabelPlace {
     pub refusal: u32,
     pub offset: usize,
@@ -37,7 +39,7 @@ pub struct LabelPlace {
 
 // What writing answers: refusal 0 with the sheet's length, or the number of the refusal with 0.
 #[repr(C)]
-#[derive(Drop)]
+#[derive(Clone, Copy)]
 pub struct Written {
     pub refusal: u32,
     pub length: usize,

@@ -1,5 +1,7 @@
 // A job of a sheet, the figures of the format, and the tests of ranges: 2, 3 and 19, and 5 of one record. The other parts of a sheet are in
 // `records`, `trailer` and `label_check`, the calls on whole sheets in `sheet`.
+#![tactic(auto)]
+
 ghost use Rattle.std.specs.Prelude.{◌≡◌, ◌≤◌};
 ghost use Rattle.sheet_format.specs.Format.{label_length};
 
@@ -8,7 +10,7 @@ pub mod layout;
 
 // A job, in the widths of its record.
 #[repr(C)]
-#[derive(Drop)]
+#[derive(Clone, Copy)]
 pub struct Job {
     pub label_len: u8,
     pub modules: u8,

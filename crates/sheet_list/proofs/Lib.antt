@@ -1,3 +1,2 @@
 -- What writing depends on.
 pub mod Same
-pub mod Machine

@@ -1,4 +1,6 @@
 // Writing a sheet from a lent list of job records: the records are copied into a list of fixed length, which `sheet` writes.
+#![tactic(auto)]
+
 ghost use Rattle.std.specs.Prelude.{◌≡◌, ◌<◌, min, length};
 ghost use Rattle.sheet_format.specs.Figures.{most_jobs};
 ghost use Rattle.sheet_format.specs.Format.{no_job, jobs_in, cabinet};
@@ -10,7 +12,7 @@ use sheet::Written;
 use sheet_format::Job;
 
 // A list of fixed length, as a value.
-#[derive(Drop)]
+#[derive(Clone, Copy)]
 pub struct Jobs {
     pub list: [Job; MOST_JOBS],
 }

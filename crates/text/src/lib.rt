@@ -1,4 +1,6 @@
 // Printed text: fields of bytes, decimal, signed and hexadecimal numbers, one behind another in a fixed room.
+#![tactic(auto)]
+
 ghost use Rattle.std.specs.Prelude.{◌≡◌, [], ◌∷◌, ◌++◌, ◌<◌, nat_abs};
 ghost use Rattle.text.specs.Numbers.{digit, place, decimal, signed, hexadecimal};
 ghost use Rattle.text.specs.Texts.{empty, adding};

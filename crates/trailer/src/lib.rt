@@ -1,4 +1,6 @@
 // The trailer of a sheet, and the checks on it.
+#![tactic(auto)]
+
 ghost use Rattle.std.specs.Prelude.{◌≡◌, ◌≤◌, length};
 ghost use Rattle.checking.specs.Checking.{first_failing};
 ghost use Rattle.sheet_format.specs.Figures.{trailer_size};

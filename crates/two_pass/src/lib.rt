@@ -1,5 +1,7 @@
 // The reader of before: one pass over the records, and a second one over the labels. The host compares it with the reader of today and
 // measures both; firmware does not have it.
+#![tactic(auto)]
+
 ghost use Rattle.std.specs.Prelude.{◌≡◌, ◌+◌, ◌*◌, ◌≤◌, length};
 ghost use Rattle.sheet_format.specs.Figures.{most_jobs, record_size};
 ghost use Rattle.sheet_format.specs.Format.{places, job_from, label_lengths};
