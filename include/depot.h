@@ -1,7 +1,7 @@
 /*
  * depot.h: the charging planner, the job sheets, the share desk of one depot feeder and the plan runner, for C.
  *
- * Link target/staticlib/libdepot.a ('rt staticlib depot' makes it, for x86-64 alone). docs/FIRMWARE.md says how to build, what can be done
+ * Link target/staticlib/libdepot.a ('tools/staticlib depot' makes it, for x86-64 alone). docs/FIRMWARE.md says how to build, what can be done
  * with other processors, how to size the buffers, and what is proved; docs/PROMISES.md has every promise. host/c/example.c uses every
  * call, host/c/follow.c is a whole controller. depot_card.h reads cards, depot_text.h has the refusals in words; both are for every
  * processor.

@@ -58,8 +58,7 @@ def main():
     copy_files()
     for (crate, function), (body, why) in BODIES.items():
         replace_body(crate, function, body, why)
-    for library in ('depot', 'two_pass'):
-        subprocess.run(['rt', 'staticlib', library], cwd=BARE, check=True, stdout=subprocess.DEVNULL)
+    subprocess.run(['tools/staticlib', 'depot', 'two_pass'], cwd=BARE, check=True, stdout=subprocess.DEVNULL)
     options = sys.argv[1:] or ['--sizes', '8,9', '--memory', '0']
     bench = ['cargo', 'run', '--quiet', '--release', '--offline', '--bin', 'bench', 'plans', '--bare', *options]
     subprocess.run(bench, cwd=BARE / 'host', check=True)
