@@ -1,4 +1,6 @@
 // Whether the modules have too few minutes until all must be given back: from the next start on, or from a job's head on.
+#![tactic(auto)]
+
 ghost use Rattle.std.specs.Prelude.{◌≡◌, true, ◌+◌, ◌-◌, ◌*◌, ◌<◌, ◌≤◌};
 ghost use Rattle.figures.specs.Figures.{most_jobs, most_modules};
 ghost use Rattle.counting.specs.Counting.{only, sum};

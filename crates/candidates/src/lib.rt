@@ -1,4 +1,6 @@
 // The jobs that may come next from a part-plan, when each of them starts, and which of them is the next to be tried.
+#![tactic(auto)]
+
 ghost use Rattle.std.specs.Prelude.{◌≡◌, true, ◌+◌, ◌-◌, ◌*◌, ◌%◌, ◌<◌, ◌≤◌};
 ghost use Rattle.figures.specs.Figures.{most_jobs};
 ghost use Rattle.bits.specs.Bits.{bit};

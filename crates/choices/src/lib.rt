@@ -1,4 +1,6 @@
 // The sums of the minutes for which the jobs of each choice from a set keep their modules, and the largest of them that fits.
+#![tactic(auto)]
+
 ghost use Rattle.std.specs.Prelude.{◌≡◌, ◌+◌, ◌<◌, ◌≤◌, leb, length};
 ghost use Rattle.counting.specs.Counting.{only};
 ghost use Rattle.figures.specs.Figures.{most_jobs};

@@ -1,4 +1,6 @@
 // Entries of a group of working memory: whether a remembered part-plan is ahead of another.
+#![tactic(auto)]
+
 ghost use Rattle.std.specs.Prelude.{◌≡◌, true, ◌<◌, ◌≤◌, max, length};
 ghost use Rattle.figures.specs.Figures.{most_jobs};
 ghost use Rattle.tables.specs.Part.{part_in};

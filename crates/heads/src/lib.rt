@@ -1,4 +1,6 @@
 // The minute before which each job cannot start, by arrivals and earlier jobs; made once for a search.
+#![tactic(auto)]
+
 ghost use Rattle.std.specs.Prelude.{◌≡◌, ◌+◌, ◌<◌, ◌≤◌, max, get_or};
 ghost use Rattle.figures.specs.Figures.{most_jobs, last_end};
 ghost use Rattle.counting.specs.Counting.{only, largest};

@@ -1,4 +1,6 @@
 // Random moves from order to order.
+#![tactic(auto)]
+
 ghost use Rattle.std.specs.Prelude.{◌≡◌, ◌<◌, ◌≤◌};
 ghost use Rattle.figures.specs.Figures.{most_jobs};
 ghost use Rattle.moves.specs.Moves.{exchanged_at};

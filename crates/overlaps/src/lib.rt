@@ -1,4 +1,6 @@
 // Whether jobs that are left must have their modules at the same minute and have no room there.
+#![tactic(auto)]
+
 ghost use Rattle.std.specs.Prelude.{◌≡◌, true, ◌<◌, ◌≤◌};
 ghost use Rattle.figures.specs.Figures.{most_jobs};
 ghost use Rattle.counting.specs.Counting.{only, sum};

@@ -1,4 +1,6 @@
 // What is asked of two jobs, by their figures alone: whether they are alike, may be swapped, or can run side by side.
+#![tactic(auto)]
+
 ghost use Rattle.std.specs.Prelude.{◌≡◌, ◌≢◌, true, false, cond, ◌+◌, ◌<◌};
 ghost use Rattle.figures.specs.Figures.{most_jobs};
 ghost use Rattle.bits.specs.Bits.{with_bit};

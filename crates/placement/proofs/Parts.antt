@@ -13,7 +13,7 @@ use lib.ListN.{length, get_or}
 use lib.Pow.{pow_pos}
 use borrow.Author.Tests.{eqb-true, eqb-false, eq-eqb, not-true, not-false}
 use Rattle.figures.specs.Figures.{last_end, longest_changeover}
-use Rattle.counting.specs.Counting.{only, sum, count}
+use Rattle.counting.specs.Counting.{only, sum}
 use Rattle.counting.proofs.Tests.{true-or-false, clash, only-le, only_within, mul-only, same_test, and_left, and_right, and_both}
 use Rattle.counting.proofs.Sums.{sum_same, sum-zero, sum-add, sum_single, sum_most, le-sum}
 use Rattle.counting.proofs.Ranges.{largest-le, largest_same}
@@ -33,7 +33,7 @@ use Rattle.tables.proofs.Ends.{ends_short}
 use Rattle.schedule.proofs.Prefixes.{part_count, part_more, follows_more}
 use Rattle.tables.specs.Tables.{sheet_of, need_at, minutes_at, kept_at, most_kept, arrival_at, earlier_at, count_of, modules_of, changeover_of, Fit}
 use Rattle.tables.specs.Part.{Part}
-use Rattle.tables.proofs.Laws.{job_area, all_minutes}
+use Rattle.tables.proofs.Laws.{job_area}
 use Rattle.placement.specs.Profile.{held_at, held_after, held_from, held_of, held_since}
 use Rattle.placement.specs.Part.{waits, StartFor, Figures, IsPart, Placeable, Placed, is_ready, FirstPart}
 use Rattle.placement.proofs.Inserts.{inserted-sum}

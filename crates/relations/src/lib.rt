@@ -1,5 +1,7 @@
 // What follows from a sheet's jobs alone, made once for a search: the longest chains, and for each job the jobs that are alike, those that may
 // be swapped with it and those that can run beside it.
+#![tactic(auto)]
+
 ghost use Rattle.std.specs.Prelude.{◌≡◌, cond, ◌+◌, ◌<◌, ◌≤◌, length, get_or};
 ghost use Rattle.figures.specs.Figures.{most_jobs};
 ghost use Rattle.counting.specs.Counting.{only, largest};

@@ -1,5 +1,7 @@
 // The three tables that the search is lent, and what stands at their places: the job table, what a sheet says of its jobs; the part-plan;
 // and the prepared table, what is made of the jobs once. A set of jobs in a table of 16-bit numbers takes two places, its lower half first.
+#![tactic(auto)]
+
 ghost use Rattle.std.specs.Prelude.{◌≡◌, ◌+◌, ◌*◌, ◌<◌, min, get_or};
 ghost use Rattle.figures.specs.Figures.{most_jobs, no_minute};
 ghost use Rattle.tables.specs.Tables.{need_at, minutes_at, arrival_at, earlier_at, count_of, modules_of, changeover_of, kept_at};

@@ -1,4 +1,6 @@
 // Values of jobs, and the lanes that they fill: the tables of the bound by lanes.
+#![tactic(auto)]
+
 ghost use Rattle.std.specs.Prelude.{◌≡◌, ◌+◌, ◌*◌, ◌/◌, ◌<◌, ◌≤◌, length, get_or};
 ghost use Rattle.figures.specs.Figures.{most_jobs};
 ghost use Rattle.tables.specs.Tables.{Fit};

@@ -1,4 +1,6 @@
 // Weights of jobs, and the bound by weights: what the jobs that are left weigh against what the free modules can hold, minute by minute.
+#![tactic(auto)]
+
 ghost use Rattle.std.specs.Prelude.{◌≡◌, true, ℕ, ◌+◌, ◌*◌, ◌<◌, ◌≤◌, min, max, length, get_or, replicate};
 ghost use Rattle.counting.specs.Counting.{only, sum};
 ghost use Rattle.figures.specs.Figures.{most_jobs, most_modules};

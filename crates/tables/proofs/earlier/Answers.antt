@@ -1,6 +1,5 @@
 -- `tables::earlier` meets its contract.
 use Rattle.tables.specs.Tables.{earlier_at}
-use borrow.Author.Rules.{rules}
 use Rattle.tables.proofs.earlier.Goals as goal
 
 pub returns : goal.returns

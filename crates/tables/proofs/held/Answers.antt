@@ -1,7 +1,6 @@
 -- `tables::held` meets its contract.
 use mathlib.Core.Path.{sym}
 use Rattle.tables.proofs.Laws.{at_from}
-use borrow.Author.Rules.{rules}
 use Rattle.tables.proofs.held.Goals as goal
 
 pub returns : goal.returns

@@ -1,7 +1,6 @@
 -- `tables::job_at` meets its contract.
 use mathlib.Core.Path.{sym, ◌∙◌}
 use Rattle.tables.proofs.Laws.{at_from}
-use borrow.Author.Rules.{rules}
 use Rattle.tables.proofs.job_at.Goals as goal
 
 pub returns : goal.returns

@@ -2,7 +2,6 @@
 use mathlib.Core.Path.{sym}
 use Rattle.tables.specs.Prepared.{lanes_from}
 use Rattle.tables.proofs.Laws.{at_from}
-use borrow.Author.Rules.{rules}
 use Rattle.tables.proofs.lanes.Goals as goal
 
 pub returns : goal.returns

@@ -2,7 +2,6 @@
 use mathlib.Core.Path.{sym}
 use Rattle.tables.specs.Prepared.{related_from}
 use Rattle.tables.proofs.Laws.{at_from}
-use borrow.Author.Rules.{rules}
 use Rattle.tables.proofs.related.Goals as goal
 
 pub returns : goal.returns

@@ -1,7 +1,6 @@
 -- `tables::until` meets its contract.
 use mathlib.Core.Path.{sym}
 use Rattle.tables.proofs.Laws.{at_from}
-use borrow.Author.Rules.{rules}
 use Rattle.tables.proofs.until.Goals as goal
 
 pub returns : goal.returns

@@ -1,0 +1,28 @@
+-- `relations::chains` meets its contract.
+use Prim.Native.Nat.{ℕ}
+use mathlib.Core.Path.{◌≡◌, subst}
+use native.Mathlib.Omega.{arith}
+use borrow.Author.Rules.{rules}
+use Rattle.tables.specs.Tables.{count_of}
+use Rattle.relations.specs.Relations.{ChainsOf}
+use Rattle.relations.proofs.Chaining.{chains-none}
+use Rattle.relations.proofs.chains.Goals as goal
+
+pub loop-k-init : goal.loop-k-init
+loop-k-init c = (search rules, chains-none _)
+
+pub lengthen-tails-requires : goal.lengthen-tails-requires
+lengthen-tails-requires c =
+    let at = c in
+    (at.requires, (c.loop-k.invariant.1, omega (arith, c.loop-k-test.true, at.count-n.ensures, at.requires.few)))
+
+pub loop-k-preserved : goal.loop-k-preserved
+loop-k-preserved c = (search rules, c.lengthen-tails.ensures)
+
+pub returns : goal.returns
+returns c =
+    let loop = c.loop-k in
+    let at = c in
+    let t = at.args.jobs.now in
+    let e : loop.k ≡ count_of t = omega (arith, loop.invariant.0, c.loop-k-test.false, at.count-n.ensures) in
+    subst (λ (n : ℕ). ChainsOf t loop.tails.at n) e loop.invariant.1

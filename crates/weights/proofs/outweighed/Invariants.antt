@@ -1,0 +1,10 @@
+-- `weights::outweighed` meets its contract.
+use Prim.Native.Nat.{◌-◌, ◌≤◌}
+use Rattle.weights.specs.Weights.{weightings}
+use Rattle.weights.proofs.outweighed.Given as goal
+
+abbrev pub invariant-loop-q : goal.invariant-loop-q
+invariant-loop-q l = l.q ≤ weightings
+
+abbrev pub decreases-loop-q : goal.decreases-loop-q
+decreases-loop-q l = weightings - l.q
