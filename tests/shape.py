@@ -24,10 +24,10 @@ def main():
                 print(f'{path.relative_to(ROOT)}: {function} takes {count} parameters')
                 wrong += 1
     for path in sorted(ROOT.rglob('*.antt')):
-        for steps in re.findall(r'(?:\s\.before)+|(?:\s\.1)+', path.read_text()):
+        for steps in re.findall(r'(?:\.before\b)+|(?:\.1\b)+', path.read_text()):
             paths += 1
-            if len(steps.split()) > LONGEST_PATH:
-                print(f'{path.relative_to(ROOT)}: a path of {len(steps.split())} steps')
+            if steps.count('.') > LONGEST_PATH:
+                print(f'{path.relative_to(ROOT)}: a path of {steps.count(".")} steps')
                 wrong += 1
     print(f'{functions} functions, {paths} paths')
     return 1 if wrong else 0
