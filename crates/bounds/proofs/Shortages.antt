@@ -7,7 +7,7 @@ use Prim.Native.Nat.{ℕ, suc, ◌+◌, ◌-◌, ◌*◌, ◌≤◌, ◌<◌, ma
 use native.Mathlib.Omega.{arith}
 use lib.Dec.{ltb, leb, eqb}
 use lib.ListN.{get_or}
-use borrow.Author.Tests.{ltb-true, lt-ltb, eqb-false, not-true}
+use borrow.Author.Tests.{ltb-true, lt-ltb, eqb-false}
 use Rattle.counting.specs.Counting.{only, sum}
 use Rattle.counting.proofs.Tests.{true-or-false, and_left, and_right, mul-only}
 use Rattle.counting.proofs.Sums.{sum_same}
@@ -17,8 +17,7 @@ use Rattle.schedule.specs.ListPlan.{PartPlan, ready, occupies, occupied, place_a
 use Rattle.schedule.specs.PartPlans.{Completes}
 use Rattle.schedule.specs.Bounds.{kept, chain, head, must_run, gain, Lasts, ServesFrom}
 use Rattle.schedule.specs.Beginnings.{CannotBeat}
-use Rattle.schedule.proofs.Bounds.{overlap_cut, weights_cut, reach_cut, release_cut, modules_cut, later, goes_on}
-use Rattle.schedule.proofs.Timed.{Timed}
+use Rattle.schedule.proofs.Bounds.{overlap_cut, weights_cut, reach_cut, release_cut, modules_cut, later}
 use Rattle.schedule.proofs.Chains.{start-waits}
 use Rattle.schedule.proofs.Starts.{ready_says}
 use Rattle.tables.specs.Tables.{sheet_of, need_at, kept_at, count_of, modules_of, changeover_of}
@@ -30,8 +29,7 @@ use Rattle.placement.proofs.Parts.{occupied_is}
 use Rattle.weights.specs.Weights.{Outweighed}
 use Rattle.overlaps.specs.Overlaps.{must_hold, Overlapping}
 use Rattle.lanes.specs.Lanes.{served_on, Overfull}
-use Rattle.releases.specs.Releases.{first_at, Starting}
-use Rattle.fitting.specs.Fitting.{OverfullAt}
+use Rattle.fitting.specs.Fitting.{release_at, FitsIn, OverfullFrom}
 use Rattle.sums.specs.Sums.{together}
 use Rattle.sums.specs.Serving.{Unserved}
 use Rattle.relations.specs.Relations.{ChainsOf}
@@ -110,62 +108,37 @@ module _ {t : List ℕ} {part : Part} (known : Known t part)
       o.weighs o.most-rises (λ X x l short. o.lasts X x l (omega (arith, short, as-kept X (λ k m. m)))) o.reach-none o.reach-rises
       (omega (arith, free, of_set (λ k. o.weight k * o.value k), o.over))
 
-  -- ---- lanes fitted to the part-plan
+  -- a job that is left starts neither before the next start nor, where it may come next, before its own
+  released : (k : ℕ) → k < jobs → P.placed k ≡ false → (p : List ℕ) → Completes S P p → release_at at least k ≤ (place_all S P p).plan.start k
+  unfolding release_at
+  released k l z p c = go (eqb (get_or at k 0) 65535) refl
+    where
+      go : (b : Bool) → eqb (get_or at k 0) 65535 ≡ b → cond (eqb (get_or at k 0) 65535) least (get_or at k 0) ≤ (place_all S P p).plan.start k
+      go true e = rw e (later S known.fit.lasting known.fit.narrow w known.is.follows least starts.low
+          (none_before known starts) T p c k l z)
+      go false e = rw e (own e (true-or-false (ready S P.placed k)))
+        where
+          own : eqb (get_or at k 0) 65535 ≡ false → (ready S P.placed k ≡ true) ⊎ (ready S P.placed k ≡ false)
+              → get_or at k 0 ≤ (place_all S P p).plan.start k
+          own d (inl r) =
+              omega (arith, (starts.each k l).here r, start-waits S known.fit.narrow P p c k (ready_says S P.placed k r))
+          own d (inr r) = absurd (eqb-false (get_or at k 0) 65535 d ((starts.each k l).none r))
 
-  module _ (p : List ℕ) (c : Completes S P p) where
-    abbrev start : ℕ → ℕ
-    start = (place_all S P p).plan.start
-
-    -- a job that is left starts neither before the next start nor, where it may come next, before its own
-    first_start : (k : ℕ) → k < jobs → P.placed k ≡ false → first_at at least k ≤ start k
-    unfolding first_at
-    first_start k l z = go (eqb (get_or at k 0) 65535) refl
-      where
-        go : (b : Bool) → eqb (get_or at k 0) 65535 ≡ b → cond (eqb (get_or at k 0) 65535) least (get_or at k 0) ≤ start k
-        go true e = rw e (later S known.fit.lasting known.fit.narrow w known.is.follows least starts.low
-            (none_before known starts) T p c k l z)
-        go false e = rw e (own e (true-or-false (ready S P.placed k)))
-          where
-            own : eqb (get_or at k 0) 65535 ≡ false → (ready S P.placed k ≡ true) ⊎ (ready S P.placed k ≡ false)
-                → get_or at k 0 ≤ start k
-            own d (inl r) =
-                omega (arith, (starts.each k l).here r, start-waits S known.fit.narrow P p c k (ready_says S P.placed k r))
-            own d (inr r) = absurd (eqb-false (get_or at k 0) 65535 d ((starts.each k l).none r))
-
-    -- the jobs that are left are unplaced
-    unplaced : (k : ℕ) → k < jobs → bit part.unplaced k ≡ true → P.placed k ≡ false
-    unplaced k l b = not-true (P.placed k) (sym (F.set k l) ∙ b)
-
-    starting : Starting t at part.unplaced least start
-    starting = record {
-      from = λ k l b. first_start k l (unplaced k l b);
-      waits = λ i k l m a b e. timed.after i k l m e;
-    }
-      where
-        timed : Timed S (place_all S P p).plan
-        timed = (goes_on S known.fit.lasting known.fit.narrow w known.is.follows least starts.low
-            (none_before known starts) T p c).timed
-
-  pub fitted_cut : OverfullAt t part at least C → CannotBeat S (suc T) w
+  pub fitted_cut : OverfullFrom t part (release_at at least) least C → CannotBeat S (suc T) w
   unfolding served_on
-  fitted_cut h =
-      let o = h.over in
-      let served : ℕ → ℕ → ℕ = λ x m. only (leb least m) (o.most (modules_of t - x) * gain o.reach C m) in
+  fitted_cut o =
+      let served : ℕ → ℕ → ℕ = λ x m. only (leb least m) ((modules_of t - x) * gain o.reach C m) in
       let free = sum_same C (λ m. served (held_of part m) m) (λ m. served (occupied S P m) m)
       (λ m l. ap (λ (x : ℕ). served x m) (held_is m)) in
       release_cut S known.fit.lasting known.fit.narrow w known.is.follows least starts.low
-      (none_before known starts) T (λ k. get_or h.release k 0) S.need o.value o.most o.reach released
-      (λ X x l left. o.stands X x l (λ k m e. F.set k m ∙ ap not (left k e))) o.most-rises serves o.reach-none o.reach-rises
+      (none_before known starts) T (release_at at least) S.need o.value (λ x. x) o.reach released
+      (λ X x l short. short) (λ a b l m. l) serves o.reach-none o.reach-rises
       (omega (arith, free, of_set (λ k. need_at t k * o.value k), o.over))
     where
-      released : (k : ℕ) → k < jobs → P.placed k ≡ false → (p : List ℕ) → Completes S P p
-          → get_or h.release k 0 ≤ (place_all S P p).plan.start k
-      released k l z p c = h.releases.each (start p c) (starting p c) k l (F.set k l ∙ ap not z)
-
-      serves : ServesFrom S P C (λ k. get_or h.release k 0) h.over.value h.over.reach
-      serves X x l left short late = h.over.serves X x l (λ k m e. F.set k m ∙ ap not (left k e)) (
+      serves : ServesFrom S P C (release_at at least) o.value o.reach
+      serves X x l left short late = o.serves X x l (λ k m e. F.set k m ∙ ap not (left k e)) (
         omega (arith, short, as-kept X (λ k m. m)),
-        λ a. omega (arith, late a, as-kept (λ k. X k && leb a (get_or h.release k 0)) (λ k m. m)),
+        λ a. omega (arith, late a, as-kept (λ k. X k && leb a (release_at at least k)) (λ k m. m)),
       )
 
   module _ (u : Unserved t part least C) where

@@ -7,7 +7,7 @@ ghost use Rattle.tables.specs.Prepared.{tails_in, worth_in, most_in, lanes_in};
 ghost use Rattle.placement.specs.Profile.{ProfileOf};
 ghost use Rattle.weights.specs.Weights.{Weighted};
 ghost use Rattle.values.specs.Values.{Laned};
-ghost use Rattle.fitting.specs.Fitting.{slate_size, OverfullAt};
+ghost use Rattle.fitting.specs.Fitting.{slate_size, release_at, OverfullFrom};
 ghost use Rattle.bounds.specs.Bounds.{SomeTooLong, TooFew, Hopeless, Bounding};
 
 use figures::{MOST_JOBS, NO_MINUTE};
@@ -118,7 +118,7 @@ pub fn overfilled(
     requires { ((Fit jobs.now) × (length slate.old ≡ slate_size))
         × (((k : ℕ) → k < count_of jobs.now → least ≤ get_or at.now k 0) × (Bounding jobs.now (part_in part.now) least)) }
     ensures over { result ≡ true
-        → OverfullAt jobs.now (part_in part.now) at.now least (target + changeover_of jobs.now) }
+        → OverfullFrom jobs.now (part_in part.now) (release_at at.now least) least (target + changeover_of jobs.now) }
     ensures size { length slate.new ≡ length slate.old }
 {
     let close = tables::closing(jobs, target);

@@ -6,24 +6,22 @@ use mathlib.Core.List.{List}
 use Prim.Native.Nat.{ℕ, ◌+◌, ◌-◌, ◌*◌, ◌/◌, ◌≤◌, ◌<◌, min}
 use native.Mathlib.Omega.{arith}
 use native.Mathlib.Nat.{le_refl, le-div_iff_mul-le, lt-div-mul-add, mul-add, mul_comm, mul-le-mul_left, div-mul-le_self, zero-div}
-use lib.Dec.{leb}
+use lib.Dec.{leb, eqb}
 use lib.ListN.{get_or}
 use borrow.Author.Tests.{le-leb}
 use Rattle.counting.specs.Counting.{only, sum, Rises}
 use Rattle.counting.proofs.Tests.{true-or-false, less-or-not}
 use Rattle.counting.proofs.Sums.{sum_same}
-use Rattle.figures.specs.Figures.{most_jobs, most_modules}
+use Rattle.figures.specs.Figures.{most_jobs, most_modules, no_minute}
 use Rattle.bits.specs.Bits.{bit}
 use Rattle.tables.specs.Tables.{need_at, kept_at, count_of, modules_of, Fit}
 use Rattle.tables.specs.Part.{Part}
 use Rattle.placement.specs.Profile.{ProfileOf}
+use Rattle.weights.specs.Weights.{Put}
 use Rattle.lanes.specs.Lanes.{served_on, Serving}
 use Rattle.lanes.proofs.Laws.{div-rises}
-use Rattle.releases.specs.Releases.{Releases}
-use Rattle.widths.specs.Widths.{WidthsOf, filled_of}
-use Rattle.widths.proofs.Filling.{filled-le, filled-rises, widths_hold}
 use Rattle.fitting.specs.declared.Frame.{Frame}
-use Rattle.fitting.specs.Fitting.{cells, Ordered, AllAmong, Framed, HasRoom, FitsIn, RowOf, reach_by, Tabling, OverfullFrom}
+use Rattle.fitting.specs.Fitting.{cells, release_at, Ordered, AllAmong, Framed, HasRoom, FitsIn, RowOf, reach_by, Tabling, OverfullFrom}
 use Rattle.fitting.proofs.Tables.{column}
 
 -- ---- the frame
@@ -68,9 +66,9 @@ module _ {t : List ℕ} {f : Frame} {release value : ℕ → ℕ} {order : List 
       ap (λ (x : ℕ). row (x / f.step)) e ∙ ap row (zero-div f.step) ∙ h.none
 
   pub serving_by : {p : Part} {gone free modules : ℕ} → n ≤ most_jobs → ProfileOf p gone free modules f.least → modules ≤ most_modules
-      → Serving (filled_of f.sums) (reach_by f row) p gone free modules f.least f.close
+      → Serving (λ x. x) (reach_by f row) p gone free modules f.least f.close
   serving_by few profile narrow = record {
-    most_small = λ x l. omega (arith, filled-le f.sums x);
+    most_small = λ x l. omega arith;
     reach-rises = reach-rises;
     reach-none = reach-none;
     reach_small = λ x l. omega (arith, h.small (min x span / f.step) (column framed (min x span) (omega arith)));
@@ -80,7 +78,7 @@ module _ {t : List ℕ} {f : Frame} {release value : ℕ → ℕ} {order : List 
   }
 
   module _ (p : Part) (all : AllAmong p.unplaced (count_of t) order n) (released : (k : ℕ) → k < count_of t → f.least ≤ release k)
-      (beside : (k : ℕ) → bit p.unplaced k ≡ false → value k ≡ 0) (widths : WidthsOf t p.unplaced f.sums) where
+      (beside : (k : ℕ) → bit p.unplaced k ≡ false → value k ≡ 0) where
     serves : (X : ℕ → Bool) (x : ℕ) → ((k : ℕ) → k < count_of t → X k ≡ true → bit p.unplaced k ≡ true)
         → FitsIn t release f.close X x → sum (count_of t) (λ k. only (X k) (value k)) ≤ reach_by f row x
     serves X x left fits =
@@ -93,14 +91,11 @@ module _ {t : List ℕ} {f : Frame} {release value : ℕ → ℕ} {order : List 
         one k m true e = rw (e, le-leb f.least (release k) (released k m)) refl
         one k m false e = rw e refl
 
-    pub overfull_by : served_on (filled_of f.sums) (reach_by f row) (modules_of t) p f.least f.close
+    pub overfull_by : served_on (λ x. x) (reach_by f row) (modules_of t) p f.least f.close
         < sum (count_of t) (λ k. need_at t k * value k) → OverfullFrom t p release f.least f.close
     overfull_by over = record {
       value = value;
-      most = filled_of f.sums;
       reach = reach_by f row;
-      stands = λ X x l left short. widths_hold widths X x left short;
-      most-rises = λ a b l m. filled-rises f.sums a b l;
       serves = λ X x l left fits. serves X x left fits;
       reach-rises = reach-rises;
       reach-none = reach-none;
@@ -116,20 +111,48 @@ module _ {t : List ℕ} {f : Frame} {release value : ℕ → ℕ} {order : List 
         one k true e = rw e refl
         one k false e = rw (e, beside k e) (omega arith)
 
+-- the same by releases that are the same
+pub overfull_alike : {t : List ℕ} {p : Part} {release release' : ℕ → ℕ} {l C : ℕ} → ((k : ℕ) → k < count_of t → release k ≡ release' k)
+    → OverfullFrom t p release l C → OverfullFrom t p release' l C
+overfull_alike {t} {release = release} {release'} same h = record {
+  value = h.value;
+  reach = h.reach;
+  serves = λ X x l left fits. h.serves X x l left (
+    fits.0,
+    λ a. omega (
+      arith,
+      fits.1 a,
+      sum_same (count_of t) (λ k. only (X k && leb a (release k)) (kept_at t k)) (λ k. only (X k && leb a (release' k)) (kept_at t k))
+          (λ k m. ap (λ (r : ℕ). only (X k && leb a r) (kept_at t k)) (same k m)),
+    ),
+  );
+  reach-rises = h.reach-rises;
+  reach-none = h.reach-none;
+  over = h.over;
+}
+
 -- ---- the table of a part-plan
 
-pub tabling : {t : List ℕ} (p : Part) {f : Frame} {order : List ℕ} {n : ℕ} {at release : List ℕ} {l gone free : ℕ} → Fit t
-    → Releases t at p.unplaced l release → f.least ≡ l → Framed f → HasRoom f n
+-- no release lies before minute l if no start does
+release_from : (at : List ℕ) (l k : ℕ) → l ≤ get_or at k 0 → l ≤ release_at at l k
+unfolding release_at
+release_from at l k m = go (true-or-false (eqb (get_or at k 0) no_minute))
+  where
+    go : (eqb (get_or at k 0) no_minute ≡ true) ⊎ (eqb (get_or at k 0) no_minute ≡ false) → l ≤ release_at at l k
+    go (inl e) = rw e (le_refl l)
+    go (inr e) = rw e m
+
+pub tabling : {t : List ℕ} (p : Part) {f : Frame} {order : List ℕ} {n : ℕ} (at : List ℕ) {old release : List ℕ} {l gone free : ℕ} → Fit t
+    → Put (λ k. k) old release most_jobs (release_at at l) → f.least ≡ l → Framed f → HasRoom f n
     → Ordered (λ k. get_or release k 0) (count_of t) order n
-    → AllAmong p.unplaced (count_of t) order n
-    → ProfileOf p gone free (modules_of t) l → WidthsOf t p.unplaced f.sums → Tabling t p f order n release gone free
-tabling p fit releases e framed room ordered all profile widths = record {
+    → AllAmong p.unplaced (count_of t) order n → ((k : ℕ) → k < count_of t → l ≤ get_or at k 0)
+    → ProfileOf p gone free (modules_of t) l → Tabling t p f order n release gone free
+tabling p at {l = l} fit put e framed room ordered all starts profile = record {
   fit = fit;
   framed = framed;
   room = room;
   ordered = ordered;
   all = all;
-  released = λ k m. omega (arith, e, releases.low k m);
+  released = λ k m. omega (arith, e, put.each k (omega (arith, fit.few)), release_from at l k (starts k m));
   profile = rw e profile;
-  widths = widths;
 }

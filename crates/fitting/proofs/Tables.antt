@@ -14,10 +14,38 @@ use Rattle.counting.proofs.Tests.{true-or-false, clash, less-or-not, last-or_bel
 use Rattle.counting.proofs.Sums.{sum-le, sum_same, sum-zero, sum_insert}
 use Rattle.tables.specs.Tables.{kept_at, count_of}
 use Rattle.lanes.proofs.Laws.{div-rises}
-use Rattle.widths.proofs.Sums.{others, split, other}
 use Rattle.fitting.specs.declared.Frame.{Frame}
 use Rattle.fitting.specs.Fitting.{cells, top_value, Among, Framed, FitsIn, RowOf, row_with}
 use Rattle.fitting.proofs.Rows.{with_keeps, with_takes, with-rises, with_small, with_short, with_long}
+
+-- ---- a set without one of its members
+
+module _ (X : ℕ → Bool) (j : ℕ) where
+  abbrev others : ℕ → Bool
+  others k = X k && not (eqb k j)
+
+  others-none : others j ≡ false
+  others-none = go (eqb j j) refl
+    where
+      go : (b : Bool) → eqb j j ≡ b → others j ≡ false
+      go true e = rw e (and-false (X j))
+        where
+          and-false : (a : Bool) → (a && false) ≡ false
+          and-false true = refl
+          and-false false = refl
+      go false e = absurd (eqb-false j j e refl)
+
+  split : (n : ℕ) (g : ℕ → ℕ) → j < n → X j ≡ true → sum n (λ k. only (X k) (g k)) ≡ sum n (λ k. only (others k) (g k)) + g j
+  split n g l has =
+      sum_same n (λ k. only (X k) (g k)) (λ k. only (eqb k j || others k) (g k)) (λ k m. ap (λ b. only b (g k)) (one k (eqb k j) refl))
+      ∙ sum_insert n others g j l others-none
+    where
+      one : (k : ℕ) (b : Bool) → eqb k j ≡ b → X k ≡ (eqb k j || (X k && not (eqb k j)))
+      one k true e = rw e (ap X (eqb-true k j e) ∙ has)
+      one k false e = rw e (sym (and-true (X k)))
+
+  other : (k : ℕ) → others k ≡ true → (X k ≡ true) × (k ≢ j)
+  other k b = (and_left (X k) _ b, λ e. clash (others k) b (ap others e ∙ others-none))
 
 -- ---- minutes in whole steps
 

@@ -1,14 +1,12 @@
 -- A table of the jobs that are left, made for one part-plan: what a lane can serve in so many steps, where no job starts before its release.
-use Rattle.std.specs.Prelude.{◌≡◌, Bool, true, false, ◌&&◌, List, ℕ, ◌+◌, ◌-◌, ◌*◌, ◌/◌, ◌≤◌, ◌<◌, max, min, leb, get_or}
+use Rattle.std.specs.Prelude.{◌≡◌, Bool, true, false, cond, ◌&&◌, List, ℕ, ◌+◌, ◌-◌, ◌*◌, ◌/◌, ◌≤◌, ◌<◌, max, min, leb, eqb, get_or}
 use Rattle.counting.specs.Counting.{only, sum, Rises}
-use Rattle.figures.specs.Figures.{most_jobs}
+use Rattle.figures.specs.Figures.{most_jobs, no_minute}
 use Rattle.bits.specs.Bits.{bit}
 use Rattle.tables.specs.Tables.{need_at, kept_at, count_of, modules_of, Fit}
 use Rattle.tables.specs.Part.{Part}
 use Rattle.placement.specs.Profile.{ProfileOf}
 use Rattle.lanes.specs.Lanes.{served_on}
-use Rattle.releases.specs.Releases.{Releases}
-use Rattle.widths.specs.Widths.{WidthsOf}
 use Rattle.fitting.specs.declared.Frame.{Frame}
 
 -- ---- figures
@@ -29,6 +27,10 @@ abbrev pub most_move : ℕ
 most_move = 4294967296 * 65536 * 24
 
 -- ---- the jobs that are left
+
+-- the minute before which job k cannot start: its start if it may come next, and else minute l
+unfoldable pub release_at : List ℕ → ℕ → ℕ → ℕ
+release_at at l k = cond (eqb (get_or at k 0) no_minute) l (get_or at k 0)
 
 -- k is one of the first n
 abbrev pub Among : List ℕ → ℕ → ℕ → Type 0
@@ -104,27 +106,16 @@ pub record Tabling (t : List ℕ) (p : Part) (f : Frame) (order : List ℕ) (n :
   pub all : AllAmong p.unplaced (count_of t) order n
   pub released : (k : ℕ) → k < count_of t → f.least ≤ get_or release k 0
   pub profile : ProfileOf p gone free (modules_of t) f.least
-  pub widths : WidthsOf t p.unplaced f.sums
 
 -- ---- the answer
 
--- the unplaced jobs, each of which starts from its release on, have more value than the lanes can serve from minute l up to minute C: as many
--- are open as the unplaced jobs can fill of the free modules
+-- the unplaced jobs, each of which starts from its release on, have more value than the lanes, one on each module, can serve from minute l
+-- up to minute C
 pub record OverfullFrom (t : List ℕ) (p : Part) (release : ℕ → ℕ) (l C : ℕ) : Type 0 where
   pub value : ℕ → ℕ
-  pub most : ℕ → ℕ
   pub reach : ℕ → ℕ
-  pub stands : (X : ℕ → Bool) (x : ℕ) → x ≤ modules_of t → ((k : ℕ) → k < count_of t → X k ≡ true → bit p.unplaced k ≡ true)
-      → sum (count_of t) (λ k. only (X k) (need_at t k)) ≤ x → sum (count_of t) (λ k. only (X k) (need_at t k)) ≤ most x
-  pub most-rises : Rises (modules_of t) most
   pub serves : (X : ℕ → Bool) (x : ℕ) → x ≤ C → ((k : ℕ) → k < count_of t → X k ≡ true → bit p.unplaced k ≡ true)
       → FitsIn t release C X x → sum (count_of t) (λ k. only (X k) (value k)) ≤ reach x
   pub reach-rises : Rises C reach
   pub reach-none : reach 0 ≡ 0
-  pub over : served_on most reach (modules_of t) p l C < sum (count_of t) (λ k. only (bit p.unplaced k) (need_at t k * value k))
-
--- the same of releases of the unplaced jobs, none of which starts before its start in `at`
-pub record OverfullAt (t : List ℕ) (p : Part) (at : List ℕ) (l C : ℕ) : Type 0 where
-  pub release : List ℕ
-  pub releases : Releases t at p.unplaced l release
-  pub over : OverfullFrom t p (λ k. get_or release k 0) l C
+  pub over : served_on (λ x. x) reach (modules_of t) p l C < sum (count_of t) (λ k. only (bit p.unplaced k) (need_at t k * value k))

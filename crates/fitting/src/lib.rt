@@ -6,7 +6,7 @@ ghost use Rattle.tables.specs.Tables.{count_of, modules_of, Fit};
 ghost use Rattle.tables.specs.Part.{part_in};
 ghost use Rattle.placement.specs.Profile.{ProfileOf};
 ghost use Rattle.lanes.specs.Lanes.{most_served};
-ghost use Rattle.fitting.specs.Fitting.{slate_size, Framed, HasRoom, Tabling, OverfullFrom, OverfullAt};
+ghost use Rattle.fitting.specs.Fitting.{slate_size, release_at, Framed, HasRoom, Tabling, OverfullFrom};
 
 use figures::MOST_JOBS;
 use tables::{Jobs, Part};
@@ -27,21 +27,19 @@ pub const SLATE_PLACES: usize = CELLS + MOST_JOBS + 4 * paying::ACCOUNTS + 1;
 
 pub type Slate = [u16; SLATE_PLACES];
 
-// How a table stands: how many columns a row has, the minutes of a step, the minutes from which and up to which lanes serve, and the sums of
-// widths that the jobs that are left have.
+// How a table stands: how many columns a row has, the minutes of a step, and the minutes from which and up to which lanes serve.
 #[derive(Drop)]
 pub struct Frame {
     pub cols: usize,
     pub step: u16,
     pub least: u16,
     pub close: u16,
-    pub sums: u64,
 }
 
 // The frame of a table of so many jobs.
-fn frame_of(count: usize, least: u16, close: u16, sums: u64) -> Frame
+fn frame_of(count: usize, least: u16, close: u16) -> Frame
     requires { (count ≤ most_jobs) × (least ≤ close) }
-    ensures { ((Framed result) × (HasRoom result count)) × ((result.least ≡ least) × (result.close ≡ close) × (result.sums ≡ sums)) }
+    ensures { ((Framed result) × (HasRoom result count)) × ((result.least ≡ least) × (result.close ≡ close)) }
 {
     let most = (CELLS / (count + 1) - 1) as u16;
     let cols = (counting::smaller(most, close - least) as usize) + 1;
@@ -51,7 +49,6 @@ fn frame_of(count: usize, least: u16, close: u16, sums: u64) -> Frame
         step,
         least,
         close,
-        sums,
     }
 }
 
@@ -138,14 +135,12 @@ fn tabled(
     requires { (((Fit jobs.now) × (length slate.old ≡ slate_size)) × (least ≤ close))
         × (((k : ℕ) → k < count_of jobs.now → least ≤ get_or at.now k 0)
         × (ProfileOf (part_in part.now) gone free (modules_of jobs.now) least)) }
-    ensures over { result ≡ true → OverfullAt jobs.now (part_in part.now) at.now least close }
+    ensures over { result ≡ true → OverfullFrom jobs.now (part_in part.now) (release_at at.now least) least close }
     ensures size { length slate.new ≡ length slate.old }
 {
-    let unplaced = tables::unplaced(part);
-    let release = releases::releases_of(jobs, unplaced, at, least);
-    let left = ordering::ordered(&release.of, unplaced, tables::count(jobs));
-    let sums = widths::sums_of(jobs, unplaced);
-    let frame = frame_of(left.count, least, close, sums);
+    let release = ordering::releases_of(at, least);
+    let left = ordering::ordered(&release.of, tables::unplaced(part), tables::count(jobs));
+    let frame = frame_of(left.count, least, close);
     shown(
         slate,
         jobs,
@@ -178,7 +173,7 @@ pub fn overfull(
     requires { ((Fit jobs.now) × (length slate.old ≡ slate_size))
         × (((k : ℕ) → k < count_of jobs.now → least ≤ get_or at.now k 0)
         × (ProfileOf (part_in part.now) gone free (modules_of jobs.now) least)) }
-    ensures over { result ≡ true → OverfullAt jobs.now (part_in part.now) at.now least close }
+    ensures over { result ≡ true → OverfullFrom jobs.now (part_in part.now) (release_at at.now least) least close }
     ensures size { length slate.new ≡ length slate.old }
 {
     if close < least {

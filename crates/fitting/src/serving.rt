@@ -4,7 +4,6 @@ ghost use Rattle.tables.specs.Tables.{modules_of, count_of, Fit};
 ghost use Rattle.tables.specs.Part.{part_in};
 ghost use Rattle.weights.specs.Weights.{Put};
 ghost use Rattle.lanes.specs.Lanes.{served_on, most_reach, most_served, Serving};
-ghost use Rattle.widths.specs.Widths.{filled_of};
 ghost use Rattle.fitting.specs.Fitting.{cells, slate_size, row_at, row_with, reach_by, top_value, Valued, Framed, HasRoom, Ordered, RowOf};
 
 use super::cells::{add_row, clear_cells};
@@ -79,7 +78,7 @@ fn reach_from(slate: &Slate, base: usize, frame: Frame, t: u16) -> u32
     values::wide(slate[base + column])
 }
 
-// What the lanes serve, as many from each minute on as the jobs can fill of the modules that are free.
+// What the lanes serve, one on each module from the minute on at which it is free.
 pub fn served(
     slate: &Slate,
     base: usize,
@@ -90,9 +89,9 @@ pub fn served(
     free: u16,
 ) -> u32
     requires { ((Framed frame) × (base + frame.cols ≤ cells))
-        × (Serving (filled_of frame.sums) (reach_by frame (row_at slate.now base)) (part_in part.now) gone free (modules_of jobs.now) frame.least
+        × (Serving (λ x. x) (reach_by frame (row_at slate.now base)) (part_in part.now) gone free (modules_of jobs.now) frame.least
         frame.close) }
-    ensures { (result ≡ served_on (filled_of frame.sums) (reach_by frame (row_at slate.now base)) (modules_of jobs.now)
+    ensures { (result ≡ served_on (λ x. x) (reach_by frame (row_at slate.now base)) (modules_of jobs.now)
         (part_in part.now) frame.least frame.close) × (result ≤ most_served) }
 {
     let placed = tables::placed(part);
@@ -104,11 +103,11 @@ pub fn served(
     while i < placed {
         let to = weights::next_end(at, tables::until(part, i), frame.close);
         let next = reach_from(slate, base, frame, to);
-        total += values::wide(widths::filled(frame.sums, f)) * (reach - next);
+        total += values::wide(f) * (reach - next);
         at = to;
         reach = next;
         f += tables::held(part, i);
         i += 1;
     }
-    total + values::wide(widths::filled(frame.sums, f)) * reach
+    total + values::wide(f) * reach
 }

@@ -151,7 +151,6 @@ fn lanes_of(
         of: [0u16; MOST_JOBS],
     };
     let placed = tables::placed(part);
-    let mut opened = widths::filled(frame.sums, free);
     let mut lanes = traced(
         slate,
         jobs,
@@ -161,17 +160,13 @@ fn lanes_of(
         release,
         none,
         frame.least,
-        opened,
+        free,
     );
-    let mut f = free;
     let mut i = gone;
     while i < placed {
         let t = tables::until(part, i);
-        f = more_lanes(f, tables::held(part, i), true);
-        let now = widths::filled(frame.sums, f);
-        let more = difference(now, opened);
+        let more = tables::held(part, i);
         lanes = traced(slate, jobs, frame, order, count, release, lanes, t, more);
-        opened = now;
         i += 1;
     }
     lanes

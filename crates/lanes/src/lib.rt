@@ -1,4 +1,6 @@
 // The bound by lanes: whether the jobs that are left have more value than the lanes that come open can serve until all modules are given back.
+#![tactic(auto)]
+
 ghost use Rattle.std.specs.Prelude.{◌≡◌, true, ℕ, ◌-◌, ◌<◌, ◌≤◌};
 ghost use Rattle.counting.specs.Counting.{only, sum};
 ghost use Rattle.figures.specs.Figures.{most_jobs, most_modules};

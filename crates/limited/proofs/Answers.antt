@@ -7,6 +7,7 @@ use native.Mathlib.Omega.{arith}
 use lib.Dec.{ltb}
 use lib.ListN.{length, drop, take, replicate}
 use Rattle.schedule.specs.Plan.{Sheet}
+use Rattle.schedule.specs.TieRule.{end_of}
 use Rattle.schedule.proofs.Same.{SameJobs, same_back, order_same, end_same, best_same}
 use Rattle.tables.specs.Tables.{sheet_of, count_of}
 use Rattle.card.specs.Card.{card_size, card_of}
@@ -17,9 +18,9 @@ use Rattle.planner.specs.Planning.{plan_refusal, memory_after}
 use Rattle.planner.proofs.Cards.{card_same}
 use Rattle.planner.proofs.Calls.{Given, ready, none}
 use Rattle.search.specs.declared.Within.{Within}
-use Rattle.search.specs.Search.{no_limit, NoneBefore, WithinLimit}
+use Rattle.search.specs.Search.{no_limit, WithinLimit}
 use Rattle.limited.specs.declared.Limited.{Limited}
-use Rattle.limited.specs.Limited.{refused_with, mark_of, LimitedCard}
+use Rattle.limited.specs.Limited.{refused_with, mark_of, WrittenFor, LimitedCard}
 
 -- what a call gives and leaves
 abbrev pub Gives : List ℕ → List ℕ → List ℕ → List ℕ → List ℕ → ℕ → Limited → Type 0
@@ -47,22 +48,20 @@ mark_low : (b : Bool) → mark_of b ≤ 1
 mark_low true = omega arith
 mark_low false = omega arith
 
--- the card of what the search gives within the limit, with a bound before which no order ends and which an exact order meets
-pub within-written : {T : Sheet} {card after : List ℕ} {limit bound : ℕ} (r : Within) → WithinLimit T r → NoneBefore T bound
-    → (r.exact ≡ true → bound ≡ r.end) → (limit ≡ no_limit → r.exact ≡ true)
+-- the card of what the search gives within the limit
+pub within-written : {T : Sheet} {card after : List ℕ} {limit : ℕ} (r : Within) → WithinLimit T r → (limit ≡ no_limit → r.exact ≡ true)
     → after ≡ card_of T (take T.jobs r.order) ++ drop (card_size T.jobs) card
-    → LimitedCard T card after limit (record { refusal = 0; end = r.end; bound = bound; exact = mark_of r.exact })
-within-written {T} r h bound met unlimited written = (
+    → LimitedCard T card after limit (record { refusal = 0; end = r.end; bound = r.bound; exact = mark_of r.exact })
+within-written {T} r h unlimited written = (
   take T.jobs r.order,
   record {
     refusal = refl;
     order = h.order;
     written = written;
     end = sym h.end;
-    bound = bound;
-    mark = mark_low r.exact;
+    bound = h.bound;
     exact = λ e. h.exact (mark_exact r.exact e);
-    met = λ e. met (mark_exact r.exact e);
+    mark = mark_low r.exact;
     unlimited = λ e. ap mark_of (unlimited e);
   },
 )
@@ -79,9 +78,8 @@ written_same {S} {T} h {card} (o, w) = (
         ∙ ap₂ (λ (c : List ℕ) (n : ℕ). c ++ drop (card_size n) card) (card_same h o w.order) h.jobs;
     end = w.end ∙ end_same h o w.order;
     bound = λ p d. let q = order_same (same_back h) p d in omega (arith, w.bound p q, end_same h p q);
-    mark = w.mark;
     exact = λ e. best_same h o (w.exact e);
-    met = w.met;
+    mark = w.mark;
     unlimited = w.unlimited;
   },
 )

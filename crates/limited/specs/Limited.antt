@@ -1,4 +1,4 @@
--- What planning with a limit answers. With a limit, the mark may be 0; the order on the card and the bound are then free. All else is not.
+-- What planning with a limit answers. Where the search gives up, the order on the card and the bound are free; all else is not.
 use Rattle.std.specs.Prelude.{◌≡◌, Bool, cond, List, ◌++◌, ℕ, ◌≤◌, drop}
 use Rattle.schedule.specs.Plan.{Sheet}
 use Rattle.schedule.specs.ListPlan.{Order}
@@ -11,22 +11,20 @@ use Rattle.limited.specs.declared.Limited.{Limited}
 abbrev pub refused_with : ℕ → Limited
 refused_with k = record { refusal = k; end = 0; bound = 0; exact = 0 }
 
--- the mark: 1 where the answer is exact, else 0
+-- the mark of an answer that is planning's, or not
 abbrev pub mark_of : Bool → ℕ
 mark_of exact = cond exact 1 0
 
--- An answered call of the sheet T: `card` is what was lent, `after` what it holds then, and o the order that is on it.
+-- An answered call of the sheet T: what was lent as the card, what it holds afterwards, and the order o that the card has.
 pub record WrittenFor (T : Sheet) (card after : List ℕ) (limit : ℕ) (o : List ℕ) (r : Limited) : Type 0 where
   pub refusal : r.refusal ≡ 0
   pub order : Order T o
   pub written : after ≡ card_of T o ++ drop (card_size T.jobs) card
   pub end : r.end ≡ end_of T o
-  -- no order ends before the bound
   pub bound : (p : List ℕ) → Order T p → r.bound ≤ end_of T p
-  -- the mark is 0 or 1; where it is 1, the order is the tie rule's and the bound is its end
-  pub mark : r.exact ≤ 1
+  -- marked, it is the tie rule's order
   pub exact : r.exact ≡ 1 → Best T o
-  pub met : r.exact ≡ 1 → r.bound ≡ r.end
+  pub mark : r.exact ≤ 1
   -- without a limit it is marked
   pub unlimited : limit ≡ no_limit → r.exact ≡ 1
 

@@ -1,5 +1,5 @@
-// Planning with a limit on the part-plans that the search visits: the card of a valid plan, a minute before which no valid plan ends, and a
-// mark that is 1 where the search did not give up. The card is then planning's, and that minute is its plan's end.
+// Planning with a limit on the part-plans that the search visits: planning's card, or the card of another valid plan and a minute before
+// which no valid plan ends.
 ghost use Rattle.std.specs.Prelude.{◌≡◌, ◌≤◌, length, replicate};
 ghost use Rattle.schedule.specs.Plan.{Circular};
 ghost use Rattle.tables.specs.Tables.{sheet_of, count_of, Fit};
@@ -10,8 +10,8 @@ ghost use Rattle.limited.specs.Limited.{refused_with, mark_of, LimitedCard};
 
 use tables::Jobs;
 
-// What is answered: refusal 0, the end of the plan on the card, a minute before which no valid plan ends, and the mark, 1 or 0; or the
-// number of the refusal with three 0.
+// What is answered: refusal 0 with the end of the plan on the card, a minute before which no valid plan ends, and 1 where the card is
+// planning's or else 0; or the number of the refusal with three 0.
 #[repr(C)]
 #[derive(Drop)]
 pub struct Limited {
@@ -21,7 +21,7 @@ pub struct Limited {
     pub exact: u32,
 }
 
-// The answer of a refused call.
+// A refusal.
 fn refused(refusal: u32) -> Limited
     ensures { result ≡ refused_with refusal }
 {
@@ -33,7 +33,7 @@ fn refused(refusal: u32) -> Limited
     }
 }
 
-// The mark of an answer.
+// 1 for yes, 0 for no.
 fn mark(exact: bool) -> u32
     ensures { result ≡ mark_of exact }
 {
@@ -62,9 +62,9 @@ fn write_within(card: &mut [u8], work: &mut [u8], limit: u64, jobs: &Jobs) -> Li
     }
 }
 
-// Planning with a limit: answered, or the first refusal of 1 to 10 and 19. Answered, the card of a valid plan is at the front of the lent
-// card and the working memory is all zero; refused, every lent byte is as before. The contract leaves free whether the mark is 1 where there
-// is a limit, and where it is 0, which plan and which bound.
+// Planning with a limit: answered, or the first refusal of 1 to 10. Answered, the card of a valid plan is at the front of the lent card and
+// the working memory is all zero; refused, every lent byte is as before. Which plan it is and which bound, the contract leaves free where
+// the mark is 0.
 pub fn plan_limited(sheet: &[u8], card: &mut [u8], work: &mut [u8], limit: u64) -> Limited
     ensures refused { ¬ (plan_refusal sheet.now (length card.old) ≡ 0)
         → (result ≡ refused_with (plan_refusal sheet.now (length card.old))) × (card.new ≡ card.old) }

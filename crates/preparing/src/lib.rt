@@ -1,4 +1,6 @@
 // The prepared table: what is made of the jobs once for a search, put side by side.
+#![tactic(auto)]
+
 ghost use Rattle.std.specs.Prelude.{◌≡◌, ◌+◌, ◌≤◌, length};
 ghost use Rattle.tables.specs.Tables.{count_of, Fit};
 ghost use Rattle.tables.specs.Prepared.{prepared_size, heads_from, related_from, worth_from, lanes_from, tails_in, heads_in, related_in, worth_in, most_in};

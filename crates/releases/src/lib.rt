@@ -1,4 +1,6 @@
 // A minute for each of the jobs that are left before which it cannot start: its release.
+#![tactic(auto)]
+
 ghost use Rattle.std.specs.Prelude.{◌≡◌, true, cond, ℕ, ◌+◌, ◌<◌, ◌≤◌, eqb, get_or, replicate};
 ghost use Rattle.figures.specs.Figures.{most_jobs, no_minute};
 ghost use Rattle.bits.specs.Bits.{bit};

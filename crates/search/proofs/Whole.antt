@@ -107,7 +107,8 @@ none_by m h s o d = m.miss h s o d (o, refl)
 -- while earlier ends are looked for, an order and what is remembered; then no order ends earlier
 pub record Turn (t prepared : List ℕ) (best : Found) (memory : List ℕ) (left : ℕ) : Type 0 where
   pub state : Lowering t prepared best memory
-  pub done : best.hit ≡ false → ¬ (left ≡ 0) → NoneBefore (sheet_of t) best.end
+  pub done : best.hit ≡ false → ¬ (left ≡ 0) → (o : List ℕ) → Order (sheet_of t) o
+      → best.end ≤ end_of (sheet_of t) o
 
 pub turn_next : {t prepared : List ℕ} {best r : Found} {memory : List ℕ} {left : ℕ}
     (memory' : List ℕ) → Lowering t prepared best memory
@@ -174,17 +175,10 @@ found_ends_by {t} {r} {target} fit m s = (there, λ some. back some (true-or-fal
 
 -- ---- within a limit
 
--- an order at which the search for an earlier end gave up
+-- an order that the search gave up to lower
 pub bounded_within : {S : Sheet} {best : Found} {bound : ℕ} → OrderOf S best → NoneBefore S bound
     → WithinLimit S (record { order = best.order; end = best.end; bound = bound; exact = false })
-bounded_within h b = record {
-  size = h.size;
-  order = h.order;
-  end = h.end;
-  bound = b;
-  exact = λ e. clash false e refl;
-  met = λ e. clash false e refl;
-}
+bounded_within h b = record { size = h.size; order = h.order; end = h.end; bound = b; exact = λ e. clash false e refl }
 
 -- an order that ends first, and the tie rule's where the search did not give up
 pub settled_within : {S : Sheet} {found : Found} {left : ℕ} → Lowest S found → (¬ (left ≡ 0) → TieRuled S found)
@@ -195,5 +189,4 @@ settled_within {S} {found} {left} h tied = record {
   end = h.is.end;
   bound = h.least;
   exact = λ e. (tied (some_left left e)).best;
-  met = λ e. refl;
 }

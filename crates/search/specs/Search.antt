@@ -34,7 +34,7 @@ Remembered S m e = (k : ℕ) → k < entries m → 0 < (entry_at m k).set
 
 -- ---- the limit
 
--- `left` is how many part-plans may still be visited: 0 where the search has given up, no_limit where it never does.
+-- How many part-plans may still be visited: 0 where the search has given up, no_limit where it never does.
 abbrev pub no_limit : ℕ
 no_limit = 18446744073709551615
 
@@ -123,25 +123,21 @@ pub record Lowering (t prepared : List ℕ) (best : Found) (memory : List ℕ) :
   pub best_is : OrderOf (sheet_of t) best
   pub remembered : Remembered (sheet_of t) memory best.end
 
--- no order ends before e
-abbrev pub NoneBefore : Sheet → ℕ → Type 0
-NoneBefore S e = (o : List ℕ) → Order S o → e ≤ end_of S o
-
 -- an order that ends earlier, or the same end, before which no order ends unless the search gave up
 pub record Lowered (S : Sheet) (best r : Found) (left : ℕ) : Type 0 where
   pub is : OrderOf S r
   pub hit : r.hit ≡ true → r.end < best.end
-  pub miss : r.hit ≡ false → (r.end ≡ best.end) × (¬ (left ≡ 0) → NoneBefore S r.end)
+  pub miss : r.hit ≡ false → (r.end ≡ best.end) × (¬ (left ≡ 0) → (o : List ℕ) → Order S o → r.end ≤ end_of S o)
 
 -- an order, and no order ends earlier
 pub record Lowest (S : Sheet) (r : Found) : Type 0 where
   pub is : OrderOf S r
-  pub least : NoneBefore S r.end
+  pub least : (o : List ℕ) → Order S o → r.end ≤ end_of S o
 
 -- the same, unless the search gave up
 pub record LowestIf (S : Sheet) (r : Found) (left : ℕ) : Type 0 where
   pub is : OrderOf S r
-  pub least : ¬ (left ≡ 0) → NoneBefore S r.end
+  pub least : ¬ (left ≡ 0) → (o : List ℕ) → Order S o → r.end ≤ end_of S o
 
 -- an order that ends first and begins with the jobs w, before which nothing ends as early
 pub record Placing (S : Sheet) (w : List ℕ) (r : Found) : Type 0 where
@@ -156,11 +152,14 @@ pub record TieRuled (S : Sheet) (r : Found) : Type 0 where
 
 -- ---- within a limit
 
--- an order with its end and a minute before which none ends; where it is said to be exact, the tie rule's order, and that minute is its end
+-- no order ends before e
+abbrev pub NoneBefore : Sheet → ℕ → Type 0
+NoneBefore S e = (o : List ℕ) → Order S o → e ≤ end_of S o
+
+-- an order with its end and a minute before which none ends; where it is said to be exact, the tie rule's
 pub record WithinLimit (S : Sheet) (r : Within) : Type 0 where
   pub size : length r.order ≡ most_jobs
   pub order : Order S (take S.jobs r.order)
   pub end : end_of S (take S.jobs r.order) ≡ r.end
   pub bound : NoneBefore S r.bound
   pub exact : r.exact ≡ true → tie.Best S (take S.jobs r.order)
-  pub met : r.exact ≡ true → r.bound ≡ r.end

@@ -22,11 +22,10 @@ use tables::{Jobs, PREPARED_PLACES, Part, Prepared};
 
 // ---- the limit
 
-// The limit that is none: `left` stays at it.
+// How many part-plans may be visited where there is no limit.
 pub const NO_LIMIT: u64 = 18446744073709551615;
 
-// Counts a part-plan, and whether none is left: the search then gives up, and that it has found no order says nothing. Without a limit it
-// never does.
+// Counts a part-plan, and whether none is left: the search then gives up, and what it answers says nothing. Without a limit it never does.
 fn used_up(left: &mut u64) -> bool
     ensures spent { result ≡ true → left.new ≡ 0 }
     ensures limit { Unlimited left.old left.new }
@@ -209,27 +208,27 @@ fn try_children(
 // The same from a part-plan for which nothing is settled, unless jobs arrive too late for the target.
 fn seek(
     memory: &mut [u8],
-    slate: &mut Slate,
     left: &mut u64,
     part: &Part,
     target: u16,
     jobs: &Jobs,
     prepared: &Prepared,
 ) -> Found
-    requires { (Going jobs.now prepared.now (part_in part.now) target memory.old) × (length slate.old ≡ slate_size) }
+    requires { Going jobs.now prepared.now (part_in part.now) target memory.old }
     ensures outcome { Outcome (sheet_of jobs.now) target (word_of (part_in part.now)) result left.new }
     ensures remembered { Remembered (sheet_of jobs.now) memory.new (suc target) }
-    ensures size { length slate.new ≡ length slate.old }
     ensures limit { Unlimited left.old left.new }
 {
     if areas::too_late(jobs, prepared, part, target) {
         return none_found();
     }
     let mut settled = [0u32; MOST_JOBS];
+    let mut slate = [0u16; SLATE_PLACES];
+    fitting::begin(&mut slate, jobs);
     visit(
         memory,
         &mut settled,
-        slate,
+        &mut slate,
         left,
         part,
         0,
@@ -254,69 +253,50 @@ fn kept(best: Found) -> Found
 }
 
 // An order that ends by the target, or none. No order ends between the target and the goal that it is rounded to.
-fn decide(
-    memory: &mut [u8],
-    slate: &mut Slate,
-    left: &mut u64,
-    target: u16,
-    jobs: &Jobs,
-    prepared: &Prepared,
-) -> Found
-    requires { ((Fit jobs.now) × (length slate.old ≡ slate_size))
-        × ((Tabled jobs.now prepared.now) × ((target < no_minute) × (Remembered (sheet_of jobs.now) memory.old (suc target)))) }
+fn decide(memory: &mut [u8], left: &mut u64, target: u16, jobs: &Jobs, prepared: &Prepared) -> Found
+    requires { (Fit jobs.now) × ((Tabled jobs.now prepared.now) × ((target < no_minute) × (Remembered (sheet_of jobs.now) memory.old (suc target)))) }
     ensures outcome { Outcome (sheet_of jobs.now) target [] result left.new }
     ensures remembered { Remembered (sheet_of jobs.now) memory.new (suc target) }
-    ensures size { length slate.new ≡ length slate.old }
     ensures limit { Unlimited left.old left.new }
 {
     let goal = sums::rounded(jobs, target);
     let part = placement::first_part(jobs);
-    seek(memory, slate, left, &part, goal, jobs, prepared)
+    seek(memory, left, &part, goal, jobs, prepared)
 }
 
 // An order that ends earlier, or the same one where there is none.
-fn lower(
-    memory: &mut [u8],
-    slate: &mut Slate,
-    left: &mut u64,
-    best: Found,
-    jobs: &Jobs,
-    prepared: &Prepared,
-) -> Found
-    requires { (Lowering jobs.now prepared.now best memory.old) × (length slate.old ≡ slate_size) }
+fn lower(memory: &mut [u8], left: &mut u64, best: Found, jobs: &Jobs, prepared: &Prepared) -> Found
+    requires { Lowering jobs.now prepared.now best memory.old }
     ensures lowered { Lowered (sheet_of jobs.now) best result left.new }
     ensures remembered { Remembered (sheet_of jobs.now) memory.new result.end }
-    ensures size { length slate.new ≡ length slate.old }
     ensures limit { Unlimited left.old left.new }
 {
     if best.end == 0 {
         return kept(best);
     }
-    let found = decide(memory, slate, left, best.end - 1, jobs, prepared);
+    let found = decide(memory, left, best.end - 1, jobs, prepared);
     if found.hit {
         return found;
     }
     kept(best)
 }
 
-// An order that ends first of all, or the earliest that was found where the search gave up.
+// An order that ends first of all, or one that the part-plans that are left were used up to find.
 fn lowest(
     memory: &mut [u8],
-    slate: &mut Slate,
     left: &mut u64,
     listed: Found,
     jobs: &Jobs,
     prepared: &Prepared,
 ) -> Found
-    requires { (Lowering jobs.now prepared.now listed memory.old) × (length slate.old ≡ slate_size) }
+    requires { Lowering jobs.now prepared.now listed memory.old }
     ensures lowest { LowestIf (sheet_of jobs.now) result left.new }
     ensures remembered { Remembered (sheet_of jobs.now) memory.new result.end }
-    ensures size { length slate.new ≡ length slate.old }
     ensures limit { Unlimited left.old left.new }
 {
-    let mut best = lower(memory, slate, left, listed, jobs, prepared);
+    let mut best = lower(memory, left, listed, jobs, prepared);
     while best.hit {
-        best = lower(memory, slate, left, best, jobs, prepared);
+        best = lower(memory, left, best, jobs, prepared);
     }
     best
 }
@@ -326,7 +306,6 @@ fn lowest(
 // An order that goes on from this part-plan with job j and ends by the target, or none.
 fn try_place(
     memory: &mut [u8],
-    slate: &mut Slate,
     left: &mut u64,
     part: &Part,
     j: usize,
@@ -334,11 +313,9 @@ fn try_place(
     jobs: &Jobs,
     prepared: &Prepared,
 ) -> Found
-    requires { ((Going jobs.now prepared.now (part_in part.now) target memory.old) × (length slate.old ≡ slate_size))
-        × (j < count_of jobs.now) }
+    requires { (Going jobs.now prepared.now (part_in part.now) target memory.old) × (j < count_of jobs.now) }
     ensures outcome { Outcome (sheet_of jobs.now) target (word_of (part_in part.now) ++ (j ∷ [])) result left.new }
     ensures remembered { Remembered (sheet_of jobs.now) memory.new (suc target) }
-    ensures size { length slate.new ≡ length slate.old }
     ensures limit { Unlimited left.old left.new }
 {
     let start = candidates::start_or_none(jobs, part, j);
@@ -347,34 +324,32 @@ fn try_place(
     }
     let mut child = *part;
     placement::place(&mut child, jobs, j, start);
-    seek(memory, slate, left, &child, target, jobs, prepared)
+    seek(memory, left, &child, target, jobs, prepared)
 }
 
 // An order that ends first, and at the next place has the least job that an order which ends first can have there, unless the search gave
 // up.
 fn settle_place(
     memory: &mut [u8],
-    slate: &mut Slate,
     left: &mut u64,
     part: &Part,
     best: Found,
     jobs: &Jobs,
     prepared: &Prepared,
 ) -> Found
-    requires { ((Going jobs.now prepared.now (part_in part.now) best.end memory.old) × (length slate.old ≡ slate_size))
+    requires { (Going jobs.now prepared.now (part_in part.now) best.end memory.old)
         × ((Placing (sheet_of jobs.now) (word_of (part_in part.now)) best) × ((part_in part.now).placed < count_of jobs.now)) }
     ensures lowest { Lowest (sheet_of jobs.now) result }
     ensures placed { ¬ (left.new ≡ 0) → Placing (sheet_of jobs.now)
         (word_of (part_in part.now) ++ (get_or result.order (part_in part.now).placed 0 ∷ [])) result }
     ensures remembered { Remembered (sheet_of jobs.now) memory.new (suc result.end) }
-    ensures size { length slate.new ≡ length slate.old }
     ensures limit { Unlimited left.old left.new }
 {
     let k = tables::placed(part);
     let stop = counting::index(best.order[k]);
     let mut j: usize = 0;
     while j < stop {
-        let found = try_place(memory, slate, left, part, j, best.end, jobs, prepared);
+        let found = try_place(memory, left, part, j, best.end, jobs, prepared);
         if found.hit {
             return found;
         }
@@ -400,17 +375,15 @@ fn go_on(part: &mut Part, j: usize, jobs: &Jobs)
 // The tie rule's order, from one that ends first, unless the search gave up.
 fn first_order(
     memory: &mut [u8],
-    slate: &mut Slate,
     left: &mut u64,
     least: Found,
     jobs: &Jobs,
     prepared: &Prepared,
 ) -> Found
-    requires { ((Lowest (sheet_of jobs.now) least) × (length slate.old ≡ slate_size))
+    requires { (Lowest (sheet_of jobs.now) least)
         × ((Fit jobs.now) × ((Tabled jobs.now prepared.now) × (Remembered (sheet_of jobs.now) memory.old (suc least.end)))) }
     ensures lowest { Lowest (sheet_of jobs.now) result }
     ensures tied { ¬ (left.new ≡ 0) → TieRuled (sheet_of jobs.now) result }
-    ensures size { length slate.new ≡ length slate.old }
     ensures limit { Unlimited left.old left.new }
 {
     let count = tables::count(jobs);
@@ -418,7 +391,7 @@ fn first_order(
     let mut part = placement::first_part(jobs);
     let mut k: usize = 0;
     while k < count {
-        best = settle_place(memory, slate, left, &part, best, jobs, prepared);
+        best = settle_place(memory, left, &part, best, jobs, prepared);
         if *left == 0 {
             return best;
         }
@@ -430,15 +403,13 @@ fn first_order(
 
 // ---- the questions
 
-// Fills the prepared table, sets the slate, which then goes from question to question, and gives a list plan to begin with.
-fn begin(prepared: &mut Prepared, slate: &mut Slate, jobs: &Jobs) -> Found
+// Fills the prepared table, and gives a list plan to begin with.
+fn begin(prepared: &mut Prepared, jobs: &Jobs) -> Found
     requires { (length prepared.old ≡ prepared_size) × ((Fit jobs.now) × (¬ Circular (sheet_of jobs.now))) }
     ensures listed { OrderOf (sheet_of jobs.now) result }
     ensures tabled { Tabled jobs.now prepared.new }
-    ensures size { length slate.new ≡ length slate.old }
 {
     preparing::prepare(prepared, jobs);
-    fitting::begin(slate, jobs);
     let listed = listing::first_listed(jobs, prepared);
     preparing::put_lanes(prepared, jobs, listed.end);
     listed
@@ -458,30 +429,22 @@ fn first_share(left: u64) -> u64 {
 }
 
 // An order that ends first of all, unless the search gave up, and the prepared table. Where that takes a while, more list plans are tried
-// before the search goes on; the part-plans that were visited by then are not taken off `left`. What the memory held changes nothing.
-fn least_order(
-    memory: &mut [u8],
-    slate: &mut Slate,
-    left: &mut u64,
-    prepared: &mut Prepared,
-    jobs: &Jobs,
-) -> Found
-    requires { ((length prepared.old ≡ prepared_size) × (length slate.old ≡ slate_size))
-        × ((Fit jobs.now) × (¬ Circular (sheet_of jobs.now))) }
+// before the search goes on. What the memory held changes nothing.
+fn least_order(memory: &mut [u8], left: &mut u64, prepared: &mut Prepared, jobs: &Jobs) -> Found
+    requires { (length prepared.old ≡ prepared_size) × ((Fit jobs.now) × (¬ Circular (sheet_of jobs.now))) }
     ensures lowest { LowestIf (sheet_of jobs.now) result left.new }
     ensures tabled { Tabled jobs.now prepared.new }
-    ensures size { length slate.new ≡ length slate.old }
     ensures limit { Unlimited left.old left.new }
 {
     memory::clear(memory);
-    let listed = begin(prepared, slate, jobs);
+    let listed = begin(prepared, jobs);
     let mut few = first_share(*left);
-    let soon = lowest(memory, slate, &mut few, listed, jobs, prepared);
+    let soon = lowest(memory, &mut few, listed, jobs, prepared);
     if few > 0 {
         return soon;
     }
     let better = listing::improved(jobs, soon, MORE_MOVES, 2);
-    lowest(memory, slate, left, better, jobs, prepared)
+    lowest(memory, left, better, jobs, prepared)
 }
 
 // The earliest end of all valid plans. What the memory held changes nothing, and it is left all zero: so too below.
@@ -491,9 +454,8 @@ pub fn earliest(memory: &mut [u8], jobs: &Jobs) -> u16
     ensures cleared { memory.new ≡ replicate (length memory.old) 0 }
 {
     let mut prepared = [0u32; PREPARED_PLACES];
-    let mut slate = [0u16; SLATE_PLACES];
     let mut left = NO_LIMIT;
-    let least = least_order(memory, &mut slate, &mut left, &mut prepared, jobs);
+    let least = least_order(memory, &mut left, &mut prepared, jobs);
     memory::clear(memory);
     least.end
 }
@@ -501,21 +463,19 @@ pub fn earliest(memory: &mut [u8], jobs: &Jobs) -> u16
 // Whether an order ends by the target: this one, or one that the search finds.
 fn some_ends_by(
     memory: &mut [u8],
-    slate: &mut Slate,
     listed: Found,
     target: u16,
     jobs: &Jobs,
     prepared: &Prepared,
 ) -> bool
-    requires { (Lowering jobs.now prepared.now listed memory.old) × (length slate.old ≡ slate_size) }
-    ensures answer { (result ≡ true) ↔ EndsBy (sheet_of jobs.now) target }
-    ensures size { length slate.new ≡ length slate.old }
+    requires { Lowering jobs.now prepared.now listed memory.old }
+    ensures { (result ≡ true) ↔ EndsBy (sheet_of jobs.now) target }
 {
     if listed.end <= target {
         return true;
     }
     let mut left = NO_LIMIT;
-    let found = decide(memory, slate, &mut left, target, jobs, prepared);
+    let found = decide(memory, &mut left, target, jobs, prepared);
     found.hit
 }
 
@@ -527,9 +487,8 @@ pub fn ends_by(memory: &mut [u8], target: u16, jobs: &Jobs) -> bool
 {
     memory::clear(memory);
     let mut prepared = [0u32; PREPARED_PLACES];
-    let mut slate = [0u16; SLATE_PLACES];
-    let listed = begin(&mut prepared, &mut slate, jobs);
-    let ends = some_ends_by(memory, &mut slate, listed, target, jobs, &prepared);
+    let listed = begin(&mut prepared, jobs);
+    let ends = some_ends_by(memory, listed, target, jobs, &prepared);
     memory::clear(memory);
     ends
 }
@@ -541,18 +500,17 @@ pub fn run(memory: &mut [u8], jobs: &Jobs) -> Found
     ensures cleared { memory.new ≡ replicate (length memory.old) 0 }
 {
     let mut prepared = [0u32; PREPARED_PLACES];
-    let mut slate = [0u16; SLATE_PLACES];
     let mut left = NO_LIMIT;
-    let least = least_order(memory, &mut slate, &mut left, &mut prepared, jobs);
+    let least = least_order(memory, &mut left, &mut prepared, jobs);
     memory::clear(memory);
-    let found = first_order(memory, &mut slate, &mut left, least, jobs, &prepared);
+    let found = first_order(memory, &mut left, least, jobs, &prepared);
     memory::clear(memory);
     found
 }
 
 // ---- within a limit
 
-// An order with its end and a minute before which no order ends. Where it is exact, it is the tie rule's, and that minute is its end.
+// An order with its end, a minute before which no order ends, and whether it is the tie rule's.
 #[derive(Drop)]
 pub struct Within {
     pub order: [u8; MOST_JOBS],
@@ -562,45 +520,29 @@ pub struct Within {
 }
 
 // Whether so few part-plans show that no order ends by the target.
-fn refuted(
-    memory: &mut [u8],
-    slate: &mut Slate,
-    few: u64,
-    target: u16,
-    jobs: &Jobs,
-    prepared: &Prepared,
-) -> bool
-    requires { ((Fit jobs.now) × (length slate.old ≡ slate_size)) × ((Tabled jobs.now prepared.now) × (target < no_minute)) }
-    ensures none { result ≡ true → NoneBefore (sheet_of jobs.now) (suc target) }
-    ensures size { length slate.new ≡ length slate.old }
+fn refuted(memory: &mut [u8], few: u64, target: u16, jobs: &Jobs, prepared: &Prepared) -> bool
+    requires { (Fit jobs.now) × ((Tabled jobs.now prepared.now) × (target < no_minute)) }
+    ensures { result ≡ true → NoneBefore (sheet_of jobs.now) (suc target) }
 {
     memory::clear(memory);
     let mut left = few;
-    let found = decide(memory, slate, &mut left, target, jobs, prepared);
+    let found = decide(memory, &mut left, target, jobs, prepared);
     if found.hit {
         return false;
     }
     0 < left
 }
 
-// A minute before which no order ends, at most this end: the last that halving finds, with so few part-plans for each question.
-fn bound_below(
-    memory: &mut [u8],
-    slate: &mut Slate,
-    few: u64,
-    end: u16,
-    jobs: &Jobs,
-    prepared: &Prepared,
-) -> u16
-    requires { ((Fit jobs.now) × (length slate.old ≡ slate_size)) × ((Tabled jobs.now prepared.now) × (end < no_minute)) }
-    ensures none { NoneBefore (sheet_of jobs.now) result }
-    ensures size { length slate.new ≡ length slate.old }
+// A minute up to this end before which no order ends: the last that halving finds, with so few part-plans for each question.
+fn bound_below(memory: &mut [u8], few: u64, end: u16, jobs: &Jobs, prepared: &Prepared) -> u16
+    requires { (Fit jobs.now) × ((Tabled jobs.now prepared.now) × (end < no_minute)) }
+    ensures { NoneBefore (sheet_of jobs.now) result }
 {
     let mut low: u16 = 0;
     let mut high = end;
     while low < high {
         let middle = low + (high - low) / 2;
-        if refuted(memory, slate, few, middle, jobs, prepared) {
+        if refuted(memory, few, middle, jobs, prepared) {
             low = middle + 1;
         } else {
             high = middle;
@@ -609,20 +551,12 @@ fn bound_below(
     low
 }
 
-// The order at which the search for an earlier end gave up, and a bound. Nothing says that it is the tie rule's.
-fn bounded(
-    memory: &mut [u8],
-    slate: &mut Slate,
-    few: u64,
-    best: Found,
-    jobs: &Jobs,
-    prepared: &Prepared,
-) -> Within
-    requires { ((Fit jobs.now) × (length slate.old ≡ slate_size)) × ((Tabled jobs.now prepared.now) × (OrderOf (sheet_of jobs.now) best)) }
-    ensures answer { WithinLimit (sheet_of jobs.now) result }
-    ensures size { length slate.new ≡ length slate.old }
+// An order that the search gave up to lower, and a bound.
+fn bounded(memory: &mut [u8], few: u64, best: Found, jobs: &Jobs, prepared: &Prepared) -> Within
+    requires { (Fit jobs.now) × ((Tabled jobs.now prepared.now) × (OrderOf (sheet_of jobs.now) best)) }
+    ensures { WithinLimit (sheet_of jobs.now) result }
 {
-    let bound = bound_below(memory, slate, few, best.end, jobs, prepared);
+    let bound = bound_below(memory, few, best.end, jobs, prepared);
     let order = best.order;
     Within {
         order,
@@ -632,22 +566,20 @@ fn bounded(
     }
 }
 
-// The tie rule's order, from one that ends first; where the search gave up, some order that ends first. Its end is the bound either way.
+// The tie rule's order from one that ends first, or that one where the search gave up.
 fn settled(
     memory: &mut [u8],
-    slate: &mut Slate,
     left: &mut u64,
     least: Found,
     jobs: &Jobs,
     prepared: &Prepared,
 ) -> Within
-    requires { ((Lowest (sheet_of jobs.now) least) × (length slate.old ≡ slate_size)) × ((Fit jobs.now) × (Tabled jobs.now prepared.now)) }
+    requires { (Lowest (sheet_of jobs.now) least) × ((Fit jobs.now) × (Tabled jobs.now prepared.now)) }
     ensures answer { WithinLimit (sheet_of jobs.now) result }
-    ensures size { length slate.new ≡ length slate.old }
     ensures unlimited { left.old ≡ no_limit → result.exact ≡ true }
 {
     memory::clear(memory);
-    let found = first_order(memory, slate, left, least, jobs, prepared);
+    let found = first_order(memory, left, least, jobs, prepared);
     let order = found.order;
     Within {
         order,
@@ -662,8 +594,7 @@ const BOUND_SHARE: u64 = 16;
 
 const LEAST_BOUND: u64 = 1000;
 
-// The tie rule's order, with its end as the bound; or after so many part-plans an order and a minute before which none ends. Without a
-// limit, the tie rule's order.
+// The tie rule's order, or after so many part-plans an order and a minute before which none ends. Without a limit, the tie rule's order.
 pub fn run_within(memory: &mut [u8], limit: u64, jobs: &Jobs) -> Within
     requires { (Fit jobs.now) × (¬ Circular (sheet_of jobs.now)) }
     ensures answer { WithinLimit (sheet_of jobs.now) result }
@@ -671,16 +602,15 @@ pub fn run_within(memory: &mut [u8], limit: u64, jobs: &Jobs) -> Within
     ensures cleared { memory.new ≡ replicate (length memory.old) 0 }
 {
     let mut prepared = [0u32; PREPARED_PLACES];
-    let mut slate = [0u16; SLATE_PLACES];
     let mut left = limit;
-    let least = least_order(memory, &mut slate, &mut left, &mut prepared, jobs);
+    let least = least_order(memory, &mut left, &mut prepared, jobs);
     if left == 0 {
         let few = limit / BOUND_SHARE + LEAST_BOUND;
-        let given_up = bounded(memory, &mut slate, few, least, jobs, &prepared);
+        let given_up = bounded(memory, few, least, jobs, &prepared);
         memory::clear(memory);
         return given_up;
     }
-    let answer = settled(memory, &mut slate, &mut left, least, jobs, &prepared);
+    let answer = settled(memory, &mut left, least, jobs, &prepared);
     memory::clear(memory);
     answer
 }

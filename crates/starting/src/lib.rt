@@ -1,5 +1,7 @@
 // Of the jobs that may come next: one that starts first and can run beside no other, and those that start before one can have ended and
 // rested.
+#![tactic(auto)]
+
 ghost use Rattle.std.specs.Prelude.{◌≡◌, true, cond, ◌+◌, ◌<◌, ◌≤◌, min, ltb, get_or};
 ghost use Rattle.figures.specs.Figures.{most_jobs};
 ghost use Rattle.bits.specs.Bits.{with_bit};

@@ -1,5 +1,5 @@
 -- Two sums of the minutes for which some of the jobs keep their modules, and the times at which a plan can end.
-use Rattle.std.specs.Prelude.{◌≡◌, Bool, true, List, ℕ, ◌+◌, ◌-◌, ◌*◌, ◌≤◌, ◌<◌, leb, get_or}
+use Rattle.std.specs.Prelude.{◌≡◌, Bool, List, ℕ, ◌+◌, ◌-◌, ◌≤◌, ◌<◌, leb, get_or}
 use Rattle.std.specs.Int.{◌∣◌}
 use Rattle.counting.specs.Counting.{only, largest}
 use Rattle.schedule.specs.ListPlan.{Order}

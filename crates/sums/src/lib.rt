@@ -1,4 +1,6 @@
 // What the sums of the minutes for which jobs keep their modules say: the times at which a plan can end, and the bound by modules.
+#![tactic(auto)]
+
 ghost use Rattle.std.specs.Prelude.{◌≡◌, true, ◌+◌, ◌-◌, ◌*◌, ◌<◌, ◌≤◌, leb, length};
 ghost use Rattle.std.specs.Int.{◌∣◌};
 ghost use Rattle.counting.specs.Counting.{only};

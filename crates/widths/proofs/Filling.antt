@@ -1,14 +1,13 @@
 -- The free modules that a sum of widths fills.
-use mathlib.Core.Path.{◌≡◌, refl, sym}
+use mathlib.Core.Path.{◌≡◌, refl}
 use mathlib.Core.Logic.{◌⊎◌, inl, inr}
-use mathlib.Core.Bool.{Bool, true, false, cond}
+use mathlib.Core.Bool.{Bool, true, false}
 use mathlib.Core.List.{List}
 use Prim.Native.Nat.{ℕ, suc, ◌-◌, ◌≤◌, ◌<◌}
 use native.Mathlib.Omega.{arith}
 use native.Mathlib.Nat.{le_antisymm}
-use lib.Dec.{ltb}
 use borrow.Author.Tests.{lt-ltb, le-ltb}
-use Rattle.counting.specs.Counting.{only, sum, largest}
+use Rattle.counting.specs.Counting.{only, largest}
 use Rattle.counting.proofs.Tests.{true-or-false, less-or-not}
 use Rattle.counting.proofs.Ranges.{le-largest, largest-le}
 use Rattle.bits.specs.Bits.{bit}

@@ -1,4 +1,6 @@
 // Which sums the widths of some of the jobs that are left have, and how many of the free modules such jobs can fill.
+#![tactic(auto)]
+
 ghost use Rattle.std.specs.Prelude.{◌≡◌, true, ℕ, ◌+◌, ◌<◌};
 ghost use Rattle.bits.specs.Bits.{bit};
 ghost use Rattle.tables.specs.Tables.{Fit};

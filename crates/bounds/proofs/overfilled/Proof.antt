@@ -4,7 +4,7 @@ use mathlib.Core.Bool.{false}
 use Prim.Native.Nat.{ℕ}
 use Rattle.counting.proofs.Tests.{clash}
 use Rattle.tables.specs.Part.{part_in}
-use Rattle.fitting.specs.Fitting.{OverfullAt}
+use Rattle.fitting.specs.Fitting.{release_at, OverfullFrom}
 use Rattle.bounds.proofs.Closing.{closes}
 use borrow.Author.Rules.{rules}
 use Rattle.bounds.proofs.overfilled.Statement.{statement}
@@ -29,7 +29,7 @@ returns-2 c =
     let else1 = c.before.before.before in
     let a = else1.before.before.args in
     let e = closes a.target a.jobs.now else1.before.closing.ensures else1.if1.false in (
-      λ y. subst (λ (C : ℕ). OverfullAt a.jobs.now (part_in a.part.now) a.at.now a.least C) e
+      λ y. subst (λ (C : ℕ). OverfullFrom a.jobs.now (part_in a.part.now) (release_at a.at.now a.least) a.least C) e
           (c.overfull.ensures.0 y),
       c.overfull.ensures.1,
     )

@@ -62,7 +62,7 @@ returns c =
         },
         le_trans (mul-le-mul_right (a.count + 1) few) (div-mul-le_self cells (a.count + 1)),
       ),
-      (refl, refl, refl),
+      (refl, refl),
     )
 
 pub frame-of-spec : {M : Type 1} → statement M

@@ -46,7 +46,7 @@ returns c =
     let fill = c.before.before.before.before.before.before.fill-rows.ensures.0 in
     let beside = past.before.before.values_of.ensures.1 in
     let set = past.before.before.before.before.unplaced.ensures in (
-      (λ e. overfull_by pre.framed fill.1 part pre.all pre.released (λ k b. beside k (ap (λ (x : ℕ). bit x k) set ∙ b)) pre.widths
+      (λ e. overfull_by pre.framed fill.1 part pre.all pre.released (λ k b. beside k (ap (λ (x : ℕ). bit x k) set ∙ b))
           (omega (arith, c.gap_of.ensures e, c.before.before.before.before.served.ensures.0, c.before.worth-of.ensures))),
       c.before.before.before.before.before.before.fill-rows.ensures.1,
     )

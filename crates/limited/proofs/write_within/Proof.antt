@@ -1,6 +1,5 @@
 -- `limited::write_within` meets its contract.
-use mathlib.Core.Path.{sym}
-use native.Mathlib.Omega.{arith}
+use mathlib.Core.Path.{sym, ◌∙◌}
 use Rattle.limited.proofs.Answers.{within-written}
 use borrow.Author.Rules.{rules}
 use Rattle.limited.proofs.write_within.Statement.{statement}
@@ -28,8 +27,7 @@ returns : tie.Need-returns
 returns c =
     let past = c.before.before.before.before.before.before.before.before in
     let best = past.before.run-within in
-    let answer = best.ensures.0 in
-    (rw c.mark.ensures (within-written best.result answer (λ o d. omega (arith, answer.bound o d)) (λ e. omega (arith, answer.met e)) best.ensures.1.0 c.before.before.before.write-plan.ensures), best.ensures.1.1)
+    (rw c.mark.ensures (within-written best.result best.ensures.0 best.ensures.1.0 c.before.before.before.write-plan.ensures), best.ensures.1.1)
 
 pub write-within-spec : {M : Type 1} → statement M
 write-within-spec =

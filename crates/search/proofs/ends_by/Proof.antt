@@ -5,7 +5,6 @@ use lib.ListN.{length, replicate, length-replicate}
 use Rattle.tables.specs.Tables.{sheet_of}
 use Rattle.search.proofs.Recalls.{remembered-none}
 use Rattle.tables.specs.Prepared.{prepared_size}
-use Rattle.fitting.specs.Fitting.{slate_size}
 use borrow.Author.Rules.{rules}
 use Rattle.search.proofs.ends_by.Statement.{statement}
 use Rattle.search.proofs.ends_by.Tie as tie
@@ -14,35 +13,33 @@ clear-requires : tie.Need-clear-requires
 clear-requires c κs = search rules
 
 begin-requires : tie.Need-begin-requires
-begin-requires c κs = (length-replicate {A = ℕ} prepared_size 0, c.before.before.before.before.before.before.before.requires)
+begin-requires c κs = (length-replicate {A = ℕ} prepared_size 0, c.before.before.before.before.before.before.requires)
 
 some-ends-by-requires : tie.Need-some-ends-by-requires
 some-ends-by-requires c κs =
-    let past = c.before.before.before.before.before.before.before.before in
-    let begin = c.before.before.before.begin in
-    let a = past.before.before.before.args in (
-      record {
-        fit = past.before.before.before.requires.0;
-        tabled = begin.ensures.1.0;
-        best_is = begin.ensures.0;
-        remembered = remembered-none (sheet_of a.jobs.now) _ (length a.memory.now) begin.result.end c.before.before.before.before.before.before.before.before.clear.ensures;
-      },
-      begin.ensures.1.1 ∙ length-replicate {A = ℕ} slate_size 0,
-    )
+    let cleared = c.before.before.before.before.before.before in
+    let begin = c.before.before.begin in
+    let a = cleared.before.before.before.args in
+    record {
+      fit = cleared.before.before.before.requires.0;
+      tabled = begin.ensures.1;
+      best_is = begin.ensures.0;
+      remembered = remembered-none (sheet_of a.jobs.now) _ (length a.memory.now) begin.result.end cleared.clear.ensures;
+    }
 
 clear-requires-2 : tie.Need-clear-requires-2
 clear-requires-2 c κs = search rules
 
 same_length : tie.Need-same-length
 same_length c =
-    let past = c.before.before.before.before.before.before.before.before in
-    c.before.before.clear2.auto.0 ∙ c.before.before.before.before.before.before.some-ends-by.auto.0 ∙ past.before.before.before.before.before.before.before.clear.auto.0
+    let asked = c.before.before.before.before.before.before in
+    c.before.before.clear2.auto.0 ∙ asked.some-ends-by.auto.0 ∙ asked.before.before.before.before.before.before.before.clear.auto.0
 
 returns : tie.Need-returns
 returns c =
-    let past = c.before.before.before.before.before.before.before.before in
-    let size = c.before.before.before.before.before.before.some-ends-by.auto.0 ∙ past.before.before.before.before.before.before.before.clear.auto.0 in
-    (c.before.before.before.before.before.before.some-ends-by.ensures.0, c.before.before.clear2.ensures ∙ ap (λ (k : ℕ). replicate k 0) size)
+    let asked = c.before.before.before.before.before.before in
+    let size = asked.some-ends-by.auto.0 ∙ asked.before.before.before.before.before.before.before.clear.auto.0 in
+    (asked.some-ends-by.ensures, c.before.before.clear2.ensures ∙ ap (λ (k : ℕ). replicate k 0) size)
 
 pub ends-by-spec : {M : Type 1} → statement M
 ends-by-spec =

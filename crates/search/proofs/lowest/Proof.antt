@@ -9,34 +9,31 @@ use Rattle.search.proofs.lowest.Statement.{statement}
 use Rattle.search.proofs.lowest.Tie as tie
 
 abbrev invariant-loop : tie.invariant-loop
-invariant-loop memory₀ slate₀ left₀ jobs prepared best₀ memory slate left best = Turn jobs prepared best memory left
-    × ((length memory ≡ length memory₀) × ((length slate ≡ length slate₀) × Unlimited left₀ left))
+invariant-loop memory₀ left₀ jobs prepared best₀ memory left best =
+    Turn jobs prepared best memory left × ((length memory ≡ length memory₀) × Unlimited left₀ left)
 
 abbrev decreases-loop : tie.decreases-loop
-decreases-loop memory₀ slate₀ left₀ jobs prepared best₀ memory slate left best = best.end + only best.hit 1
+decreases-loop memory₀ left₀ jobs prepared best₀ memory left best = best.end + only best.hit 1
 
 lower-requires : tie.Need-lower-requires invariant-loop decreases-loop
-lower-requires c κs = c.before.before.before.before.requires
+lower-requires c κs = c.before.before.before.requires
 
 loop-holds : tie.Need-loop-init invariant-loop decreases-loop
 loop-holds c =
     let lower = c.before.before.lower in
-    (turn_next _ c.before.before.before.before.before.before.before.requires.0 lower.ensures.0 lower.ensures.1.0, (refl, (refl, λ e. e)))
+    (turn_next _ c.before.before.before.before.before.before.requires lower.ensures.0 lower.ensures.1.0, (refl, λ e. e))
 
 lower-requires-2 : tie.Need-lower-requires-2 invariant-loop decreases-loop
-lower-requires-2 c κs =
-    let past = c.before.before.before.before.before.before.before.before in
-    let inv = c.before.before.before.before.loop.invariant in
-    (inv.0.state, inv.1.1.0 ∙ c.before.before.before.before.before.before.before.lower.ensures.1.1.0 ∙ past.before.before.before.before.requires.1)
+lower-requires-2 c κs = c.before.before.before.loop.invariant.0.state
 
 loop-less : tie.Need-loop-smaller invariant-loop decreases-loop
-loop-less c = turn_less c.before.before.lower2.ensures.0 c.before.before.before.before.before.before.loop-test.true
+loop-less c = turn_less c.before.before.lower2.ensures.0 c.before.before.before.before.before.loop-test.true
 
 loop-again : tie.Need-loop-preserved invariant-loop decreases-loop
 loop-again c =
-    let loop = c.before.before.before.before.before.before.before.loop in
+    let loop = c.before.before.before.before.before.before.loop in
     let lower = c.before.before.lower2 in
-    (turn_next _ loop.invariant.0.state lower.ensures.0 lower.ensures.1.0, (lower.auto.0 ∙ loop.invariant.1.0, (lower.ensures.1.1.0 ∙ loop.invariant.1.1.0, λ e. lower.ensures.1.1.1 (loop.invariant.1.1.1 e))))
+    (turn_next _ loop.invariant.0.state lower.ensures.0 lower.ensures.1.0, (lower.auto.0 ∙ loop.invariant.1.0, λ e. lower.ensures.1.1 (loop.invariant.1.1 e)))
 
 same_length : tie.Need-same-length invariant-loop decreases-loop
 same_length c = c.before.loop.invariant.1.0 ∙ c.before.before.before.before.lower.auto.0
@@ -44,8 +41,7 @@ same_length c = c.before.loop.invariant.1.0 ∙ c.before.before.before.before.lo
 returns : tie.Need-returns invariant-loop decreases-loop
 returns c =
     let inv = c.before.loop.invariant in
-    let lower = c.before.before.before.before.lower.ensures.1.1 in
-    (turn_last inv.0 c.loop-test.false, (inv.0.state.remembered, (inv.1.1.0 ∙ lower.0, λ e. inv.1.1.1 (lower.1 e))))
+    (turn_last inv.0 c.loop-test.false, (inv.0.state.remembered, λ e. inv.1.1 (c.before.before.before.before.lower.ensures.1.1 e)))
 
 pub lowest-spec : {M : Type 1} → statement M
 lowest-spec =

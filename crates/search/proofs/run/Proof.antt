@@ -6,13 +6,12 @@ use Rattle.tables.specs.Tables.{sheet_of}
 use Rattle.search.proofs.Recalls.{remembered-none}
 use Rattle.search.proofs.Whole.{goes_on, lowest_of}
 use Rattle.tables.specs.Prepared.{prepared_size}
-use Rattle.fitting.specs.Fitting.{slate_size}
 use borrow.Author.Rules.{rules}
 use Rattle.search.proofs.run.Statement.{statement}
 use Rattle.search.proofs.run.Tie as tie
 
 least-order-requires : tie.Need-least-order-requires
-least-order-requires c κs = ((length-replicate {A = ℕ} prepared_size 0, length-replicate {A = ℕ} slate_size 0), c.before.before.before.before.before.requires)
+least-order-requires c κs = (length-replicate {A = ℕ} prepared_size 0, c.before.before.before.before.requires)
 
 clear-requires : tie.Need-clear-requires
 clear-requires c κs = search rules
@@ -20,10 +19,10 @@ clear-requires c κs = search rules
 first-order-requires : tie.Need-first-order-requires
 first-order-requires c κs =
     let past = c.before.before.before.before.before.before.before.before in
-    let least = past.before.before.least-order in
-    let pre = past.before.before.before.before.before.before.before.before.requires in
-    let none = remembered-none (sheet_of past.before.before.before.before.before.before.before.before.args.jobs.now) _ (length least.new.0) (suc least.result.end) c.before.before.before.before.before.before.clear.ensures in
-    ((lowest_of least.ensures.0 (goes_on (least.ensures.1.1.1 refl)), least.ensures.1.1.0 ∙ length-replicate {A = ℕ} slate_size 0), (pre.0, (least.ensures.1.0, none)))
+    let least = past.before.least-order in
+    let pre = past.before.before.before.before.before.before.requires in
+    let none = remembered-none (sheet_of past.before.before.before.before.before.before.args.jobs.now) _ (length least.new.0) (suc least.result.end) c.before.before.before.before.before.clear.ensures in
+    (lowest_of least.ensures.0 (goes_on (least.ensures.1.1 refl)), (pre.0, (least.ensures.1.0, none)))
 
 clear-requires-2 : tie.Need-clear-requires-2
 clear-requires-2 c κs = search rules
@@ -32,14 +31,14 @@ same_length : tie.Need-same-length
 same_length c =
     let past = c.before.before.before.before.before.before.before.before in
     let far = past.before.before.before.before.before.before.before.before in
-    c.before.before.clear2.auto.0 ∙ c.before.before.before.before.before.before.first-order.auto.0 ∙ past.before.before.before.before.before.clear.auto.0 ∙ far.before.least-order.auto.0
+    c.before.before.clear2.auto.0 ∙ c.before.before.before.before.before.before.first-order.auto.0 ∙ past.before.before.before.before.clear.auto.0 ∙ far.least-order.auto.0
 
 returns : tie.Need-returns
 returns c =
     let past = c.before.before.before.before.before.before.before.before in
     let far = past.before.before.before.before.before.before.before.before in
-    let size = c.before.before.before.before.before.before.first-order.auto.0 ∙ past.before.before.before.before.before.clear.auto.0 ∙ far.before.least-order.auto.0 in
-    let goes = goes_on (c.before.before.before.before.before.before.first-order.ensures.1.1.1 (far.before.least-order.ensures.1.1.1 refl)) in
+    let size = c.before.before.before.before.before.before.first-order.auto.0 ∙ past.before.before.before.before.clear.auto.0 ∙ far.least-order.auto.0 in
+    let goes = goes_on (c.before.before.before.before.before.before.first-order.ensures.1.1 (far.least-order.ensures.1.1 refl)) in
     (c.before.before.before.before.before.before.first-order.ensures.1.0 goes, c.before.before.clear2.ensures ∙ ap (λ (k : ℕ). replicate k 0) size)
 
 pub run_spec : {M : Type 1} → statement M

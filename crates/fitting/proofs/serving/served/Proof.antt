@@ -7,7 +7,6 @@ use Rattle.tables.specs.Part.{part_in}
 use Rattle.weights.proofs.Walks.{Walk, walk_start, walk_fits, walk_step}
 use Rattle.lanes.specs.Lanes.{Serving}
 use Rattle.lanes.proofs.Laws.{Served, serve_start, serve-step, serve-done, serve_low, serve_all_low, reach_falls}
-use Rattle.widths.specs.Widths.{filled_of}
 use Rattle.fitting.specs.Fitting.{cells, row_at, reach_by, Framed}
 use borrow.Author.Rules.{rules}
 use Rattle.fitting.proofs.serving.served.Statement.{statement}
@@ -16,7 +15,7 @@ use Rattle.fitting.proofs.serving.served.Tie as tie
 abbrev invariant-loop : tie.invariant-loop
 invariant-loop slate base frame jobs part gone free placed total₀ at₀ reach₀ f₀ i₀ total at reach f i =
     ((placed ≡ (part_in part).placed) × ((Framed frame × (base + frame.cols ≤ cells)) × (frame.least ≤ at)))
-    × ((s : Serving (filled_of frame.sums) (reach_by frame (row_at slate base)) (part_in part) gone free (modules_of jobs) frame.least frame.close)
+    × ((s : Serving (λ x. x) (reach_by frame (row_at slate base)) (part_in part) gone free (modules_of jobs) frame.least frame.close)
     × (Walk (part_in part) (modules_of jobs) frame.close at f i × Served s total at reach))
 
 abbrev decreases-loop : tie.decreases-loop
@@ -46,46 +45,41 @@ reach-from-requires-2 c κs =
     let inv = c.before.before.before.loop.invariant in
     (inv.0.1.0, (omega (arith, c.next-end.ensures, inv.0.1.1), omega (arith, c.next-end.ensures, inv.1.1.0.before)))
 
-filled-requires : tie.Need-filled-requires invariant-loop decreases-loop
-filled-requires c κs = search rules
-
 wide-requires : tie.Need-wide-requires invariant-loop decreases-loop
 wide-requires c κs = search rules
 
 sub-total : tie.Need-overflow-sub-total invariant-loop decreases-loop
 sub-total c =
-    let inv = c.before.before.before.before.before.before.loop.invariant.1 in
-    let to = c.before.before.before.next-end in
-    omega (arith, c.before.before.reach-from2.ensures, reach_falls inv.0 inv.1.0 inv.1.1 to.result (omega (arith, to.ensures)))
+    let inv = c.before.before.before.before.before.loop.invariant.1 in
+    let to = c.before.before.next-end in
+    omega (arith, c.before.reach-from2.ensures, reach_falls inv.0 inv.1.0 inv.1.1 to.result (omega (arith, to.ensures)))
 
 mul-total : tie.Need-overflow-mul-total invariant-loop decreases-loop
 mul-total c =
-    let inv = c.before.before.before.before.before.before.loop.invariant.1 in
-    let to = c.before.before.before.next-end in
-    let next = c.before.before.reach-from2 in
+    let inv = c.before.before.before.before.before.loop.invariant.1 in
+    let to = c.before.before.next-end in
+    let next = c.before.reach-from2 in
     let falls = reach_falls inv.0 inv.1.0 inv.1.1 to.result (omega (arith, to.ensures)) in
     let low = serve_low inv.0 inv.1.0 inv.1.1 next.result (omega (arith, next.ensures, falls)) in
-    rw (c.wide.ensures, c.before.filled.ensures) (record { fits = omega (arith, low) })
+    rw c.wide.ensures (record { fits = omega (arith, low) })
 
 add_total : tie.Need-overflow-add-total invariant-loop decreases-loop
 add_total c =
-    let inv = c.before.before.before.before.before.before.loop.invariant.1 in
-    let to = c.before.before.before.next-end in
-    let next = c.before.before.reach-from2 in
+    let inv = c.before.before.before.before.before.loop.invariant.1 in
+    let to = c.before.before.next-end in
+    let next = c.before.reach-from2 in
     let falls = reach_falls inv.0 inv.1.0 inv.1.1 to.result (omega (arith, to.ensures)) in
     let low = serve_low inv.0 inv.1.0 inv.1.1 next.result (omega (arith, next.ensures, falls)) in
-    rw (c.wide.ensures, c.before.filled.ensures) (record { fits = omega (arith, low) })
+    rw c.wide.ensures (record { fits = omega (arith, low) })
 
 held-requires : tie.Need-held-requires invariant-loop decreases-loop
 held-requires c κs =
-    let test = c.before.before.before.before.before in
-    omega (arith, test.before.loop.invariant.0.0, test.before.loop.invariant.1.1.0.few, test.loop-test.true)
+    omega (arith, c.before.before.before.before.before.loop.invariant.0.0, c.before.before.before.before.before.loop.invariant.1.1.0.few, c.before.before.before.before.loop-test.true)
 
 add-f : tie.Need-overflow-add-f invariant-loop decreases-loop
 add-f c =
-    let test = c.before.before.before.before.before.before in
-    let inv = test.before.loop.invariant in
-    record { fits = omega (arith, c.held.ensures, walk_fits inv.1.1.0 (omega (arith, inv.0.0, test.loop-test.true))) }
+    let inv = c.before.before.before.before.before.before.loop.invariant in
+    record { fits = omega (arith, c.held.ensures, walk_fits inv.1.1.0 (omega (arith, inv.0.0, c.before.before.before.before.before.loop-test.true))) }
 
 add-i : tie.Need-overflow-add-i invariant-loop decreases-loop
 add-i c = search rules
@@ -95,43 +89,38 @@ loop-less c = search rules
 
 loop-again : tie.Need-loop-preserved invariant-loop decreases-loop
 loop-again c =
-    let end = c.before.before.before.before in
-    let test = end.before.before in
-    let loop = test.before.loop in
-    let args = test.before.before.before.before.args in
+    let past = c.before.before.before.before.before.before.before.before in
+    let loop = c.before.before.before.before.before.before.loop in
     let inv = loop.invariant in
     let s = inv.1.0 in
     let walk = inv.1.1.0 in
-    let next = c.before.before.before.reach-from2 in
-    let to = end.next-end.ensures ∙ ap (λ (x : ℕ). max loop.at (min x args.frame.close)) end.before.until.ensures in
-    let step = serve-step s walk inv.1.1.1 end.next-end.result next.result to next.ensures in
-    let on = walk_step walk (omega (arith, inv.0.0, test.loop-test.true)) in (
-      (inv.0.0, (inv.0.1.0, omega (arith, end.next-end.ensures, inv.0.1.1))),
-      (s, (rw (to, c.held.ensures) on, rw (c.before.wide.ensures, c.before.before.filled.ensures) step)),
+    let next = c.before.before.reach-from2 in
+    let to = c.before.before.before.next-end.ensures ∙ ap (λ (x : ℕ). max loop.at (min x past.before.args.frame.close)) c.before.before.before.before.until.ensures in
+    let step = serve-step s walk inv.1.1.1 c.before.before.before.next-end.result next.result to next.ensures in
+    let on = walk_step walk (omega (arith, inv.0.0, c.before.before.before.before.before.loop-test.true)) in (
+      (inv.0.0, (inv.0.1.0, omega (arith, c.before.before.before.next-end.ensures, inv.0.1.1))),
+      (s, (rw (to, c.held.ensures) on, rw c.before.wide.ensures step)),
     )
-
-filled-requires-2 : tie.Need-filled-requires-2 invariant-loop decreases-loop
-filled-requires-2 c κs = search rules
 
 wide-requires-2 : tie.Need-wide-requires-2 invariant-loop decreases-loop
 wide-requires-2 c κs = search rules
 
 mul-result : tie.Need-overflow-mul-result invariant-loop decreases-loop
 mul-result c =
-    let inv = c.before.before.before.loop.invariant.1 in
-    rw (c.wide2.ensures, c.before.filled2.ensures) (record { fits = omega (arith, serve_all_low inv.0 inv.1.0 inv.1.1) })
+    let inv = c.before.before.loop.invariant.1 in
+    rw c.wide2.ensures (record { fits = omega (arith, serve_all_low inv.0 inv.1.0 inv.1.1) })
 
 add-result : tie.Need-overflow-add-result invariant-loop decreases-loop
 add-result c =
-    let inv = c.before.before.before.loop.invariant.1 in
-    rw (c.wide2.ensures, c.before.filled2.ensures) (record { fits = omega (arith, serve_all_low inv.0 inv.1.0 inv.1.1) })
+    let inv = c.before.before.loop.invariant.1 in
+    rw c.wide2.ensures (record { fits = omega (arith, serve_all_low inv.0 inv.1.0 inv.1.1) })
 
 returns : tie.Need-returns invariant-loop decreases-loop
 returns c =
-    let loop = c.before.before.before.loop in
+    let loop = c.before.before.loop in
     let inv = loop.invariant.1 in
-    rw (c.wide2.ensures, c.before.filled2.ensures)
-    (serve-done inv.0 inv.1.0 inv.1.1 (omega (arith, loop.invariant.0.0, c.before.before.loop-test.false)), serve_all_low inv.0 inv.1.0 inv.1.1)
+    rw c.wide2.ensures
+    (serve-done inv.0 inv.1.0 inv.1.1 (omega (arith, loop.invariant.0.0, c.before.loop-test.false)), serve_all_low inv.0 inv.1.0 inv.1.1)
 
 pub served-spec : {M : Type 1} → statement M
 served-spec =
@@ -145,7 +134,6 @@ served-spec =
     until-requires
     next-end-requires
     reach-from-requires-2
-    filled-requires
     wide-requires
     sub-total
     mul-total
@@ -155,7 +143,6 @@ served-spec =
     add-i
     loop-less
     loop-again
-    filled-requires-2
     wide-requires-2
     mul-result
     add-result

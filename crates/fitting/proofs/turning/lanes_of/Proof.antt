@@ -8,41 +8,26 @@ use Rattle.fitting.proofs.turning.lanes_of.Statement.{statement}
 use Rattle.fitting.proofs.turning.lanes_of.Tie as tie
 
 abbrev invariant-loop : tie.invariant-loop
-invariant-loop slate jobs part frame order count release gone free placed opened₀ lanes₀ f₀ i₀ opened lanes f i = placed ≡ (part_in part).placed
+invariant-loop slate jobs part frame order count release gone free placed lanes₀ i₀ lanes i = placed ≡ (part_in part).placed
 
 abbrev decreases-loop : tie.decreases-loop
-decreases-loop slate jobs part frame order count release gone free placed opened₀ lanes₀ f₀ i₀ opened lanes f i = placed - i
+decreases-loop slate jobs part frame order count release gone free placed lanes₀ i₀ lanes i = placed - i
 
 placed-requires : tie.Need-placed-requires invariant-loop decreases-loop
 placed-requires c κs = search rules
-
-filled-requires : tie.Need-filled-requires invariant-loop decreases-loop
-filled-requires c κs = search rules
 
 traced-requires : tie.Need-traced-requires invariant-loop decreases-loop
 traced-requires c κs = search rules
 
 loop-holds : tie.Need-loop-init invariant-loop decreases-loop
-loop-holds c = c.before.before.placed.ensures
+loop-holds c = c.before.placed.ensures
 
 until-requires : tie.Need-until-requires invariant-loop decreases-loop
-until-requires c κs =
-    let loop = c.before in
-    omega (arith, loop.before.before.before.before.requires.1, loop.loop.invariant, c.loop-test.true)
+until-requires c κs = omega (arith, c.before.before.before.before.requires.1, c.before.loop.invariant, c.loop-test.true)
 
 held-requires : tie.Need-held-requires invariant-loop decreases-loop
 held-requires c κs =
-    let loop = c.before.before in
-    omega (arith, loop.before.before.before.before.requires.1, loop.loop.invariant, c.before.loop-test.true)
-
-more-lanes-requires : tie.Need-more-lanes-requires invariant-loop decreases-loop
-more-lanes-requires c κs = search rules
-
-filled-requires-2 : tie.Need-filled-requires-2 invariant-loop decreases-loop
-filled-requires-2 c κs = search rules
-
-difference-requires : tie.Need-difference-requires invariant-loop decreases-loop
-difference-requires c κs = search rules
+    omega (arith, c.before.before.before.before.before.requires.1, c.before.before.loop.invariant, c.before.loop-test.true)
 
 traced-requires-2 : tie.Need-traced-requires-2 invariant-loop decreases-loop
 traced-requires-2 c κs = search rules
@@ -66,14 +51,10 @@ lanes-of-spec =
     invariant-loop
     decreases-loop
     placed-requires
-    filled-requires
     traced-requires
     loop-holds
     until-requires
     held-requires
-    more-lanes-requires
-    filled-requires-2
-    difference-requires
     traced-requires-2
     add-i
     loop-less
