@@ -1,12 +1,12 @@
 -- Jobs that arrive too late cut a part-plan: no order that goes on from it ends by the target.
-use mathlib.Core.Path.{◌≡◌, refl, ap, ◌∙◌}
+use mathlib.Core.Path.{◌≡◌, refl, ap}
 use mathlib.Core.Logic.{◌⊎◌, inl, inr}
 use mathlib.Core.Bool.{Bool, true, false, not, cond}
 use mathlib.Core.List.{List}
-use Prim.Native.Nat.{ℕ, suc, ◌+◌, ◌-◌, ◌*◌, ◌≤◌, ◌<◌, max}
+use Prim.Native.Nat.{ℕ, suc, ◌+◌, ◌-◌, ◌*◌, ◌<◌, max}
 use native.Mathlib.Omega.{arith}
 use native.Mathlib.Nat.{le_of_eq}
-use Rattle.counting.specs.Counting.{only, sum}
+use Rattle.counting.specs.Counting.{only}
 use Rattle.counting.proofs.Tests.{true-or-false}
 use Rattle.counting.proofs.Sums.{sum_same, sum-add}
 use Rattle.bits.specs.Bits.{bit}
@@ -20,7 +20,6 @@ use Rattle.schedule.proofs.Bounds.{head_cut, late_cut}
 use Rattle.tables.specs.Tables.{sheet_of, count_of, changeover_of}
 use Rattle.tables.specs.Part.{Part, word_of}
 use Rattle.tables.specs.Prepared.{tails_in, heads_in}
-use Rattle.placement.specs.Profile.{held_since}
 use Rattle.placement.specs.Part.{Figures}
 use Rattle.placement.proofs.Parts.{after_is}
 use Rattle.relations.specs.Relations.{ChainsOf}

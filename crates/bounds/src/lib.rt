@@ -1,4 +1,6 @@
 // Whether no order that goes on from a part-plan can end by a target.
+#![tactic(auto)]
+
 ghost use Rattle.std.specs.Prelude.{◌≡◌, true, ℕ, ◌+◌, ◌<◌, ◌≤◌, length, get_or};
 ghost use Rattle.figures.specs.Figures.{most_jobs, no_minute};
 ghost use Rattle.tables.specs.Tables.{modules_of, count_of, changeover_of, Fit};

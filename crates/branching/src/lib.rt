@@ -1,4 +1,6 @@
 // Which of the jobs that may come next need not be tried, and which are to be tried.
+#![tactic(auto)]
+
 ghost use Rattle.std.specs.Prelude.{◌≡◌, ◌⊎◌, true, false, cond, ℕ, ◌+◌, ◌<◌, ◌≤◌, min, ltb, get_or};
 ghost use Rattle.figures.specs.Figures.{most_jobs};
 ghost use Rattle.bits.specs.Bits.{bit, with_bit};

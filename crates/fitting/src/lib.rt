@@ -1,5 +1,7 @@
 // The bound by lanes, fitted to a part-plan: a table of the jobs that are left, no job of which starts before its release, with values that
 // are handed from part-plan to part-plan.
+#![tactic(auto)]
+
 ghost use Rattle.std.specs.Prelude.{◌≡◌, true, ℕ, ◌<◌, ◌≤◌, length, get_or};
 ghost use Rattle.figures.specs.Figures.{most_jobs};
 ghost use Rattle.tables.specs.Tables.{count_of, modules_of, Fit};
@@ -28,7 +30,7 @@ pub const SLATE_PLACES: usize = CELLS + MOST_JOBS + 4 * paying::ACCOUNTS + 1;
 pub type Slate = [u16; SLATE_PLACES];
 
 // How a table stands: how many columns a row has, the minutes of a step, and the minutes from which and up to which lanes serve.
-#[derive(Drop)]
+#[derive(Clone, Copy)]
 pub struct Frame {
     pub cols: usize,
     pub step: u16,

@@ -1,6 +1,8 @@
 // Remembered part-plans in lent working memory of any length. A group of entries has their unplaced sets, side by side so that a
 // look at all is short, and behind them the figures of each, the last start and the ends by job. Which entry is written, or
 // forgotten, changes no answer.
+#![tactic(auto)]
+
 ghost use Rattle.std.specs.Prelude.{◌≡◌, true, ◌+◌, ◌-◌, ◌*◌, ◌<◌, ◌≤◌, length, replicate};
 ghost use Rattle.figures.specs.Figures.{most_jobs};
 ghost use Rattle.tables.specs.Part.{part_in};

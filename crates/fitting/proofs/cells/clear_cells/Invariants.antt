@@ -1,0 +1,10 @@
+-- `fitting::cells::clear_cells` meets its contract.
+use Prim.Native.Nat.{◌+◌, ◌-◌, ◌≤◌}
+use Rattle.weights.specs.Weights.{Put}
+use Rattle.fitting.proofs.cells.clear_cells.Given as goal
+
+abbrev pub invariant-loop-i : goal.invariant-loop-i
+invariant-loop-i l = (l.i ≤ l.n) × Put (λ x. 0 + x) l.initial.slate l.slate l.i (λ x. 0)
+
+abbrev pub decreases-loop-i : goal.decreases-loop-i
+decreases-loop-i l = l.n - l.i

@@ -1,0 +1,91 @@
+-- `fitting::serving::served` meets its contract.
+use native.Mathlib.Omega.{arith}
+use mathlib.Core.Path.{ap, ◌∙◌}
+use Prim.Native.Nat.{ℕ, min, max}
+use Rattle.weights.proofs.Walks.{walk_start, walk_fits, walk_step}
+use Rattle.lanes.proofs.Laws.{serve_start, serve-step, serve-done, serve_low, serve_all_low, reach_falls}
+use borrow.Author.Rules.{rules}
+use Rattle.fitting.proofs.serving.served.Goals as goal
+
+pub reach_from-reach-requires : goal.reach_from-reach-requires
+reach_from-reach-requires c = (c.requires.0, (search rules, c.requires.0.0.before))
+
+pub loop-i-init : goal.loop-i-init
+loop-i-init c =
+    let s = c.requires.1 in (
+      (c.placed-placed.ensures, (c.requires.0, search rules)),
+      (s, (walk_start _ s.profile s.narrow s.before, serve_start s c.reach_from-reach.result c.reach_from-reach.ensures)),
+    )
+
+pub until-requires : goal.until-requires
+until-requires c = omega (arith, c.loop-i.invariant.0.0, c.loop-i.invariant.1.1.0.few, c.loop-i-test.true)
+
+pub reach_from-next-requires : goal.reach_from-next-requires
+reach_from-next-requires c =
+    let inv = c.loop-i.invariant in
+    (inv.0.1.0, (omega (arith, c.next_end-to.ensures, inv.0.1.1), omega (arith, c.next_end-to.ensures, inv.1.1.0.before)))
+
+pub overflow_sub-total : goal.overflow_sub-total
+overflow_sub-total c =
+    let inv = c.loop-i.invariant.1 in
+    let to = c.next_end-to in
+    omega (arith, c.reach_from-next.ensures, reach_falls inv.0 inv.1.0 inv.1.1 to.result (omega (arith, to.ensures)))
+
+pub overflow_mul-total : goal.overflow_mul-total
+overflow_mul-total c =
+    let inv = c.loop-i.invariant.1 in
+    let to = c.next_end-to in
+    let next = c.reach_from-next in
+    let falls = reach_falls inv.0 inv.1.0 inv.1.1 to.result (omega (arith, to.ensures)) in
+    let low = serve_low inv.0 inv.1.0 inv.1.1 next.result (omega (arith, next.ensures, falls)) in
+    rw c.wide.ensures (record { fits = omega (arith, low) })
+
+pub overflow_add-total : goal.overflow_add-total
+overflow_add-total c =
+    let inv = c.loop-i.invariant.1 in
+    let to = c.next_end-to in
+    let next = c.reach_from-next in
+    let falls = reach_falls inv.0 inv.1.0 inv.1.1 to.result (omega (arith, to.ensures)) in
+    let low = serve_low inv.0 inv.1.0 inv.1.1 next.result (omega (arith, next.ensures, falls)) in
+    rw c.wide.ensures (record { fits = omega (arith, low) })
+
+pub held-f-requires : goal.held-f-requires
+held-f-requires c =
+    omega (arith, c.loop-i.invariant.0.0, c.loop-i.invariant.1.1.0.few, c.loop-i-test.true)
+
+pub overflow_add-f : goal.overflow_add-f
+overflow_add-f c =
+    let inv = c.loop-i.invariant in
+    record { fits = omega (arith, c.held-f.ensures, walk_fits inv.1.1.0 (omega (arith, inv.0.0, c.loop-i-test.true))) }
+
+pub loop-i-preserved : goal.loop-i-preserved
+loop-i-preserved c =
+    let past = c in
+    let loop = c.loop-i in
+    let inv = loop.invariant in
+    let s = inv.1.0 in
+    let walk = inv.1.1.0 in
+    let next = c.reach_from-next in
+    let to = c.next_end-to.ensures ∙ ap (λ (x : ℕ). max loop.at (min x past.args.frame.close)) c.until.ensures in
+    let step = serve-step s walk inv.1.1.1 c.next_end-to.result next.result to next.ensures in
+    let on = walk_step walk (omega (arith, inv.0.0, c.loop-i-test.true)) in (
+      (inv.0.0, (inv.0.1.0, omega (arith, c.next_end-to.ensures, inv.0.1.1))),
+      (s, (rw (to, c.held-f.ensures) on, rw c.wide.ensures step)),
+    )
+
+pub overflow_mul-result : goal.overflow_mul-result
+overflow_mul-result c =
+    let inv = c.loop-i.invariant.1 in
+    rw c.wide-2.ensures (record { fits = omega (arith, serve_all_low inv.0 inv.1.0 inv.1.1) })
+
+pub overflow_add-result : goal.overflow_add-result
+overflow_add-result c =
+    let inv = c.loop-i.invariant.1 in
+    rw c.wide-2.ensures (record { fits = omega (arith, serve_all_low inv.0 inv.1.0 inv.1.1) })
+
+pub returns : goal.returns
+returns c =
+    let loop = c.loop-i in
+    let inv = loop.invariant.1 in
+    rw c.wide-2.ensures
+    (serve-done inv.0 inv.1.0 inv.1.1 (omega (arith, loop.invariant.0.0, c.loop-i-test.false)), serve_all_low inv.0 inv.1.0 inv.1.1)

@@ -1,0 +1,12 @@
+-- `fitting::shown` meets its contract.
+use mathlib.Core.Path.{◌≡◌}
+use Prim.Native.Nat.{◌-◌, ◌≤◌}
+use lib.ListN.{length}
+use Rattle.fitting.specs.Fitting.{slate_size}
+use Rattle.fitting.proofs.shown.Given as goal
+
+abbrev pub invariant-loop-turns : goal.invariant-loop-turns
+invariant-loop-turns l = (l.turns ≤ 2) × (length l.slate ≡ slate_size)
+
+abbrev pub decreases-loop-turns : goal.decreases-loop-turns
+decreases-loop-turns l = 2 - l.turns

@@ -1,0 +1,11 @@
+-- `fitting::valuing::longest_of` meets its contract.
+use mathlib.Core.Path.{◌≡◌}
+use Prim.Native.Nat.{◌-◌, ◌≤◌, ◌<◌}
+use Rattle.tables.specs.Tables.{count_of}
+use Rattle.fitting.proofs.valuing.longest_of.Given as goal
+
+abbrev pub invariant-loop-k : goal.invariant-loop-k
+invariant-loop-k l = ((l.count ≡ count_of l.jobs) × (l.k ≤ l.count)) × (0 < l.longest)
+
+abbrev pub decreases-loop-k : goal.decreases-loop-k
+decreases-loop-k l = l.count - l.k

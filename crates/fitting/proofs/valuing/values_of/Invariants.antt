@@ -1,0 +1,15 @@
+-- `fitting::valuing::values_of` meets its contract.
+use mathlib.Core.Path.{◌≡◌}
+use Prim.Native.Nat.{◌-◌, ◌≤◌}
+use lib.ListN.{length}
+use Rattle.figures.specs.Figures.{most_jobs}
+use Rattle.tables.specs.Tables.{count_of}
+use Rattle.fitting.specs.Fitting.{Valued, NoneBeside}
+use Rattle.fitting.proofs.valuing.values_of.Given as goal
+
+abbrev pub invariant-loop-k : goal.invariant-loop-k
+invariant-loop-k l =
+    ((l.count ≡ count_of l.jobs) × (l.k ≤ l.count)) × ((length l.next ≡ most_jobs) × (Valued l.jobs l.step l.next × NoneBeside l.set l.next))
+
+abbrev pub decreases-loop-k : goal.decreases-loop-k
+decreases-loop-k l = l.count - l.k

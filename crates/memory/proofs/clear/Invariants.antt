@@ -1,0 +1,12 @@
+-- `memory::clear` meets its contract.
+use mathlib.Core.Path.{◌≡◌}
+use mathlib.Core.List.{◌++◌}
+use Prim.Native.Nat.{◌≤◌, ◌-◌}
+use lib.ListN.{length, drop, replicate}
+use Rattle.memory.proofs.clear.Given as goal
+
+abbrev pub invariant-loop-i : goal.invariant-loop-i
+invariant-loop-i l = (l.i ≤ length l.initial.memory) × (l.memory ≡ replicate l.i 0 ++ drop l.i l.initial.memory) × (length l.memory ≡ length l.initial.memory)
+
+abbrev pub decreases-loop-i : goal.decreases-loop-i
+decreases-loop-i l = length l.initial.memory - l.i
