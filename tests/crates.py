@@ -25,7 +25,8 @@ def listed():
 def used(crate, names):
     """The crates that the crate's files name, in code or in a citation. The kit's std is always there, and never listed."""
     folder = ROOT / 'crates' / crate
-    texts = [path.read_text() for path in folder.rglob('*') if path.suffix in ('.rt', '.antt')]
+    paths = [path for part in ('src', 'specs', 'proofs') for path in (folder / part).rglob('*')]
+    texts = [path.read_text() for path in paths if path.suffix in ('.rt', '.antt')]
     text = '\n'.join(re.sub(r'(//|--).*', '', text) for text in texts)
     cited = set(re.findall(r'\bRattle\.(\w+)\.', text))
     called = {name for name in names if re.search(rf'(?<![\w:.]){name}::', text)}

@@ -17,13 +17,13 @@ def parameters(text):
 
 def main():
     functions = paths = wrong = 0
-    for path in sorted(ROOT.rglob('*.rt')):
+    for path in sorted(ROOT.glob('*/src/**/*.rt')):
         for function, count in parameters(path.read_text()):
             functions += 1
             if count > MOST_PARAMETERS:
                 print(f'{path.relative_to(ROOT)}: {function} takes {count} parameters')
                 wrong += 1
-    for path in sorted(ROOT.rglob('*.antt')):
+    for path in sorted([*ROOT.glob('*/specs/**/*.antt'), *ROOT.glob('*/proofs/**/*.antt')]):
         for steps in re.findall(r'(?:\.before\b)+|(?:\.1\b)+', path.read_text()):
             paths += 1
             if steps.count('.') > LONGEST_PATH:
