@@ -14,11 +14,11 @@ fn main() {
         refuse("the static library is compiled for x86-64 alone");
     }
     if !library.is_file() {
-        refuse("target/staticlib/libdepot.a is missing: make it with 'rt staticlib depot'");
+        refuse("target/staticlib/libdepot.a is missing: make it with 'tools/staticlib depot'");
     }
     println!("cargo:rustc-link-search=native={}", folder.display());
     println!("cargo:rustc-link-lib=static=depot");
-    // made by 'rt staticlib two_pass'; the command line does without it
+    // made by 'tools/staticlib two_pass'; the command line does without it
     let before = folder.join(READER_OF_BEFORE);
     if before.is_file() {
         println!("cargo:rerun-if-changed={}", before.display());

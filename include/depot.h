@@ -1,7 +1,7 @@
 /*
  * depot.h: the charging planner, the job sheets, the share desk of one depot feeder and the plan runner, for C.
  *
- * Link target/staticlib/libdepot.a ('rt staticlib depot' makes it, for x86-64 alone). docs/FIRMWARE.md says how to build, what can be done
+ * Link target/staticlib/libdepot.a ('tools/staticlib depot' makes it, for x86-64 alone). docs/FIRMWARE.md says how to build, what can be done
  * with other processors, how to size the buffers, and what is proved; docs/PROMISES.md has every promise. host/c/example.c uses every
  * call, host/c/follow.c is a whole controller. depot_card.h reads cards, depot_text.h has the refusals in words; both are for every
  * processor.
@@ -128,7 +128,7 @@ enum depot_refusal {
 #define DEPOT_LARGEST_SIZE 10000 /* of a module, in hundreds of watts: 1 MW */
 
 #define DEPOT_PLAN_STACK 57344
-#define DEPOT_SIZE_STACK 90112
+#define DEPOT_SIZE_STACK 81920
 #define DEPOT_SETS_STACK 4096
 #define DEPOT_RUNNER_STACK 12288
 #define DEPOT_CALL_STACK 2048
@@ -157,7 +157,7 @@ uint32_t depot_plan(const uint8_t *sheet, size_t sheet_len, uint8_t *card, size_
 struct depot_limited {
     uint32_t refusal; /* 0, or the refusal's number; then all else is 0 */
     uint16_t end;     /* the minute at which the plan on the card ends */
-    uint16_t bound;   /* no valid plan ends before this minute; where exact is 1, it is the end */
+    uint16_t bound;   /* no valid plan ends before this minute */
     uint32_t exact;   /* 1: the card is the one that depot_plan writes; 0: it may be another */
 };
 
@@ -166,9 +166,9 @@ struct depot_limited {
 
 /*
  * Plans a job sheet as depot_plan does, and gives up after so many part-plans: the places that the search goes through, up to some million
- * of them a second. The card's plan is always valid. Where exact is 1 it is the plan that depot_plan gives, and bound equals end; with
- * DEPOT_NO_LIMIT exact is 1. Where it is 0, the plan may be another; it ends at most `end - bound` minutes later than the earliest plan, and
- * where the two are equal it ends as early.
+ * of them a second. The card's plan is always valid. Where exact is 1 it is the plan that depot_plan gives; with DEPOT_NO_LIMIT exact
+ * is 1. Where it is 0, the plan may be another; it ends at most `end - bound` minutes later than the earliest plan, and where the two are
+ * equal it ends as early.
  *
  * Not proved: it visits at most three times the limit and 16,000 part-plans, the bound's questions included, and spends some 50 ms on list
  * plans where the list is not planned soon. The same limit, sheet and length of work give the same answer; a larger limit can give an

@@ -12,7 +12,6 @@ import re
 import sys
 
 ROOT = pathlib.Path(__file__).parent.parent
-KIT = {'check', 'libc', 'io', 'os', 'bytes'}
 # crates above all others: no crate uses them
 TOP = {'demands', 'examples', 'depot', 'print_plan', 'edges'}
 
@@ -20,25 +19,26 @@ TOP = {'demands', 'examples', 'depot', 'print_plan', 'edges'}
 def listed():
     """The crates of crates.txt with what each uses, as lists in the file's order."""
     lines = [line for line in (ROOT / 'crates.txt').read_text().splitlines() if line.strip() and not line.startswith('#')]
-    return {name: uses.split() for name, uses in (line.split(':') for line in lines)}
+    return {name.split()[0]: uses.split() for name, uses in (line.split(':') for line in lines)}
 
 
 def used(crate, names):
-    """The crates that the crate's files name, in code or in a citation."""
+    """The crates that the crate's files name, in code or in a citation. The kit's std is always there, and never listed."""
     folder = ROOT / 'crates' / crate
-    texts = [path.read_text() for path in folder.rglob('*') if path.suffix in ('.rt', '.antt')]
+    paths = [path for part in ('src', 'specs', 'proofs') for path in (folder / part).rglob('*')]
+    texts = [path.read_text() for path in paths if path.suffix in ('.rt', '.antt')]
     text = '\n'.join(re.sub(r'(//|--).*', '', text) for text in texts)
-    cited = set(re.findall(r'Rattle·(\w+)\.', text))
-    called = {name for name in names | KIT if re.search(rf'(?<![\w:·.]){name}::', text)}
-    return (cited | called) - {crate}
+    cited = set(re.findall(r'\bRattle\.(\w+)\.', text))
+    called = {name for name in names if re.search(rf'(?<![\w:.]){name}::', text)}
+    return (cited | called) - {crate, 'std'}
 
 
 def proofs_in_specs():
-    """The lines of definitions and contracts that name a proofs/ folder."""
+    """The lines of definitions and contracts that name a proofs/ folder of the repository."""
     for folder in ('specs', 'src'):
         for path in sorted((ROOT / 'crates').glob(f'*/{folder}/**/*')):
             for line in path.read_text().splitlines() if path.suffix in ('.rt', '.antt') else []:
-                if re.search(r'Rattle·\w+(·proofs)?\.proofs\.', re.sub(r'(//|--).*', '', line)):
+                if re.search(r'\bRattle\.(?!std\.)\w+\.proofs\.', re.sub(r'(//|--).*', '', line)):
                     yield path.relative_to(ROOT), line
 
 
@@ -56,7 +56,7 @@ def groups(text, group, crate):
 def unmapped(uses):
     """What is wrong with the README's map."""
     readme = (ROOT / 'README.md').read_text()
-    there = groups((ROOT / 'crates.txt').read_text(), r'# (.*)', r'(\w+):')
+    there = groups((ROOT / 'crates.txt').read_text(), r'# (.*)', r'(\w+)(?: staticlib)?:')
     said = groups(readme, r'\*\*(.*)\*\*$', r'\| \[`(\w+)`\]\(crates/\1\)')
     for heading in [*there, *(heading for heading in said if heading not in there)]:
         if there.get(heading) != said.get(heading):
@@ -91,7 +91,7 @@ def main():
         print(f'{path}: rests on proofs: {line}')
         wrong += 1
     for crate, said in uses.items():
-        real = used(crate, set(uses))
+        real = used(crate, {*uses, *said})
         for name in sorted(real - set(said)):
             print(f'crates.txt: {crate} uses {name}, which its line leaves out')
             wrong += 1

@@ -128,9 +128,9 @@ def random_calls(rng, desk, length):
     steps = []
     for _ in range(length):
         controller = rng.randint(0, desk.count - 1) if rng.random() < 0.93 else rng.choice([desk.count, 8, 4000000000])
-        kind = rng.choice(["claim", "claim", "claim", "handBack", "look"])
+        kind = rng.choice(["claim", "claim", "claim", "hand_back", "look"])
         own = desk.held[controller] if controller < desk.count else 5
-        most = max(own, 1) if kind == "handBack" else max(desk.limit // desk.count, 2)
+        most = max(own, 1) if kind == "hand_back" else max(desk.limit // desk.count, 2)
         power = rng.choice([0, 1, own, own + 1, desk.limit] + [rng.randint(1, most)] * 5)
         number, figure, held = call(desk, kind, controller, power, True)
         steps.append((kind, controller, power, number, figure, held))
@@ -199,21 +199,21 @@ def run_text(desk, steps):
 HEADER = """\
 -- Random openings, desks and lists of calls, and what tests/desk_model.py, which reads the document on its own, says of them.
 -- Written by that model: its rows are compared with these by the gate.
-use mathlib.Core.Path.{_≡_, refl}
+use mathlib.Core.Path.{◌≡◌, refl}
 use mathlib.Core.Bool.{true}
-use mathlib.Core.List.{List, [], _∷_}
-use Rattle·counting.specs.Counting.{sum, every, any}
-use Rattle·checking.specs.Checking.{firstFailing}
-use Rattle·desk·specs.specs.Checks.{wrongLengths, wrongFigures, sharesExceed, deskOk, notOfDesk, wrongCount, someHoldsMore, raisedExceed}
-use Rattle·desk·specs.specs.Calls.{claim, handBack, look}
-use Rattle·desk·specs.specs.Calls.{openRefusal, opened, claimRefusal, claimed, handBackRefusal, handedBack, lookRefusal, looked}
-use Rattle·desk·specs.specs.Calls.{changeRefusal, changed}
-use Rattle·desk·specs.specs.Rows.{desk, step, Row, opens, runs, changes, allHold}
+use mathlib.Core.List.{List, [], ◌∷◌}
+use Rattle.counting.specs.Counting.{sum, every, any}
+use Rattle.checking.specs.Checking.{first_failing}
+use Rattle.desk.specs.Checks.{wrong_lengths, wrong_figures, shares_exceed, desk_ok, not_of_desk, wrong_count, some_holds_more, raised_exceed}
+use Rattle.desk.specs.Calls.{claim, hand_back, look}
+use Rattle.desk.specs.Calls.{open_refusal, opened, claim_refusal, claimed, hand_back_refusal, handed_back, look_refusal, looked}
+use Rattle.desk.specs.Calls.{change_refusal, changed}
+use Rattle.desk.specs.Rows.{desk, step, Row, opens, runs, changes, all_hold}
 """
 
 OPENED = """\
-unfolding sum every any firstFailing wrongLengths wrongFigures sharesExceed deskOk notOfDesk wrongCount someHoldsMore raisedExceed
-    openRefusal opened claimRefusal claimed handBackRefusal handedBack lookRefusal looked changeRefusal changed
+unfolding sum every any first_failing wrong_lengths wrong_figures shares_exceed desk_ok not_of_desk wrong_count some_holds_more raised_exceed
+    open_refusal opened claim_refusal claimed hand_back_refusal handed_back look_refusal looked change_refusal changed
 """
 
 
@@ -230,7 +230,7 @@ def samples():
             runs.append(run_text(desk, random_calls(rng, desk, 12)))
     while len(desks) < 60:
         desk = random_desk(rng)
-        kind, controller = rng.choice(["claim", "handBack", "look"]), rng.randint(0, 2)
+        kind, controller = rng.choice(["claim", "hand_back", "look"]), rng.randint(0, 2)
         power = rng.randint(0, 3)
         desks.append(run_text(desk, [(kind, controller, power) + call(desk, kind, controller, power, False)]))
     # on desks as calls leave them: changes, and calls behind each that is granted; changes of desks that may not be
@@ -257,7 +257,7 @@ def samples():
     text = HEADER
     for name, rows in [("openings", openings), ("lists", runs), ("desks", desks), ("figures", changes)]:
         text += table(name, "Row", rows)
-        text += f"\npub {name}-right : allHold {name} ≡ true\n{OPENED.replace('unfolding sum', f'unfolding {name} sum')}{name}-right = refl\n"
+        text += f"\npub {name}_right : all_hold {name} ≡ true\n{OPENED.replace('unfolding sum', f'unfolding {name} sum')}{name}_right = refl\n"
     return text
 
 

@@ -31,7 +31,8 @@ LINKS = '<!-- links, written by tests/promises.py --write -->'
 
 def texts():
     """The other files of the repository that a person reads."""
-    for folder in ('crates', 'host/src', 'host/tests', 'host/c', 'include', 'tests', 'examples'):
+    crates = [f'crates/{path.name}/{part}' for path in sorted(CRATES.iterdir()) for part in ('src', 'specs', 'proofs', 'must-fail')]
+    for folder in (*crates, 'host/src', 'host/tests', 'host/c', 'include', 'tests', 'examples'):
         for path in sorted((ROOT / folder).rglob('*')):
             if path.suffix in ('.rt', '.antt', '.rs', '.c', '.h', '.py', '.edit', '.csv', '.desk') and path.name != 'promises.py':
                 yield path
@@ -220,7 +221,7 @@ def main():
 
     everywhere = {crate.name for crate in CRATES.iterdir()} | {edit.stem for edit in CRATES.glob('*/must-fail/*.edit')}
     for kind in ('antt', 'rt'):
-        for path in CRATES.rglob('*.' + kind):
+        for path in [path for part in ('src', 'specs', 'proofs') for path in CRATES.glob(f'*/{part}/**/*.{kind}')]:
             everywhere |= tokens(path)
     looked_up = 0
     for document, least in DOCUMENTS.items():

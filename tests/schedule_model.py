@@ -135,7 +135,7 @@ def random_slots(rng, sheet):
 
 def sheet_text(sheet):
     jobs = " ∷ ".join(f"late {j.need} {j.minutes} ({numbers(j.earlier)}) {j.arrival}" for j in sheet.jobs)
-    return f"(restingSheet ({jobs + ' ∷ ' if jobs else ''}[]) {sheet.modules} {sheet.rest})"
+    return f"(resting_sheet ({jobs + ' ∷ ' if jobs else ''}[]) {sheet.modules} {sheet.rest})"
 
 
 def slots_text(slots):
@@ -146,17 +146,17 @@ def slots_text(slots):
 HEADER = """\
 -- Random sheets and plans, and what tests/schedule_model.py, which reads the document on its own, says of them.
 -- Written by that model: its rows are compared with these by the gate.
-use mathlib.Core.Path.{_≡_, refl}
+use mathlib.Core.Path.{◌≡◌, refl}
 use mathlib.Core.Bool.{true, false}
-use mathlib.Core.List.{List, [], _∷_}
+use mathlib.Core.List.{List, [], ◌∷◌}
 use Prim.Native.Nat.{ℕ}
-use Rattle·counting.specs.Counting.{sum, largest, every, any, joined}
-use Rattle·schedule·specs.specs.Plan.{overWide}
-use Rattle·schedule·specs.specs.ListPlan.{ready, firstMinute, startOf, placeAll}
-use Rattle·schedule·specs.specs.TieRule.{wide, circular, planned, ordersAfter, earliestOf, answerOf}
-use Rattle·schedule·specs.specs.Rows.{Job, restingSheet, slot, Row, answers, places, allHold}
-use Rattle·schedule·specs.specs.ValidTest.{isValid}
-use Rattle·schedule·proofs.proofs.ValidTest.{Judged, judged, allJudged}
+use Rattle.counting.specs.Counting.{sum, largest, every, any, joined}
+use Rattle.schedule.specs.Plan.{over_wide}
+use Rattle.schedule.specs.ListPlan.{ready, first_minute, start_of, place_all}
+use Rattle.schedule.specs.TieRule.{wide, circular, planned, orders_after, earliest_of, answer_of}
+use Rattle.schedule.specs.Rows.{Job, resting_sheet, slot, Row, answers, places, all_hold}
+use Rattle.schedule.specs.ValidTest.{is_valid}
+use Rattle.schedule.proofs.ValidTest.{Judged, judged, all_judged}
 
 abbrev late : ℕ → ℕ → List ℕ → ℕ → Job
 late w m e a = record { need = w; minutes = m; earlier = e; arrival = a }
@@ -182,12 +182,12 @@ def samples():
         ("placed", "Row", [f"places {sheet_text(s)} ({numbers(o)}) {slots_text(p)}" for s, o, p in placed]),
         ("plans", "Judged", [f"judged {sheet_text(s)} {slots_text(p)} {str(v).lower()}" for s, p, v in judged]),
     ]
-    opened = "sum largest every any joined overWide ready firstMinute startOf placeAll ordersAfter earliestOf answerOf isValid"
+    opened = "sum largest every any joined over_wide ready first_minute start_of place_all orders_after earliest_of answer_of is_valid"
     text = HEADER
     for name, kind, rows in lists:
-        test = "allJudged" if kind == "Judged" else "allHold"
+        test = "all_judged" if kind == "Judged" else "all_hold"
         text += table(name, kind, rows)
-        text += f"\npub {name}-right : {test} {name} ≡ true\nunfolding {name} {opened}\n{name}-right = refl\n"
+        text += f"\npub {name}_right : {test} {name} ≡ true\nunfolding {name} {opened}\n{name}_right = refl\n"
     return text
 
 

@@ -17,17 +17,17 @@ def parameters(text):
 
 def main():
     functions = paths = wrong = 0
-    for path in sorted(ROOT.rglob('*.rt')):
+    for path in sorted(ROOT.glob('*/src/**/*.rt')):
         for function, count in parameters(path.read_text()):
             functions += 1
             if count > MOST_PARAMETERS:
                 print(f'{path.relative_to(ROOT)}: {function} takes {count} parameters')
                 wrong += 1
-    for path in sorted(ROOT.rglob('*.antt')):
-        for steps in re.findall(r'(?:\s\.before)+|(?:\s\.1)+', path.read_text()):
+    for path in sorted([*ROOT.glob('*/specs/**/*.antt'), *ROOT.glob('*/proofs/**/*.antt')]):
+        for steps in re.findall(r'(?:\.before\b)+|(?:\.1\b)+', path.read_text()):
             paths += 1
-            if len(steps.split()) > LONGEST_PATH:
-                print(f'{path.relative_to(ROOT)}: a path of {len(steps.split())} steps')
+            if steps.count('.') > LONGEST_PATH:
+                print(f'{path.relative_to(ROOT)}: a path of {steps.count(".")} steps')
                 wrong += 1
     print(f'{functions} functions, {paths} paths')
     return 1 if wrong else 0

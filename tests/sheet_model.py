@@ -12,7 +12,7 @@ from rows import numbers, settle, table
 MOST_JOBS, MOST_MODULES, LONGEST_CHANGEOVER, LONGEST_SHEET = 20, 64, 30, 570
 RECORD, TRAILER = struct.Struct('<BBHIHH'), struct.Struct('<IHHH')
 OLDER_RECORD, OLDER_TRAILER = struct.Struct('<BBHIH'), struct.Struct('<IHH')
-LAYOUTS = {OLDER_RECORD: 'beforeArrivals', RECORD: 'beforeChangeovers'}
+LAYOUTS = {OLDER_RECORD: 'before_arrivals', RECORD: 'before_changeovers'}
 LONGEST_LABEL, LABEL_BYTES, MOST_MINUTES, LAST_DEPARTURE, LAST_ARRIVAL = 16, range(32, 127), 1440, 2880, 1440
 
 
@@ -188,21 +188,21 @@ def row(sheet):
 
 HEAD = """-- Random sheets, whole and damaged, and what tests/sheet_model.py, which reads the document on its own, says of them.
 -- Written by that model: its rows are compared with these by the gate.
-use mathlib.Core.Path.{_≡_, refl}
-use mathlib.Core.List.{List, [], _∷_}
-use Rattle·counting.specs.Counting.{sum, any, joined}
-use Rattle·checking.specs.Checking.{firstFailing}
-use Rattle·words.specs.Words.{numberAt}
-use Rattle·sheet_format.specs.Format.{recordAt, places}
-use Rattle·sheet_format.specs.Checks.{outside, faulty, wrongLabel}
-use Rattle·sheet·specs.specs.Read.{reading}
-use Rattle·sheet·specs.specs.Label.{labelOf}
-use Rattle·sheet·proofs.proofs.Rows.{Row, row, found, told}
+use mathlib.Core.Path.{◌≡◌, refl}
+use mathlib.Core.List.{List, [], ◌∷◌}
+use Rattle.counting.specs.Counting.{sum, any, joined}
+use Rattle.checking.specs.Checking.{first_failing}
+use Rattle.words.specs.Words.{number_at}
+use Rattle.sheet_format.specs.Format.{record_at, places}
+use Rattle.sheet_format.specs.Checks.{outside, faulty, wrong_label}
+use Rattle.sheet.specs.Read.{reading}
+use Rattle.sheet.specs.Label.{label_of}
+use Rattle.sheet.proofs.Rows.{Row, row, found, told}
 """
 FOOT = """
-pub rows-right : found rows ≡ told rows
-unfolding rows found told reading labelOf firstFailing outside faulty wrongLabel any sum places joined recordAt numberAt
-rows-right = refl
+pub rows_right : found rows ≡ told rows
+unfolding rows found told reading label_of first_failing outside faulty wrong_label any sum places joined record_at number_at
+rows_right = refl
 """
 
 
@@ -230,23 +230,23 @@ def samples(rng):
 
 OLDER_HEAD = """-- Random sheets of the layouts before F-2 and before F-4, whole and damaged, and what tests/sheet_model.py, which reads the document on its own, says
 -- of them. Written by that model: its rows are compared with these by the gate.
-use mathlib.Core.Path.{_≡_, refl}
-use mathlib.Core.List.{List, [], _∷_}
-use Rattle·counting.specs.Counting.{sum, any, joined}
-use Rattle·checking.specs.Checking.{firstFailing}
-use Rattle·words.specs.Words.{numberAt}
-use Rattle·sheet_format.specs.Format.{recordAt}
-use Rattle·sheet_format.specs.Checks.{outside, faulty, wrongLabel}
-use Rattle·older_sheets·specs.specs.Older as older
-use Rattle·older_sheets·specs.specs.Older.{beforeArrivals, beforeChangeovers}
-use Rattle·older_sheets·specs.specs.Relaid.{relaid}
-use Rattle·older_sheets·proofs.proofs.Rows.{Row, row, found, told}
+use mathlib.Core.Path.{◌≡◌, refl}
+use mathlib.Core.List.{List, [], ◌∷◌}
+use Rattle.counting.specs.Counting.{sum, any, joined}
+use Rattle.checking.specs.Checking.{first_failing}
+use Rattle.words.specs.Words.{number_at}
+use Rattle.sheet_format.specs.Format.{record_at}
+use Rattle.sheet_format.specs.Checks.{outside, faulty, wrong_label}
+use Rattle.older_sheets.specs.Older as older
+use Rattle.older_sheets.specs.Older.{before_arrivals, before_changeovers}
+use Rattle.older_sheets.specs.Relaid.{relaid}
+use Rattle.older_sheets.proofs.Rows.{Row, row, found, told}
 """
 OLDER_FOOT = """
-pub rows-right : found rows ≡ told rows
+pub rows_right : found rows ≡ told rows
 unfolding
-    rows found told relaid firstFailing outside faulty wrongLabel any sum joined recordAt older.recordAt numberAt
-rows-right = refl
+    rows found told relaid first_failing outside faulty wrong_label any sum joined record_at older.record_at number_at
+rows_right = refl
 """
 
 

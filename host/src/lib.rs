@@ -75,7 +75,7 @@ pub fn plan(sheet: &[u8], card: &mut [u8], work: &mut [u8]) -> Result<(), Refusa
 pub const NO_LIMIT: u64 = u64::MAX;
 
 /// A plan that was found within a limit: the one on the card ends at `end`, and no valid plan of the sheet ends before `bound`. Where it is
-/// `exact`, the card is the one that [`plan`] writes, and `bound` is `end`; else it may be another.
+/// `exact`, the card is the one that [`plan`] writes.
 #[derive(Clone, Copy, Debug, PartialEq, Eq)]
 pub struct Limited {
     pub end: u16,

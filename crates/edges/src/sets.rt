@@ -1,6 +1,7 @@
 // The edges of counting job sets.
 use super::lines::print_case;
 use sheet_format::Job;
+use std::io;
 
 // The lengths of the sheets of no jobs and of twenty jobs with labels of one byte.
 const NONE: usize = 10;
@@ -30,24 +31,26 @@ fn chain() -> [Job; 20] {
 }
 
 // Counts the job sets of a sheet, and prints the number and the count.
-fn count(name: &[u8], s: &[u8]) {
+fn count(rt: &impl Print, name: &str, s: &[u8]) -> io::Result<()> {
     let answer = job_sets::set_count(s);
-    print_case(name, answer.refusal);
-    print_case(b"  job sets", answer.sets);
+    print_case(rt, name, answer.refusal)?;
+    print_case(rt, "  job sets", answer.sets)?;
+    Ok(())
 }
 
-fn count_twenty(name: &[u8], jobs: [Job; 20], modules: u16) {
+fn count_twenty(rt: &impl Print, name: &str, jobs: [Job; 20], modules: u16) -> io::Result<()> {
     let mut s = [0u8; TWENTY];
     sheet::write(jobs, 20, &[b'B'; 20], modules, 0, &mut s);
-    count(name, &s);
+    count(rt, name, &s)
 }
 
-pub fn run() {
+pub fn run(rt: &impl Print) -> io::Result<()> {
     let mut none = [0u8; NONE];
     sheet::write([job(0); 20], 0, b"", 1, 0, &mut none);
-    count(b"no jobs", &none);
-    count_twenty(b"a chain of twenty jobs", chain(), 64);
-    count_twenty(b"twenty jobs without marks", [job(0); 20], 64);
-    count_twenty(b"twenty jobs, the first before itself", [job(1); 20], 64);
-    count(b"no bytes", b"");
+    count(rt, "no jobs", &none)?;
+    count_twenty(rt, "a chain of twenty jobs", chain(), 64)?;
+    count_twenty(rt, "twenty jobs without marks", [job(0); 20], 64)?;
+    count_twenty(rt, "twenty jobs, the first before itself", [job(1); 20], 64)?;
+    count(rt, "no bytes", b"")?;
+    Ok(())
 }

@@ -5,6 +5,7 @@ use super::lines::print_case;
 use super::plans::first;
 use sheet_format::Job;
 use slack::Slacks;
+use std::io;
 
 // The lengths of the sheets of no jobs and of twenty jobs with labels of one byte.
 const NONE: usize = 10;
@@ -59,36 +60,44 @@ fn late_jobs(answer: Slacks) -> u32 {
 
 // Asks for the slack of a sheet, and prints the number, how many jobs are late, how many marks of the last place others imply, and the
 // first byte of the memory.
-fn ask(name: &[u8], s: &[u8]) {
+fn ask(rt: &impl Print, name: &str, s: &[u8]) -> io::Result<()> {
     let mut work = [WORK_BYTE; 1];
     let answer = slack::slack(s, &mut work);
     let last = answer.jobs[19];
-    print_case(name, answer.refusal);
-    print_case(b"  jobs too late", late_jobs(answer));
-    print_case(b"  marks implied", bits::ones32(last.implied));
-    print_case(b"  first byte of the memory", first(&work));
+    print_case(rt, name, answer.refusal)?;
+    print_case(rt, "  jobs too late", late_jobs(answer))?;
+    print_case(rt, "  marks implied", bits::ones32(last.implied))?;
+    print_case(rt, "  first byte of the memory", first(&work))?;
+    Ok(())
 }
 
-fn ask_twenty(name: &[u8], jobs: [Job; 20]) {
+fn ask_twenty(rt: &impl Print, name: &str, jobs: [Job; 20]) -> io::Result<()> {
     let mut s = [0u8; TWENTY];
     sheet::write(jobs, 20, &[b'B'; 20], 64, 0, &mut s);
-    ask(name, &s);
+    ask(rt, name, &s)
 }
 
-pub fn run() {
+pub fn run(rt: &impl Print) -> io::Result<()> {
     let mut none = [0u8; NONE];
     sheet::write([job(0, 0); 20], 0, b"", 1, 0, &mut none);
-    ask(b"slack without jobs", &none);
+    ask(rt, "slack without jobs", &none)?;
     ask_twenty(
-        b"of twenty days one behind another, all gone at minute 0",
+        rt,
+        "of twenty days one behind another, all gone at minute 0",
         chain(0),
-    );
-    ask_twenty(b"all gone at minute 2880", chain(2880));
+    )?;
+    ask_twenty(rt, "all gone at minute 2880", chain(2880))?;
     ask_twenty(
-        b"of twenty days side by side, all gone at minute 1440",
+        rt,
+        "of twenty days side by side, all gone at minute 1440",
         [job(0, 1440); 20],
-    );
-    ask_twenty(b"all gone at minute 1439", [job(0, 1439); 20]);
-    ask_twenty(b"of twenty jobs, the first before itself", [job(1, 0); 20]);
-    ask(b"of no bytes", b"");
+    )?;
+    ask_twenty(rt, "all gone at minute 1439", [job(0, 1439); 20])?;
+    ask_twenty(
+        rt,
+        "of twenty jobs, the first before itself",
+        [job(1, 0); 20],
+    )?;
+    ask(rt, "of no bytes", b"")?;
+    Ok(())
 }

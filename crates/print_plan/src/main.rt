@@ -1,16 +1,20 @@
 // Reads a job sheet from standard input and prints its plan, or the refusal.
-use libc::{STDIN_FILENO, STDOUT_FILENO};
+#![tactic(auto)]
+
 use sheet_format::layout::LONGEST_SHEET;
+use std::io::{self, Read};
 
 // A byte more than the longest sheet: a longer input is then refused for its length.
-const INPUT: usize = LONGEST_SHEET + 1;
+const INPUT: u64 = LONGEST_SHEET as u64 + 1;
 
-fn main() {
-    let mut input = [0u8; INPUT];
-    let count = io::read_full(STDIN_FILENO, &mut input);
-    let mut work = io::large_buffer();
-    let text = report::report(&input[..count], &mut work);
+// The working memory that the search is lent.
+const WORK: usize = 65536;
+
+fn main(rt: HostRuntime) -> io::Result<()> {
+    let mut input = Vec::new(rt.alloc());
+    rt.reader().take(INPUT).read_to_end(&mut input)?;
+    let text = report::report(&input, &mut [0u8; WORK]);
     let bytes = text.bytes;
     let length = text.length;
-    io::write_all(STDOUT_FILENO, &bytes[..length]);
+    rt.write_all(&bytes[..length])
 }

@@ -1,5 +1,5 @@
 //! Planning with a limit against a reading of the requirements that tries every order: the plan on the card is a list plan of the sheet, no
-//! plan ends before the bound, and what is marked is planning's and ends at the bound.
+//! plan ends before the bound, and what is marked is planning's.
 use super::{left, sheets};
 use crate::guarded::{Against, Guarded};
 use crate::random::Random;
@@ -120,7 +120,6 @@ impl Limits {
         assert!(u32::from(answer.bound) <= known.best.end, "a plan ends before the bound: {}", about());
         let planning_s = plan == known.best.card();
         assert!(planning_s || !answer.exact, "marked, and not planning's: {}", about());
-        assert!(answer.bound == answer.end || !answer.exact, "marked, and the bound is not the end: {}", about());
         assert!(answer.exact || limit < NO_LIMIT, "not marked without a limit: {}", about());
         self.answers[0] += 1;
         self.unmarked += usize::from(!answer.exact);

@@ -106,11 +106,8 @@ fn compare_every_order(random: &mut Random, sheet: Sheet, all: &[(&str, Rules)],
     (best.end, &best.order) != (without.end, &without.order)
 }
 
-/// A rule's name, the rule, and the rules without it.
-pub type Alone = (&'static str, Rules, Rules);
-
-/// A sheet against every order, by each of these rules and without it: which of them make the search shorter there.
-pub fn compare_cuts(random: &mut Random, each_alone: &[Alone]) -> Vec<bool> {
+/// A sheet against every order, by each of these rules alone and without any: which of them make the search shorter there.
+pub fn compare_cuts(random: &mut Random, each_alone: &[(&str, Rules)]) -> Vec<bool> {
     let sheet = if random.percent(50) { sheets::resting(random) } else { sheets::arriving(random) };
     let best = planning::best(&reading::read(&sheet.bytes()).expect("a good sheet"));
     let order = best.order.iter().map(|job| *job as u8).collect();
@@ -119,17 +116,18 @@ pub fn compare_cuts(random: &mut Random, each_alone: &[Alone]) -> Vec<bool> {
 }
 
 /// The same of a list of the family, of 9 jobs, against the search that makes no cut.
-pub fn compare_cuts_of(family: &Family, seed: u64, each_alone: &[Alone]) -> Vec<bool> {
+pub fn compare_cuts_of(family: &Family, seed: u64, each_alone: &[(&str, Rules)]) -> Vec<bool> {
     let list = family.list(seed, 9);
     let Found { end, order, .. } = found(run_with(&Tables::of(&list), &mut [], &Rules::bare()));
     cuts(&list, each_alone, (end, order))
 }
 
-fn cuts(list: &List, each_alone: &[Alone], expected: (u16, Vec<u8>)) -> Vec<bool> {
+fn cuts(list: &List, each_alone: &[(&str, Rules)], expected: (u16, Vec<u8>)) -> Vec<bool> {
     let visited = |name: &str, rules: &Rules| {
         let Found { end, order, visited } = found(run_with(&Tables::of(list), &mut [], rules));
-        assert_eq!((end, &order), (expected.0, &expected.1), "{name}, {list:?}");
+        assert_eq!((end, &order), (expected.0, &expected.1), "{name} alone, {list:?}");
         visited
     };
-    each_alone.iter().map(|(name, rule, without)| visited(name, rule) < visited(name, without)).collect()
+    let bare = visited("no rule", &Rules::bare());
+    each_alone.iter().map(|(name, rules)| visited(name, rules) < bare).collect()
 }

@@ -2,8 +2,6 @@
 //! are handed from part-plan to part-plan.
 use super::part::{Free, Part};
 use super::tables::{jobs_of, Starts, Tables};
-use super::widths::Widths;
-use super::Rules;
 use crate::MOST_JOBS;
 
 const CELLS: usize = 6144;
@@ -47,32 +45,28 @@ pub struct Slate {
     entered: usize,
 }
 
-/// The jobs that are left by falling release, and how the table stands: its columns, the minutes of a step, up to when lanes serve, and the
-/// minutes at which lanes open, and how many.
+/// The jobs that are left by falling release, and how the table stands: its columns, the minutes of a step, and from when up to when lanes
+/// serve.
 struct Frame<'a> {
     tables: &'a Tables,
+    part: &'a Part,
+    free: &'a Free,
     order: Vec<usize>,
     release: [u16; MOST_JOBS],
     columns: usize,
     step: u16,
     close: u16,
-    openings: Vec<(u16, u16)>,
 }
 
 impl Frame<'_> {
-    fn of<'a>(tables: &'a Tables, rules: &Rules, part: &Part, starts: &Starts, free: &Free, close: u16) -> Frame<'a> {
+    fn of<'a>(tables: &'a Tables, part: &'a Part, starts: &Starts, free: &'a Free, close: u16) -> Frame<'a> {
         let mut release = [free.minute; MOST_JOBS];
         jobs_of(starts.ready).for_each(|j| release[j] = starts.at[j]);
-        if rules.waits {
-            tables.wait(part, &mut release);
-        }
         let mut order: Vec<usize> = jobs_of(part.unplaced).collect();
         order.sort_by_key(|j| std::cmp::Reverse(release[*j]));
         let span = usize::from(close - free.minute);
         let columns = (CELLS / (order.len() + 1)).min(span + 1);
-        let widths = if rules.widths { Widths::of(tables, part.unplaced) } else { Widths::any() };
-        let openings = openings(part, free, &widths);
-        Frame { tables, order, release, columns, step: (span / columns) as u16 + 1, close, openings }
+        Frame { tables, part, free, order, release, columns, step: (span / columns) as u16 + 1, close }
     }
 
     /// The column of the minutes from this one up to the closing minute.
@@ -84,29 +78,10 @@ impl Frame<'_> {
     fn steps(&self, j: usize) -> (usize, usize) {
         ((self.tables.counted[j] / self.step).into(), self.column(self.release[j]))
     }
-}
 
-/// The minutes at which lanes open, and how many: as many are open as the jobs that are left can fill of the free modules.
-fn openings(part: &Part, free: &Free, widths: &Widths) -> Vec<(u16, u16)> {
-    let (mut modules, mut open) = (0, 0);
-    let opening = |(minute, more): (u16, u16)| {
-        modules += more;
-        let now = widths.filled(modules);
-        let lanes = now - open;
-        open = now;
-        (minute, lanes)
-    };
-    std::iter::once((free.minute, free.modules)).chain(part.running(free.gone)).map(opening).collect()
-}
-
-impl Tables {
-    /// Raises releases to where the unplaced jobs that must have ended before can have: by the jobs' numbers, so that waits for jobs with
-    /// higher numbers are seen one by one, not as chains.
-    fn wait(&self, part: &Part, release: &mut [u16; MOST_JOBS]) {
-        for j in jobs_of(part.unplaced) {
-            let ended = jobs_of(self.earlier[j] & part.unplaced).map(|i| release[i] + self.minutes[i]);
-            release[j] = ended.fold(release[j], u16::max);
-        }
+    /// The minutes at which lanes open, and how many.
+    fn openings(&self) -> impl Iterator<Item = (u16, u16)> + '_ {
+        std::iter::once((self.free.minute, self.free.modules)).chain(self.part.running(self.free.gone))
     }
 }
 
@@ -119,7 +94,7 @@ impl Slate {
     }
 
     /// Whether the jobs that are left have more value than the lanes can serve. The shares are turned towards values that tell.
-    pub fn overfull(&mut self, tables: &Tables, rules: &Rules, part: &Part, starts: &Starts, free: &Free, close: u16) -> bool {
+    pub fn overfull(&mut self, tables: &Tables, part: &Part, starts: &Starts, free: &Free, close: u16) -> bool {
         if close < free.minute {
             return false;
         }
@@ -132,7 +107,7 @@ impl Slate {
         if !self.pays(count) {
             return false;
         }
-        let over = self.shows(&Frame::of(tables, rules, part, starts, free, close));
+        let over = self.shows(&Frame::of(tables, part, starts, free, close));
         self.note(count, over);
         over
     }
@@ -226,11 +201,11 @@ impl Slate {
         self.cells[row * frame.columns + column]
     }
 
-    /// What the lanes serve.
+    /// What the lanes serve, one on each module from the minute on at which it is free.
     fn served(&self, frame: &Frame) -> u32 {
         let last = frame.order.len();
         let reach = |(minute, lanes): (u16, u16)| u32::from(lanes) * u32::from(self.cell(frame, last, frame.column(minute)));
-        frame.openings.iter().copied().map(reach).sum()
+        frame.openings().map(reach).sum()
     }
 
     /// Moves the shares by the lanes that serve each job: those of jobs that too few serve rise, those of jobs that too many serve fall.
@@ -255,7 +230,7 @@ impl Slate {
     /// How many lanes serve each job: the rows tell, from the last to the first, which jobs a lane serves by which it reaches most.
     fn lanes(&self, frame: &Frame) -> [u16; MOST_JOBS] {
         let mut lanes = [0; MOST_JOBS];
-        for (minute, more) in frame.openings.iter().copied() {
+        for (minute, more) in frame.openings() {
             let mut x = frame.column(minute);
             for (row, j) in frame.order.iter().enumerate().rev() {
                 if self.cell(frame, row, x) != self.cell(frame, row + 1, x) {
