@@ -1,4 +1,6 @@
 // The plan card: the bytes of the plan of an order in the lent card; lateness.
+#![tactic(auto)]
+
 ghost use Rattle.std.specs.Prelude.{◌≡◌, ◌++◌, ◌+◌, ◌*◌, ◌≤◌, length, take, drop};
 ghost use Rattle.counting.specs.Counting.{joined};
 ghost use Rattle.figures.specs.Figures.{most_jobs};

@@ -1,4 +1,6 @@
 // The module-minutes that jobs occupy, and their share of the cabinet's.
+#![tactic(auto)]
+
 ghost use Rattle.std.specs.Prelude.{◌≡◌, ◌*◌, ◌<◌, ◌^◌};
 ghost use Rattle.tables.specs.Tables.{sheet_of, Fit};
 ghost use Rattle.occupancy.specs.Occupancy.{work_in, share_of};

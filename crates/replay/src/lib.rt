@@ -1,4 +1,6 @@
 // The plan of an order, job by job: each job's start, end and modules.
+#![tactic(auto)]
+
 ghost use Rattle.std.specs.Prelude.{◌≡◌, ◌+◌, ◌<◌, ◌≤◌, take};
 ghost use Rattle.figures.specs.Figures.{most_jobs};
 ghost use Rattle.schedule.specs.ListPlan.{Order};
@@ -9,7 +11,7 @@ use figures::MOST_JOBS;
 use tables::Jobs;
 
 // Each job's start, end and module set, at the job's place.
-#[derive(Drop)]
+#[derive(Clone, Copy)]
 pub struct Slots {
     pub start: [u16; MOST_JOBS],
     pub end: [u16; MOST_JOBS],
