@@ -1,19 +1,18 @@
 -- The earliest end of a sheet is the end of the tie rule's plan, whoever found it.
 use mathlib.Core.Path.{◌≡◌, refl, sym, ap, ◌∙◌}
-use mathlib.Core.Bool.{true, false, cond}
+use mathlib.Core.Bool.{false}
 use mathlib.Core.List.{List}
-use mathlib.Core.Option.{Option, none, some}
-use Prim.Native.Nat.{ℕ, ◌≤◌}
+use mathlib.Core.Option.{some}
+use Prim.Native.Nat.{ℕ}
 use native.Mathlib.Omega.{arith}
-use lib.Dec.{eqb}
 use lib.ListN.{length, replicate}
 use borrow.Author.Tests.{ne_eqb}
-use Rattle.schedule.specs.Plan.{Sheet, Plan, Valid, Lasting, Circular, over_wide, plan_end}
+use Rattle.schedule.specs.Plan.{Sheet, Lasting, Circular, over_wide}
 use Rattle.schedule.specs.ListPlan.{list_plan}
 use Rattle.schedule.specs.TieRule.{Best, end_of, best_order}
 use Rattle.schedule.specs.Ends.{EarliestEnd}
 use Rattle.schedule.proofs.Theorems.{best_exists, best_valid, best_earliest}
-use Rattle.schedule.proofs.Same.{SameJobs, same_back, wide_same, end_same, best_same}
+use Rattle.schedule.proofs.Same.{same_back, wide_same, end_same, best_same}
 use Rattle.tables.specs.Tables.{sheet_of, Fit}
 use Rattle.planable.specs.declared.Checked.{Checked}
 use Rattle.planable.specs.Planable.{sheet_in, planable_refusal, work_after}

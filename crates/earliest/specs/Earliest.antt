@@ -1,5 +1,5 @@
 -- F-9: the end of the plan that planning gives, and no card.
-use Rattle.std.specs.Prelude.{◌≡◌, cond, List, ℕ, ◌+◌, ◌-◌, eqb, length}
+use Rattle.std.specs.Prelude.{◌≡◌, cond, List, ℕ, ◌+◌, eqb, length}
 use Rattle.std.proofs.Math.Option.{none, some}
 use Rattle.words.specs.Words.{number_at}
 use Rattle.schedule.specs.Plan.{Sheet}

@@ -1,4 +1,6 @@
 // The earliest end of a sheet's plans, without a card.
+#![tactic(auto)]
+
 ghost use Rattle.std.specs.Prelude.{◌≡◌};
 ghost use Rattle.planable.specs.Planable.{planable_refusal, work_after};
 ghost use Rattle.earliest.specs.Earliest.{end_answer};

@@ -7,7 +7,6 @@ use native.Mathlib.Omega.{arith}
 use lib.Dec.{ltb}
 use lib.ListN.{length, drop, take, replicate}
 use Rattle.schedule.specs.Plan.{Sheet}
-use Rattle.schedule.specs.TieRule.{end_of}
 use Rattle.schedule.proofs.Same.{SameJobs, same_back, order_same, end_same, best_same}
 use Rattle.tables.specs.Tables.{sheet_of, count_of}
 use Rattle.card.specs.Card.{card_size, card_of}
@@ -20,7 +19,7 @@ use Rattle.planner.proofs.Calls.{Given, ready, none}
 use Rattle.search.specs.declared.Within.{Within}
 use Rattle.search.specs.Search.{no_limit, WithinLimit}
 use Rattle.limited.specs.declared.Limited.{Limited}
-use Rattle.limited.specs.Limited.{refused_with, mark_of, WrittenFor, LimitedCard}
+use Rattle.limited.specs.Limited.{refused_with, mark_of, LimitedCard}
 
 -- what a call gives and leaves
 abbrev pub Gives : List ℕ → List ℕ → List ℕ → List ℕ → List ℕ → ℕ → Limited → Type 0

@@ -1,5 +1,5 @@
 -- The plan of an answered call with a limit is valid, and no valid plan ends before its bound.
-use mathlib.Core.Path.{◌≡◌, sym, ap, ap₂, subst, ◌∙◌}
+use mathlib.Core.Path.{◌≡◌, sym, ap, subst, ◌∙◌}
 use mathlib.Core.Logic.{◌⊎◌, inl, inr}
 use mathlib.Core.List.{List, ◌++◌}
 use Prim.Native.Nat.{ℕ, ◌≤◌, ◌<◌}
@@ -8,12 +8,11 @@ use lib.ListN.{length, drop}
 use Rattle.counting.proofs.Tests.{less-or-not}
 use Rattle.schedule.specs.Plan.{Sheet, Plan, Valid, plan_end}
 use Rattle.schedule.specs.ListPlan.{Order}
-use Rattle.schedule.specs.TieRule.{end_of}
 use Rattle.schedule.proofs.Existence.{narrow_says}
 use Rattle.schedule.proofs.Theorems.{none_ends_by}
 use Rattle.schedule.proofs.Same.{same_back, order_same}
 use Rattle.tables.specs.Tables.{sheet_of}
-use Rattle.card.specs.Card.{card_size, card_of}
+use Rattle.card.specs.Card.{card_size}
 use Rattle.card.specs.Decoding.{Decodes}
 use Rattle.card.proofs.Decoding.{card_decodes}
 use Rattle.card.proofs.OnCard.{card_valid, card_end}
@@ -23,7 +22,7 @@ use Rattle.job_table.proofs.Copies.{has-table}
 use Rattle.planable.specs.Planable.{sheet_in, planable_refusal}
 use Rattle.planable.proofs.Tables.{few_read, lasting_read}
 use Rattle.planable.proofs.Planable.{Passes, passes, Ready, ready-table}
-use Rattle.planner.specs.Planning.{plan_refusal, best_card}
+use Rattle.planner.specs.Planning.{plan_refusal}
 use Rattle.planner.proofs.Cards.{card_same, decodes_same, best-card}
 use Rattle.planner.proofs.Planning.{front_passes, plan-written}
 use Rattle.limited.specs.declared.Limited.{Limited}

@@ -1,5 +1,7 @@
 // Planning with a limit on the part-plans that the search visits: planning's card, or the card of another valid plan and a minute before
 // which no valid plan ends.
+#![tactic(auto)]
+
 ghost use Rattle.std.specs.Prelude.{◌≡◌, ◌≤◌, length, replicate};
 ghost use Rattle.schedule.specs.Plan.{Circular};
 ghost use Rattle.tables.specs.Tables.{sheet_of, count_of, Fit};

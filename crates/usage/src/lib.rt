@@ -1,4 +1,6 @@
 // The call about the use of the cabinet in the plan of a sheet.
+#![tactic(auto)]
+
 ghost use Rattle.std.specs.Prelude.{◌≡◌};
 ghost use Rattle.planable.specs.Planable.{work_after};
 ghost use Rattle.usage.specs.Usage.{use_refusal, usage};
