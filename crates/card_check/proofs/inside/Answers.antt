@@ -8,9 +8,7 @@ use lib.Dec.{ltb, eqb}
 use lib.Pow.{pow_pos}
 use borrow.Author.Tests.{lt-ltb, le-ltb, ne_eqb}
 use Rattle.counting.proofs.Tests.{less-or-not}
-use borrow.Author.Rules.{rules}
-use Rattle.card_check.proofs.inside.Statement.{statement}
-use Rattle.card_check.proofs.inside.Tie as tie
+use Rattle.card_check.proofs.inside.Goals as goal
 
 quotient : (x y : ℕ) → 0 < y → eqb (x / y) 0 ≡ ltb x y
 quotient x y p = go (less-or-not x y)
@@ -21,17 +19,11 @@ quotient x y p = go (less-or-not x y)
         let q : 1 ≤ x / y = (le-div_iff_mul-le p).1 (omega (arith, l)) in
         rw (le-ltb x y l, ne_eqb (x / y) 0 (λ z. absurd (omega arith))) refl
 
-returns : tie.Need-returns
-returns c =
-    let e : c.before.args.modules ≡ 64 = c.if1.true in
-    let l : c.before.args.set < 2 ^ 64 = c.before.ranges.set.fits in
-    sym (rw e (lt-ltb c.before.args.set (2 ^ 64) l))
+pub returns-then-modules-eq64 : goal.returns-then-modules-eq64
+returns-then-modules-eq64 c =
+    let e : c.args.modules ≡ 64 = c.if-modules-eq64.true in
+    let l : c.args.set < 2 ^ 64 = c.ranges.set.fits in
+    sym (rw e (lt-ltb c.args.set (2 ^ 64) l))
 
-shr-result : tie.Need-overflow-shr-result
-shr-result c = search rules
-
-returns-2 : tie.Need-returns-2
-returns-2 c = quotient c.before.args.set (2 ^ c.before.args.modules) (pow_pos c.before.args.modules)
-
-pub inside-spec : {M : Type 1} → statement M
-inside-spec = tie.close (tie.spec returns shr-result returns-2)
+pub returns : goal.returns
+returns c = quotient c.args.set (2 ^ c.args.modules) (pow_pos c.args.modules)
