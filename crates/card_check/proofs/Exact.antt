@@ -1,22 +1,21 @@
 -- The test of a card is true exactly where the card is one for the sheet.
 use mathlib.Core.Path.{◌≡◌, refl, sym, ap, ◌∙◌}
 use mathlib.Core.Logic.{◌⊎◌, inl, inr, ⊎_elim, ◌↔◌, ◌≢◌}
-use mathlib.Core.Bool.{Bool, true, false, not, ◌&&◌, ◌||◌, or-true}
+use mathlib.Core.Bool.{Bool, true, false, ◌&&◌, or-true}
 use mathlib.Core.List.{List}
-use Prim.Native.Nat.{ℕ, zero, suc, ◌+◌, ◌*◌, ◌^◌, ◌≤◌, ◌<◌, zero-le}
+use Prim.Native.Nat.{ℕ, zero, suc, ◌+◌, ◌^◌, ◌≤◌, ◌<◌, zero-le}
 use native.Mathlib.Omega.{arith}
 use native.Mathlib.Nat.{mul-one}
 use lib.Bits.{bit_and}
 use lib.Count.{ones}
 use lib.Dec.{ltb, leb, eqb}
 use lib.ListN.{length}
-use borrow.Author.Tests.{eqb-true, eqb-false, eq-eqb, ne_eqb, leb-true, le-leb, ltb-true, lt-ltb, le-ltb}
-use Rattle.counting.specs.Counting.{only, sum, every, count}
+use borrow.Author.Tests.{eqb-true, eqb-false, eq-eqb, ne_eqb, leb-true, le-leb, ltb-true, lt-ltb}
+use Rattle.counting.specs.Counting.{only, every, count}
 use Rattle.counting.proofs.Tests.{clash, true-or-false, less-or-not, eqb_turned, and_left, and_right, and_both, implied, implication}
 use Rattle.counting.proofs.Sums.{sum_same, sum_swap, sum_const, sum-at}
 use Rattle.counting.proofs.Counts.{count_full}
 use Rattle.counting.proofs.Ranges.{every-at, every_intro}
-use Rattle.bits.specs.Bits.{bit}
 use Rattle.bits.proofs.Digits.{bit_above}
 use Rattle.bits.proofs.Sets.{bits_below, and-empty}
 use Rattle.bits.proofs.Ones.{ones-count}

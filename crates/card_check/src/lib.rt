@@ -1,4 +1,6 @@
 // Whether a card is one for a sheet: of its length, with rows that form a valid plan, an order and a trailer that belong to them.
+#![tactic(auto)]
+
 ghost use Rattle.std.specs.Prelude.{◌≡◌, ◌&&◌, ◌+◌, ◌*◌, ◌^◌, ◌≤◌, ◌<◌, max, ltb, leb, eqb, length, get_or};
 ghost use Rattle.counting.specs.Counting.{only, every, count};
 ghost use Rattle.figures.specs.Figures.{most_jobs, most_modules};

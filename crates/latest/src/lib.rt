@@ -1,4 +1,6 @@
 // The latest start of each job: the one by which it and all jobs that follow it can still meet their departures.
+#![tactic(auto)]
+
 ghost use Rattle.std.specs.Prelude.{◌≡◌, cond, ◌-◌, ◌<◌, ◌≤◌, min};
 ghost use Rattle.figures.specs.Figures.{most_jobs};
 ghost use Rattle.tables.specs.Tables.{count_of, Fit};

@@ -1,5 +1,5 @@
 -- Calls made together: all of them, or none.
-use Rattle.std.specs.Prelude.{Bool, true, false, cond, List, ℕ, ◌+◌, ◌*◌, ◌≤◌, ◌<◌, eqb}
+use Rattle.std.specs.Prelude.{Bool, true, false, cond, List, ℕ, ◌*◌, ◌<◌, eqb}
 use Rattle.counting.specs.Counting.{joined}
 use Rattle.schedule.specs.Plan.{Sheet, Plan}
 use Rattle.tables.specs.Tables.{count_of, need_at}

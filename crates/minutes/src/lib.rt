@@ -1,4 +1,6 @@
 // The calls of a plan that fall due in a minute, hand-backs before claims, made together on a desk; and the last minute that has one.
+#![tactic(auto)]
+
 ghost use Rattle.std.specs.Prelude.{◌≡◌, cond, ◌+◌, ◌*◌, ◌≤◌, ◌<◌, length};
 ghost use Rattle.figures.specs.Figures.{most_jobs};
 ghost use Rattle.tables.specs.Tables.{sheet_of, count_of, need_at};
@@ -14,7 +16,7 @@ use desk::{Booked, Desk};
 use tables::Jobs;
 
 // Who calls, for modules of what size in hundreds of watts, and in which minute.
-#[derive(Drop)]
+#[derive(Clone, Copy)]
 pub struct Turn {
     pub controller: u32,
     pub size: u32,

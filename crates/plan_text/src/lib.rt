@@ -1,4 +1,6 @@
 // The lines of a plan, from its sheet and its card, and of a refusal.
+#![tactic(auto)]
+
 ghost use Rattle.std.specs.Prelude.{◌≡◌, ◌<◌, length};
 ghost use Rattle.figures.specs.Figures.{most_jobs};
 ghost use Rattle.sheet.specs.Read.{reading};

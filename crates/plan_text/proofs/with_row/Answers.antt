@@ -1,0 +1,14 @@
+-- `plan_text::with_row` meets its contract.
+use mathlib.Core.Path.{refl}
+use Rattle.plan_text.proofs.with_row.Goals as goal
+
+pub returns : goal.returns
+returns c =
+    rw (
+      c.with_line.ensures,
+      c.label_in-label.ensures.0,
+      c.read64-modules.ensures,
+      c.read16-end.ensures,
+      c.read16-start.ensures,
+    )
+    refl
