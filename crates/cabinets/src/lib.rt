@@ -1,4 +1,6 @@
 // The least module count with which some valid plan ends by a minute. What a count serves, every larger one serves, so that halving finds it.
+#![tactic(auto)]
+
 ghost use Rattle.std.specs.Prelude.{◌≡◌, ◌-◌, ◌<◌, ◌≤◌, ltb};
 ghost use Rattle.figures.specs.Figures.{most_modules};
 ghost use Rattle.schedule.specs.Cabinets.{with_modules, ends_by};

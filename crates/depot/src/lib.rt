@@ -1,6 +1,8 @@
 // What firmware links: the version, planning, job sheets, the desk where firmware keeps it, and the plan runner. Each is a call of a proved
 // function; include/depot.h declares them for C. The desk's calls copy the lent desk, make the call by value, and put the desk that it hands
 // back in its place. Runners and their desks cross by value.
+#![tactic(auto)]
+
 ghost use Rattle.std.specs.Prelude.{◌≡◌, length};
 ghost use Rattle.planner.specs.Planning.{plan_refusal, card_after, memory_after};
 ghost use Rattle.planable.specs.Planable.{sheet_in, planable_refusal, work_after};

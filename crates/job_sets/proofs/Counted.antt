@@ -10,7 +10,7 @@ use lib.Count.{ones}
 use lib.ListN.{get_or}
 use lib.Pow.{pow_pos, pow_mono, pow-add}
 use borrow.Author.Tests.{eqb-true, eq-eqb}
-use Rattle.counting.specs.Counting.{every, count}
+use Rattle.counting.specs.Counting.{every}
 use Rattle.counting.proofs.Tests.{same_test, less-or-not, and_left, implied, implication, clash, true-or-false}
 use Rattle.counting.proofs.Ranges.{every-at, every_intro}
 use Rattle.counting.proofs.Sums.{sum_single}
