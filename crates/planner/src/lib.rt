@@ -1,4 +1,6 @@
 // Planning: from a job sheet's bytes to the plan card of the plan that ends first, the one that the tie rule names.
+#![tactic(auto)]
+
 ghost use Rattle.std.specs.Prelude.{◌≡◌, ◌++◌, ◌≤◌, ltb, length, drop, replicate};
 ghost use Rattle.figures.specs.Figures.{most_jobs};
 ghost use Rattle.schedule.specs.Plan.{Circular};
