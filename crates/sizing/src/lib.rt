@@ -1,4 +1,6 @@
 // How large a cabinet: the least module count with which some valid plan ends by a minute, and planning's card for that count.
+#![tactic(auto)]
+
 ghost use Rattle.std.specs.Prelude.{◌≡◌, ◌++◌, ◌≤◌, length, drop, replicate};
 ghost use Rattle.figures.specs.Figures.{most_modules};
 ghost use Rattle.schedule.specs.Cabinets.{with_modules};
