@@ -1,4 +1,6 @@
 // Sets of small numbers in one word: a u32 holds jobs, a u64 modules. Member i is bit i, and bit 0 is the lowest.
+#![tactic(auto)]
+
 ghost use Rattle.std.specs.Prelude.{◌≡◌, true, false, ℕ, ◌<◌};
 ghost use Rattle.std.specs.Int.Count.{ones};
 ghost use Rattle.bits.specs.Bits.{bit, with_bit, without_bit, set_of};

@@ -1,5 +1,7 @@
 // Sums, counts, the largest value and tests over the numbers below n: definitions and laws; of two
 // numbers the larger, the smaller and the product; and a byte as an index.
+#![tactic(auto)]
+
 ghost use Rattle.std.specs.Prelude.{◌≡◌, ◌*◌, max, min};
 
 // The larger of two numbers.

@@ -1,4 +1,5 @@
 // Figures that several crates share, each once; specs/Figures.antt has a definition for each.
+#![tactic(auto)]
 
 // Jobs on a sheet, at most.
 pub const MOST_JOBS: usize = 20;

@@ -1,5 +1,4 @@
 -- Heads: no job of a plan starts before its head.
-use mathlib.Core.Path.{◌≡◌}
 use Prim.Native.Nat.{ℕ, zero, suc, ◌+◌, ◌≤◌, ◌<◌, zero-le}
 use native.Mathlib.Omega.{arith}
 use Rattle.counting.specs.Counting.{only}

@@ -1,4 +1,6 @@
 // Numbers of several bytes, little-endian, at a place of a lent slice; bytes copied into one.
+#![tactic(auto)]
+
 ghost use Rattle.std.specs.Prelude.{◌≡◌, ◌+◌, ◌≤◌, length};
 ghost use Rattle.words.specs.Words.{number_at, written};
 

@@ -1,11 +1,10 @@
 -- `words::copy` meets its contract: the first i bytes are copied.
-use mathlib.Core.Path.{◌≡◌, refl, ap, ap₂, ◌∙◌}
+use mathlib.Core.Path.{refl, ap, ap₂, ◌∙◌}
 use mathlib.Core.List.{List, ◌++◌, append-nil}
-use Prim.Native.Nat.{ℕ, ◌-◌, ◌≤◌}
+use Prim.Native.Nat.{ℕ}
 use native.Mathlib.Omega.{arith}
-use lib.ListN.{drop_of_length-le, length, get_or, take, drop, set, length-set}
+use lib.ListN.{drop_of_length-le, get_or, set, length-set}
 use lib.Seq.{take_all}
-use borrow.Author.Rules.{rules}
 use Rattle.words.proofs.Parts.{copy_more}
 use Rattle.words.proofs.copy.Goals as goal
 

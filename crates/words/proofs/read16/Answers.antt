@@ -1,7 +1,6 @@
 -- `words::read16` meets its contract.
 use native.Mathlib.Omega.{arith}
 use Rattle.words.proofs.Numbers.{two_bytes}
-use borrow.Author.Rules.{rules}
 use Rattle.words.proofs.read16.Goals as goal
 
 pub returns : goal.returns

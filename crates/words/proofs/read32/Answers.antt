@@ -1,7 +1,6 @@
 -- `words::read32` meets its contract.
 use native.Mathlib.Omega.{arith}
 use Rattle.words.proofs.Numbers.{four_bytes}
-use borrow.Author.Rules.{rules}
 use Rattle.words.proofs.read32.Goals as goal
 
 pub returns : goal.returns

@@ -1,7 +1,6 @@
 -- `words::read64` meets its contract.
 use native.Mathlib.Omega.{arith}
 use Rattle.words.proofs.Numbers.{eight_bytes}
-use borrow.Author.Rules.{rules}
 use Rattle.words.proofs.read64.Goals as goal
 
 pub returns : goal.returns

@@ -5,7 +5,6 @@ use Prim.Native.Nat.{ℕ, ◌+◌, ◌/◌}
 use native.Mathlib.Omega.{arith}
 use Rattle.words.specs.Words.{written}
 use Rattle.words.proofs.Writes.{written_parts}
-use borrow.Author.Rules.{rules}
 use Rattle.words.proofs.write64.Goals as goal
 
 pub returns : goal.returns
