@@ -66,8 +66,8 @@ extern "C" {
 /* ---- the version ------------------------------------------------------------------------------------------------------------- */
 
 /* Of this header, and as a number: major * 1000000 + minor * 1000 + patch. Bytes of sheets and cards may differ between minors. */
-#define DEPOT_VERSION "0.14.1"
-#define DEPOT_VERSION_NUMBER 14001
+#define DEPOT_VERSION "0.14.0"
+#define DEPOT_VERSION_NUMBER 14000
 
 /*
  * The number of the library that is linked. Compare it with DEPOT_VERSION_NUMBER at the start, so that header and library belong
