@@ -1,22 +1,22 @@
 -- F-13: a controller that keeps to its assured share is answered as if it were alone; mergings of such calls end in the same desk.
 use mathlib.Core.Path.{◌≡◌, refl, sym, ap, ◌∙◌, subst}
-use mathlib.Core.Logic.{◌⊎◌, inl, inr, ⊎_elim, ◌≢◌}
-use mathlib.Core.Bool.{Bool, true, false, cond}
+use mathlib.Core.Logic.{⊎_elim, ◌≢◌}
+use mathlib.Core.Bool.{Bool, true, false}
 use mathlib.Core.List.{List, [], ◌∷◌}
-use Prim.Native.Nat.{ℕ, ◌+◌, ◌-◌, ◌≤◌, ◌<◌}
+use Prim.Native.Nat.{ℕ, ◌+◌, ◌≤◌, ◌<◌}
 use native.Mathlib.Omega.{arith}
 use native.Mathlib.Nat.{le_refl}
-use lib.Dec.{ltb, eqb}
-use lib.ListN.{length, get_or}
+use lib.Dec.{eqb}
+use lib.ListN.{get_or}
 use lib.Seq.{ext_get_or}
-use borrow.Author.Tests.{eqb-true, eqb-false, ltb-true, ltb-false, eq-eqb, ne_eqb, lt-ltb, le-ltb}
-use Rattle.counting.proofs.Tests.{clash, true-or-false, less-or-not, same_or_not}
+use borrow.Author.Tests.{eqb-true, ne_eqb, lt-ltb, le-ltb}
+use Rattle.counting.proofs.Tests.{clash, less-or-not, same_or_not}
 use Rattle.checking.specs.Checking.{first_failing}
 use Rattle.desk.specs.declared.Desk.{Desk}
-use Rattle.desk.specs.Desk.{most_controllers, holding, assured_share}
+use Rattle.desk.specs.Desk.{holding, assured_share}
 use Rattle.desk.specs.Reachable.{Reachable}
 use Rattle.desk.specs.Calls.{Call, claim, hand_back, look, change, is_change, refusal_of, desk_after, desk_after_all}
-use Rattle.desk.specs.Calls.{claim_refusal, claimed, hand_back_refusal, handed_back, looked, changed}
+use Rattle.desk.specs.Calls.{claim_refusal, claimed, hand_back_refusal, handed_back}
 use Rattle.desk.proofs.Sound.{of-desk, none-reserved}
 use Rattle.desk.proofs.Reaches.{reached_sound}
 use Rattle.desk.proofs.Lists.{refused_leaves, reachable-after, reachable-after_all}

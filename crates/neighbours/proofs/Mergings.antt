@@ -1,19 +1,19 @@
 -- F-13 with runners: where all keep to their shares in one merging they do in every, and every merging ends in the same yard.
 use mathlib.Core.Path.{◌≡◌, refl, sym, ap, ◌∙◌, subst}
-use mathlib.Core.Logic.{◌⊎◌, inl, inr, ⊎_elim, ◌≢◌}
-use mathlib.Core.Bool.{Bool, true, false, cond}
-use mathlib.Core.List.{List, [], ◌∷◌, ◌++◌}
+use mathlib.Core.Logic.{⊎_elim}
+use mathlib.Core.Bool.{Bool, true, false}
+use mathlib.Core.List.{List, [], ◌∷◌}
 use Prim.Native.Nat.{ℕ, ◌+◌, ◌≤◌, ◌<◌}
 use native.Mathlib.Omega.{arith}
 use lib.Dec.{eqb}
-use lib.ListN.{length, get_or}
+use lib.ListN.{get_or}
 use lib.Seq.{ext_get_or}
-use borrow.Author.Tests.{eqb-true, eq-eqb}
+use borrow.Author.Tests.{eqb-true}
 use Rattle.counting.proofs.Tests.{clash, less-or-not}
 use Rattle.desk.specs.declared.Desk.{Desk}
 use Rattle.desk.specs.Desk.{holding, assured_share}
 use Rattle.desk.specs.Reachable.{Reachable}
-use Rattle.desk.specs.Calls.{Call, claim, hand_back, look, change, is_change, refusal_of, desk_after, desk_after_all, granted}
+use Rattle.desk.specs.Calls.{Call, claim, hand_back, look, change, desk_after, desk_after_all, granted}
 use Rattle.desk.proofs.Sound.{none-reserved}
 use Rattle.desk.proofs.Reaches.{reached_sound}
 use Rattle.desk.proofs.Lists.{reachable-after}
@@ -21,7 +21,7 @@ use Rattle.desk.specs.Calls.{OnlyHoldings}
 use Rattle.desk.proofs.Holdings.{one_only, one-count}
 use Rattle.assurance.specs.Following.{bears}
 use Rattle.runner.specs.declared.Runner.{Runner}
-use Rattle.runner.specs.Runner.{sheet_of, plan_of, due_now, runner_ok, stepped}
+use Rattle.runner.specs.Runner.{sheet_of, plan_of, due_now, runner_ok}
 use Rattle.runner.specs.Moves.{Yard, Move, call, step, yard_after}
 use Rattle.runner.proofs.Running.{step-desk}
 use Rattle.neighbours.specs.Alone.{alone_number, alone_holding, KeepsWithin}
@@ -29,7 +29,7 @@ use Rattle.neighbours.specs.Moves.{Own, own_after, own_after_all, is_of, moves_o
 use Rattle.neighbours.specs.Moves.{NoChange, own, MergingsSame}
 use Rattle.neighbours.proofs.Alone.{own_alone, unchanged-only}
 use Rattle.neighbours.proofs.Moves.{OwnAll, due-own, not_changes, Agree, FirstKept, first-kept, own_move, own_agree, other_move}
-use Rattle.neighbours.proofs.Moves.{move_reachable, move-count, controllers-kept, moves-kept, moves_alone, all_controllers-kept}
+use Rattle.neighbours.proofs.Moves.{move_reachable, move-count, controllers-kept, moves-kept, moves_alone}
 
 -- ---- what calls made together, and moves, leave as it was
 

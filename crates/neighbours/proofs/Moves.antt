@@ -1,35 +1,33 @@
 -- F-13 with runners: a controller that keeps to its assured share is answered as if it were alone.
 use mathlib.Core.Path.{◌≡◌, refl, sym, ap, ◌∙◌, subst}
-use mathlib.Core.Logic.{◌⊎◌, inl, inr, ⊎_elim, ◌≢◌}
-use mathlib.Core.Bool.{Bool, true, false, not, ◌||◌, cond}
+use mathlib.Core.Logic.{⊎_elim, ◌≢◌}
+use mathlib.Core.Bool.{Bool, true, false, cond}
 use mathlib.Core.List.{List, [], ◌∷◌, ◌++◌}
-use Prim.Native.Nat.{ℕ, zero, suc, ◌+◌, ◌*◌, ◌≤◌, ◌<◌}
+use Prim.Native.Nat.{ℕ, zero, suc, ◌+◌, ◌*◌, ◌<◌}
 use native.Mathlib.Omega.{arith}
 use native.Mathlib.Nat.{le_refl}
-use lib.Dec.{ltb, eqb}
-use lib.ListN.{get_or}
-use borrow.Author.Tests.{eqb-true, eqb-false, eq-eqb, ne_eqb}
+use lib.Dec.{eqb}
+use borrow.Author.Tests.{eqb-true, eqb-false, eq-eqb}
 use Rattle.counting.specs.Counting.{joined}
-use Rattle.counting.proofs.Tests.{clash, true-or-false, same_or_not}
+use Rattle.counting.proofs.Tests.{clash}
 use Rattle.schedule.specs.Plan.{Sheet, Plan}
 use Rattle.desk.specs.declared.Desk.{Desk}
 use Rattle.desk.specs.Desk.{holding, assured_share}
-use Rattle.desk.specs.Checks.{not_of_desk}
 use Rattle.desk.specs.Reachable.{Reachable}
 use Rattle.desk.specs.Calls.{Call, claim, hand_back, look, change, is_change, refusal_of, desk_after, desk_after_all, granted}
 use Rattle.desk.proofs.Sound.{of-desk}
 use Rattle.desk.proofs.Reaches.{reached_sound}
 use Rattle.desk.proofs.Lists.{reachable-after, reachable-after_all}
 use Rattle.desk.proofs.Holdings.{one-count, same_count}
-use Rattle.assurance.specs.Following.{begin, end, minute, bears}
+use Rattle.assurance.specs.Following.{end, minute, bears}
 use Rattle.assurance.specs.Minutes.{hand_backs_due, claims_due, due_calls, first_refusal}
 use Rattle.runner.specs.declared.Runner.{Runner}
 use Rattle.runner.specs.Runner.{sheet_of, plan_of, with_minute, due_now, over, next_minute, runner_ok, not_of_runner, step_refusal, stepped}
-use Rattle.runner.specs.Moves.{Yard, Move, call, step, number_of, desk_after_move, runners_after, yard_after}
-use Rattle.runner.proofs.Running.{NotOf, due-not_of, others-ready, step-desk}
+use Rattle.runner.specs.Moves.{Yard, Move, call, step, number_of, yard_after}
+use Rattle.runner.proofs.Running.{due-not_of, others-ready, step-desk}
 use Rattle.neighbours.specs.Alone.{alone_number, alone_holding, alone_after, KeepsWithin}
-use Rattle.neighbours.specs.Moves.{alone_first, Own, own_number, own_holding, own_runners, own_after, own_numbers, own_after_all}
-use Rattle.neighbours.specs.Moves.{is_of, moves_of, numbers_of, yard_after_all, WithinTogether, MoveWithin, MovesWithin, NoChange, own, Unnoticed, MovesAlone}
+use Rattle.neighbours.specs.Moves.{alone_first, Own, own_number, own_after, own_numbers, own_after_all}
+use Rattle.neighbours.specs.Moves.{is_of, moves_of, numbers_of, yard_after_all, WithinTogether, MoveWithin, MovesWithin, NoChange, own, MovesAlone}
 use Rattle.neighbours.proofs.Alone.{own_alone, other_leaves}
 
 -- ---- own calls made together

@@ -1,32 +1,31 @@
 -- A runner that runs keeps to its assured share by itself: of a controller that makes no other calls nothing more is asked.
 use mathlib.Core.Path.{◌≡◌, refl, sym, ap, ◌∙◌, subst}
-use mathlib.Core.Logic.{◌⊎◌, inl, inr, ⊎_elim}
+use mathlib.Core.Logic.{⊎_elim}
 use mathlib.Core.Bool.{Bool, true, false, cond}
 use mathlib.Core.List.{List, [], ◌∷◌, ◌++◌}
-use Prim.Native.Nat.{ℕ, zero, suc, ◌+◌, ◌*◌, ◌≤◌, ◌<◌}
+use Prim.Native.Nat.{ℕ, zero, suc, ◌+◌, ◌*◌, ◌≤◌}
 use native.Mathlib.Omega.{arith}
 use native.Mathlib.Nat.{le_refl, le_trans, mul-le-mul_right}
 use lib.Dec.{eqb}
 use lib.ListN.{get_or}
 use borrow.Author.Tests.{eq-eqb, leb-true}
-use Rattle.counting.specs.Counting.{only, joined}
+use Rattle.counting.specs.Counting.{joined}
 use Rattle.counting.proofs.Tests.{clash, true-or-false}
 use Rattle.schedule.specs.Plan.{Sheet, Plan}
 use Rattle.schedule.proofs.Earliest.{load-le}
 use Rattle.desk.specs.declared.Desk.{Desk}
 use Rattle.desk.specs.Desk.{holding, assured_share}
 use Rattle.desk.specs.Reachable.{Reachable}
-use Rattle.desk.specs.Calls.{Call, claim, hand_back, look, change, refusal_of, desk_after, desk_after_all, granted}
+use Rattle.desk.specs.Calls.{Call, claim, hand_back, look, change, desk_after, desk_after_all, granted}
 use Rattle.desk.proofs.Holdings.{claim_adds, one_only}
 use Rattle.desk.proofs.Lists.{reachable-after, reachable-after_all}
 use Rattle.assurance.specs.Following.{begin, end, minute, plan_need}
-use Rattle.assurance.specs.Minutes.{hand_backs_due, claims_due, due_calls, last_minute, held_before, first_refusal}
+use Rattle.assurance.specs.Minutes.{hand_backs_due, claims_due, due_calls, held_before, first_refusal}
 use Rattle.assurance.proofs.Minutes.{after-append, first-append, granted_all, held_next, minute-granted}
 use Rattle.runner.specs.declared.Runner.{Runner}
-use Rattle.runner.specs.Runner.{sheet_of, plan_of, due_now, over, runner_ok}
+use Rattle.runner.specs.Runner.{sheet_of, plan_of, due_now, over}
 use Rattle.runner.specs.Moves.{Yard, step}
 use Rattle.runner.proofs.Running.{runner_says, Running, none_due}
-use Rattle.neighbours.specs.Alone.{KeepsWithin}
 use Rattle.neighbours.specs.Moves.{WithinTogether, MoveWithin}
 
 -- ---- lists of calls

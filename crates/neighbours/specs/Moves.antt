@@ -1,7 +1,7 @@
 -- F-13 with runners: "The plan runner's minutes count as its controller's calls".
-use Rattle.std.specs.Prelude.{◌≡◌, ◌≢◌, Bool, true, false, not, cond, List, [], ◌∷◌, ℕ, ◌+◌, ◌≤◌, ◌<◌, eqb}
+use Rattle.std.specs.Prelude.{◌≡◌, ◌≢◌, Bool, true, cond, List, [], ◌∷◌, ℕ, ◌<◌, eqb}
 use Rattle.desk.specs.declared.Desk.{Desk}
-use Rattle.desk.specs.Desk.{holding, assured_share}
+use Rattle.desk.specs.Desk.{holding}
 use Rattle.desk.specs.Reachable.{Reachable}
 use Rattle.desk.specs.Calls.{Call, is_change, refusal_of, desk_after, granted}
 use Rattle.assurance.specs.Following.{bears}

@@ -22,7 +22,6 @@ use Rattle.schedule.specs.TieRule.{best_order}
 use Rattle.card.specs.Card.{lateness_of}
 use Rattle.card.proofs.Differences.{difference_small}
 use Rattle.sheet.specs.Read.{read_refusal}
-use Rattle.sheet.proofs.Answers.{reads}
 use Rattle.planable.specs.Planable.{sheet_in}
 use Rattle.planable.proofs.Tables.{most_read, job_read}
 use Rattle.planable.proofs.Planable.{passes}

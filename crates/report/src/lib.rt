@@ -1,4 +1,6 @@
 // What the printing program prints of a job sheet: the lines of the tie rule's plan, or the refusal.
+#![tactic(auto)]
+
 ghost use Rattle.std.specs.Prelude.{◌≡◌};
 ghost use Rattle.planner.specs.Planning.{memory_after};
 ghost use Rattle.text.specs.Texts.{text_of};

@@ -4,9 +4,9 @@ use mathlib.Core.Logic.{◌≢◌}
 use mathlib.Core.Bool.{Bool, true, false, ◌&&◌}
 use mathlib.Core.List.{List}
 use Prim.Native.Nat.{ℕ, ◌*◌, ◌≤◌}
-use lib.Dec.{ltb, leb, eqb}
+use lib.Dec.{ltb, leb}
 use borrow.Author.Tests.{eq-eqb, ne_eqb}
-use Rattle.counting.proofs.Tests.{true-or-false, clash, and_left, and_right}
+use Rattle.counting.proofs.Tests.{clash, and_left, and_right}
 use Rattle.tables.specs.Tables as tables
 use Rattle.sheet_format.specs.Figures.{longest_sheet}
 use Rattle.planable.specs.declared.Checked.{Checked}
@@ -19,7 +19,7 @@ use Rattle.desk.specs.Desk.{most_power, most_controllers}
 use Rattle.desk.specs.Checks.{in_range}
 use Rattle.assurance.specs.Following.{plan_need}
 use Rattle.runner.specs.declared.Runner.{Runner}
-use Rattle.runner.specs.Runner.{longest_card, largest_size, kept_sheet, kept_card, sheet_of, zeros_behind, kept_ok}
+use Rattle.runner.specs.Runner.{longest_card, largest_size, kept_sheet, kept_card, zeros_behind, kept_ok}
 use Rattle.runner.specs.Results.{KeptOf}
 use Rattle.runner.proofs.Places.{behind-inside}
 

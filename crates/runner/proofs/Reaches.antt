@@ -2,17 +2,17 @@
 -- accepted start every step is granted.
 use mathlib.Core.Path.{◌≡◌, refl, sym, ap, subst, ◌∙◌}
 use mathlib.Core.Logic.{⊎_elim, ◌↔◌, ◌≢◌}
-use mathlib.Core.Bool.{Bool, true, false, ◌&&◌}
+use mathlib.Core.Bool.{true}
 use mathlib.Core.List.{List}
 use Prim.Native.Nat.{ℕ, zero, suc, ◌+◌, ◌-◌, ◌*◌, ◌≤◌, ◌<◌, zero-le}
 use native.Mathlib.Omega.{arith}
 use native.Mathlib.Nat.{one-le-mul, zero-mul}
 use native.Mathlib.Numerals.{add-one}
 use lib.Dec.{leb, eqb}
-use lib.ListN.{length, set, take, replicate, length-replicate, get_or-replicate, length-set}
+use lib.ListN.{length, set, replicate, length-replicate, get_or-replicate, length-set}
 use lib.Seq.{take-append_seam, get_or-set_same, get_or-set_other}
 use borrow.Author.Tests.{eq-eqb, ne_eqb, leb-true, le-leb, lt-leb, lt-ltb, le-ltb}
-use Rattle.counting.specs.Counting.{only, sum}
+use Rattle.counting.specs.Counting.{only}
 use Rattle.counting.proofs.Tests.{same_or_not, and_left, and_right, and_both}
 use Rattle.counting.proofs.Sums.{sum_same, sum_single, sum-zero}
 use Rattle.schedule.specs.Plan.{Sheet, Plan}
@@ -24,7 +24,6 @@ use Rattle.card_check.specs.Test.{card_fits}
 use Rattle.desk.specs.declared.Desk.{Desk}
 use Rattle.desk.specs.Desk.{most_power, most_controllers, assured_share, ceiling_of, reserved, zeros}
 use Rattle.desk.specs.Checks.{not_of_desk}
-use Rattle.desk.specs.Calls.{desk_after_all}
 use Rattle.desk.proofs.Sound.{Sound, of-desk_says, of-desk, range_says}
 use Rattle.desk.proofs.Reaches.{reached_sound, sound_reached}
 use Rattle.desk.proofs.Padded.{zero-at}

@@ -1,23 +1,21 @@
 -- F-11: after an accepted start every step is granted, as long as the moves between let the runner run.
 use mathlib.Core.Path.{◌≡◌, refl, sym, ap, ◌∙◌, subst}
 use mathlib.Core.Logic.{◌⊎◌, inl, inr, ⊎_elim, ◌≢◌}
-use mathlib.Core.Bool.{Bool, true, false, not, ◌&&◌, ◌||◌, cond}
+use mathlib.Core.Bool.{Bool, true, false, cond}
 use mathlib.Core.List.{List, [], ◌∷◌, ◌++◌}
 use Prim.Native.Nat.{ℕ, zero, suc, ◌+◌, ◌*◌, ◌≤◌, ◌<◌}
 use native.Mathlib.Omega.{arith}
-use native.Mathlib.Nat.{le_trans, le_refl}
-use lib.Dec.{ltb, leb, eqb}
+use lib.Dec.{leb, eqb}
 use lib.ListN.{get_or}
-use borrow.Author.Tests.{eqb-true, eqb-false, eq-eqb, ne_eqb, leb-true, le-leb}
-use Rattle.counting.specs.Counting.{largest, joined}
-use Rattle.counting.proofs.Tests.{clash, true-or-false, same_or_not, and_left, and_right, and_both, less-or-not}
+use borrow.Author.Tests.{eq-eqb, ne_eqb, leb-true, le-leb}
+use Rattle.counting.specs.Counting.{joined}
+use Rattle.counting.proofs.Tests.{clash, true-or-false, same_or_not, and_left, and_both, less-or-not}
 use Rattle.counting.proofs.Ranges.{le-largest}
 use Rattle.schedule.specs.Plan.{Sheet, Plan, Valid, Lasting, Needing}
 use Rattle.desk.specs.declared.Desk.{Desk}
-use Rattle.desk.specs.Desk.{holding, assured_share}
-use Rattle.desk.specs.Checks.{not_of_desk}
+use Rattle.desk.specs.Desk.{assured_share}
 use Rattle.desk.specs.Reachable.{Reachable}
-use Rattle.desk.specs.Calls.{Call, claim, hand_back, is_change, refusal_of, desk_after, desk_after_all}
+use Rattle.desk.specs.Calls.{Call, claim, hand_back, is_change, desk_after, desk_after_all}
 use Rattle.planable.proofs.Planable.{passes}
 use Rattle.planable.proofs.Tables.{lasting_read, needing_read}
 use Rattle.card_check.proofs.Exact.{card_says}
@@ -25,14 +23,14 @@ use Rattle.desk.proofs.Sound.{of-desk, range_says}
 use Rattle.desk.proofs.Reaches.{reached_sound}
 use Rattle.desk.proofs.Lists.{reachable-after, reachable-after_all}
 use Rattle.desk.proofs.Holdings.{one_only, one-count, same_count}
-use Rattle.assurance.specs.Following.{begin, end, minute, bears, plan_need, Ready}
+use Rattle.assurance.specs.Following.{end, minute, bears, plan_need, Ready}
 use Rattle.assurance.specs.Minutes.{hand_backs_due, claims_due, due_calls, last_minute, held_before, first_refusal}
 use Rattle.assurance.proofs.Shares.{other_call}
 use Rattle.assurance.proofs.Minutes.{granted_all, minute-granted}
 use Rattle.runner.specs.declared.Runner.{Runner}
 use Rattle.runner.specs.Runner.{largest_size, kept_sheet, kept_card, sheet_of, plan_of, with_minute, due_now, over, next_minute, kept_ok, runner_ok, not_of_runner, step_refusal, stepped}
-use Rattle.runner.specs.Moves.{Yard, Move, call, step, number_of, desk_after_move, runners_after, yard_after}
-use Rattle.runner.specs.Moves.{LetsRun, Undisturbed, StepsGranted}
+use Rattle.runner.specs.Moves.{Yard, Move, call, step, desk_after_move, runners_after, yard_after}
+use Rattle.runner.specs.Moves.{Undisturbed, StepsGranted}
 use Rattle.runner.proofs.Passes.{Kept, kept_says}
 
 -- what the test of a runner says of its sheet and plan

@@ -1,15 +1,13 @@
 -- What a step answers, from what its parts give.
 use mathlib.Core.Path.{◌≡◌, refl, sym, ap, ◌∙◌}
 use mathlib.Core.Logic.{◌≢◌}
-use mathlib.Core.Bool.{Bool, true, false, not, ◌||◌, cond}
+use mathlib.Core.Bool.{true, false, cond}
 use mathlib.Core.List.{List}
-use Prim.Native.Nat.{ℕ, ◌+◌, ◌*◌, ◌≤◌, ◌<◌}
+use Prim.Native.Nat.{ℕ, ◌+◌, ◌≤◌, ◌<◌}
 use native.Mathlib.Omega.{arith}
 use native.Mathlib.Nat.{mul-le-mul}
-use lib.Dec.{leb, eqb}
-use lib.ListN.{length}
-use borrow.Author.Tests.{ne_eqb, eq-eqb, lt-leb, le-leb}
-use Rattle.schedule.proofs.Same.{SameJobs}
+use lib.Dec.{leb}
+use borrow.Author.Tests.{ne_eqb, lt-leb, le-leb}
 use Rattle.tables.specs.Tables as tables
 use Rattle.planable.proofs.Planable.{Ready, ready-table}
 use Rattle.card.specs.Card.{card_size}

@@ -6,7 +6,7 @@ use mathlib.Core.Bool.{Bool, true, false, not, cond, or-true}
 use mathlib.Core.List.{List, [], ◌∷◌, ◌++◌}
 use Prim.Native.Nat.{ℕ, zero, suc, ◌*◌, ◌<◌}
 use native.Mathlib.Omega.{arith}
-use lib.Dec.{leb, eqb}
+use lib.Dec.{eqb}
 use borrow.Author.Tests.{ne_eqb, leb-true}
 use Rattle.counting.specs.Counting.{joined, every}
 use Rattle.counting.proofs.Tests.{true-or-false, clash, or_left}
@@ -27,7 +27,7 @@ use Rattle.assurance.specs.Following.{begin, end, minute, FollowsPlan}
 use Rattle.assurance.specs.Minutes.{hand_backs_due, claims_due, due_calls, last_minute, first_refusal}
 use Rattle.assurance.proofs.Follows.{minutes_follow}
 use Rattle.runner.specs.declared.Runner.{Runner}
-use Rattle.runner.specs.Runner.{sheet_of, plan_of, no_runner, with_minute, start_checks, start_refusal, due_now, over, next_minute, kept_ok, runner_ok}
+use Rattle.runner.specs.Runner.{sheet_of, plan_of, no_runner, with_minute, start_checks, start_refusal, due_now, over, kept_ok, runner_ok}
 use Rattle.runner.specs.Runner.{zeros_behind, not_of_runner, step_refusal, stepped}
 use Rattle.runner.specs.Reachable.{LeftBySteps}
 use Rattle.runner.proofs.Running.{none_due}

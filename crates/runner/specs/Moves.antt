@@ -1,5 +1,5 @@
 -- F-11: a yard with one desk and its runners, and what a list of calls and minutes does there.
-use Rattle.std.specs.Prelude.{◌≡◌, ◌⊎◌, ◌≢◌, Bool, true, false, cond, List, [], ◌∷◌, ℕ, ◌≤◌, eqb}
+use Rattle.std.specs.Prelude.{◌≡◌, ◌⊎◌, ◌≢◌, true, false, cond, List, [], ◌∷◌, ℕ, ◌≤◌, eqb}
 use Rattle.desk.specs.declared.Desk.{Desk}
 use Rattle.desk.specs.Desk.{assured_share}
 use Rattle.desk.specs.Calls.{Call, refusal_of, desk_after}

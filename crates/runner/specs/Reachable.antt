@@ -1,5 +1,5 @@
 -- The runners that an accepted start and later steps can leave.
-use Rattle.std.specs.Prelude.{◌≡◌, Bool, true, false, List, ℕ}
+use Rattle.std.specs.Prelude.{◌≡◌, false, List, ℕ}
 use Rattle.desk.specs.declared.Desk.{Desk}
 use Rattle.desk.specs.Checks.{not_of_desk}
 use Rattle.assurance.specs.Minutes.{first_refusal}

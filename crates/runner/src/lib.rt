@@ -1,5 +1,7 @@
 // The plan runner: it follows the plan on a card, minute by minute, on a desk. It relies on the calls of planner and desk by their
 // contracts alone.
+#![tactic(auto)]
+
 ghost use Rattle.std.specs.Prelude.{◌≡◌, cond, ◌&&◌, ◌||◌, ◌+◌, ◌≤◌, ◌<◌, ltb, leb, eqb, length, get_or};
 ghost use Rattle.counting.specs.Counting.{every};
 ghost use Rattle.checking.specs.Checking.{first_failing};
@@ -27,7 +29,7 @@ pub const LARGEST_SIZE: u32 = 10000;
 
 // A runner between two minutes: what an accepted start was given, and the next minute. A refused start's is all 0.
 #[repr(C)]
-#[derive(Drop)]
+#[derive(Clone, Copy)]
 pub struct Runner {
     // The controller for which it calls.
     pub controller: u32,

@@ -1,4 +1,6 @@
 // Slack: how long each job may wait before it or a job that follows it misses its departure, and which earlier-job marks others imply.
+#![tactic(auto)]
+
 ghost use Rattle.std.specs.Prelude.{◌≡◌, ◌<◌, ◌≤◌, pos, ◌-ℤ◌, length, replicate};
 ghost use Rattle.figures.specs.Figures.{most_jobs, last_end};
 ghost use Rattle.schedule.specs.Plan.{Circular};
@@ -15,7 +17,7 @@ use tables::Jobs;
 
 // A job's latest start, the slack of its planned start, and its earlier-job marks that others imply, a set.
 #[repr(C)]
-#[derive(Drop)]
+#[derive(Clone, Copy)]
 pub struct JobSlack {
     pub latest_start: i32,
     pub slack: i32,

@@ -1,0 +1,27 @@
+-- `runner::step` meets its contract.
+use mathlib.Core.Path.{◌≡◌, sym, ap, ◌∙◌}
+use mathlib.Core.Bool.{false}
+use Rattle.desk.specs.declared.Looked.{Looked}
+use Rattle.desk.specs.Checks.{not_of_desk}
+use Rattle.runner.proofs.Passes.{look-refused, look-granted}
+use Rattle.runner.proofs.Steps.{wrong-desk, not-kept}
+use Rattle.runner.proofs.step.Goals as goal
+
+pub returns-then-look-ne0 : goal.returns-then-look-ne0
+returns-then-look-ne0 c =
+    let a = c.args in
+    wrong-desk a.desk a.runner
+    (look-refused a.desk a.runner.controller (λ z. c.if-look-ne0.true (ap (λ (r : Looked). r.refusal) c.look.ensures ∙ z)))
+
+pub returns-then-not-kept : goal.returns-then-not-kept
+returns-then-not-kept c =
+    let of-desk : not_of_desk c.args.desk c.args.runner.controller ≡ false = look-granted _ _ (ap (λ (r : Looked). r.refusal) (sym c.look.ensures) ∙ c.if-look-ne0.false) in
+    let a = c.args in
+    not-kept a.desk a.runner of-desk (sym c.test_kept-kept.ensures.ok ∙ c.if-not-kept.true)
+
+pub step_kept-requires : goal.step_kept-requires
+step_kept-requires c =
+    let of-desk : not_of_desk c.args.desk c.args.runner.controller ≡ false = look-granted _ _ (ap (λ (r : Looked). r.refusal) (sym c.look.ensures) ∙ c.if-look-ne0.false) in
+    let k = c.test_kept-kept.ensures in
+    let ok = c.if-not-kept.false in
+    record { desk = of-desk; kept = sym k.ok ∙ ok; table = k.table ok }
