@@ -1,4 +1,4 @@
--- An instance: two operators on a feeder of 300 k_w, assured of 120 and 90 k_w.
+-- An instance: two operators on a feeder of 300 kW, assured of 120 and 90 kW.
 use mathlib.Core.Path.{◌≡◌, refl}
 use mathlib.Core.Bool.{Bool, true, not, ◌&&◌, ◌||◌}
 use mathlib.Core.List.{List, [], ◌∷◌}
@@ -113,7 +113,7 @@ greed_unnoticed =
     unnoticed beside_greed one_merging opened opened 0 (omega arith) (omega arith) within_greed (both_within 0 (omega arith))
     (unchanged_says feeder beside_greed refl) (unchanged_says feeder one_merging refl) refl refl
 
--- A look shows what the neighbour leaves: 150 k_w, and 60 k_w behind its claim of 180.
+-- A look shows what the neighbour leaves: 150 kW, and 60 kW behind its claim of 180.
 pub looks_differ : ((looked (desk_after_all feeder (claim 0 600 ∷ [])) 0).power ≡ 1500)
     × ((looked (desk_after_all feeder (claim 0 600 ∷ claim 1 1800 ∷ [])) 0).power ≡ 600)
 unfolding sum every any first_failing desk_ok not_of_desk claim_refusal claimed look_refusal looked

@@ -1,5 +1,5 @@
 -- F-13 with runners: "The plan runner's minutes count as its controller's calls".
-use Rattle.std.specs.Prelude.{◌≡◌, ◌≢◌, Bool, true, cond, List, [], ◌∷◌, ℕ, ◌<◌, eqb}
+use Rattle.std.specs.Prelude.{◌≡◌, ◌≢◌, Bool, true, not, cond, List, [], ◌∷◌, ℕ, ◌<◌, eqb}
 use Rattle.desk.specs.declared.Desk.{Desk}
 use Rattle.desk.specs.Desk.{holding}
 use Rattle.desk.specs.Reachable.{Reachable}
