@@ -101,8 +101,7 @@ pub record EveryAnswerIsRight : Type 0 where
   -- R-2.4: it is the one that the tie rule names, and the card's bytes are its
   pub tie_ruled : (s card : List ℕ) → plan_refusal s (length card) ≡ 0
       → (order : List ℕ) × Best (sheet_in s) order × (card_after s card ≡ card_of (sheet_in s) order ++ drop (card_size (sheet_in s).jobs) card)
-  -- P-26, P-27: the plan of an answered call with a limit is valid, no valid plan ends before its bound, and marked it is planning's and
-  -- ends at the bound
+  -- P-26, P-27: the plan of an answered call with a limit is valid, no valid plan ends before its bound, and marked it is planning's
   pub limited : LimitedAnswered
   -- R-2.5: a claim of 1 or more is granted if and only if the two sums allow it
   pub claims : (d : Desk) → LeftByCalls d → (c : ℕ) → c < d.count → (k : ℕ) → 1 ≤ k

@@ -58,8 +58,7 @@ pub extern "C" fn depot_plan(sheet: &[u8], card: &mut [u8], work: &mut [u8]) -> 
 
 // Planning with a limit: the search gives up after about so many part-plans, at UINT64_MAX never. Answered, or the first refusal of 1 to 10
 // and 19. Answered, the card of a valid plan is at the front of the lent card and the working memory is all zero; no valid plan ends before
-// the bound, and where the mark is 1 the card is planning's and the bound is its plan's end. Refused, every lent byte is as before. The
-// three buffers do not overlap.
+// the bound, and where the mark is 1 the card is planning's. Refused, every lent byte is as before. The three buffers do not overlap.
 #[unsafe(no_mangle)]
 pub extern "C" fn depot_plan_within(
     sheet: &[u8],
