@@ -1,4 +1,4 @@
--- An instance: modules of 30 k_w, E9's desk in hundreds of watts. Controller 1 follows E1's plan, while controller 0 takes all it can get,
+-- An instance: modules of 30 kW, E9's desk in hundreds of watts. Controller 1 follows E1's plan, while controller 0 takes all it can get,
 -- others' calls are refused, and the limit and the shares change.
 use mathlib.Core.Path.{◌≡◌, refl}
 use mathlib.Core.Bool.{Bool, true, false, ◌&&◌}
@@ -109,7 +109,7 @@ yard-follows = record { events = yard_events; once = once_says 3 yard_events ref
 
 -- ---- so every call of controller 1 is granted
 
--- behind every call its share is what the plan needs, 2 modules of 30 k_w, or more
+-- behind every call its share is what the plan needs, 2 modules of 30 kW, or more
 yard_keeps : KeepsShare 600 1 yard_desk yard_calls
 unfolding sum every any first_failing wrong_lengths wrong_figures shares_exceed desk_ok not_of_desk wrong_count some_holds_more raised_exceed
     claim_refusal claimed hand_back_refusal handed_back look_refusal looked change_refusal changed

@@ -21,10 +21,9 @@ use Rattle.earliest.proofs.Promised.{end_number}
 use Rattle.usage.specs.Usage.{use_checks, use_refusal}
 use Rattle.usage.proofs.Promised.{use_number, use-refused, use_passed}
 use Rattle.job_sets.proofs.Answers.{sets_number}
-use Rattle.slack.specs.Slack.{slacks}
 use Rattle.slack.proofs.Promised.{slack_number}
 use Rattle.limited.proofs.Promised.{limited-answered}
-use Rattle.sizing.specs.Sizing.{size_checks, size_refusal, size_card_after, size_work_after}
+use Rattle.sizing.specs.Sizing.{size_checks, size_refusal, size_card_after}
 use Rattle.sizing.proofs.Refusals.{size-refused}
 use Rattle.desk.specs.declared.Desk.{Desk}
 use Rattle.desk.specs.Calls.{opened, Call, claim, hand_back, look, change, refusal_of}

@@ -1,4 +1,4 @@
--- F-11's rows: E1's sheet and card on E9's desk with modules of 30 k_w, started, stepped and refused.
+-- F-11's rows: E1's sheet and card on E9's desk with modules of 30 kW, started, stepped and refused.
 use Rattle.std.specs.Prelude.{◌≡◌, Bool, ◌&&◌, List, [], ◌∷◌, ℕ, eqb, replicate}
 use Rattle.schedule.specs.Rows.{same_list}
 use Rattle.desk.specs.declared.Desk.{Desk}
@@ -41,7 +41,7 @@ card =
     ∷ 0 ∷ 2 ∷ 1
     ∷ 36 ∷ 0 ∷ 0 ∷ 0 ∷ 30 ∷ 0 ∷ 3 ∷ 0 ∷ []
 
--- E9's desk with modules of 30 k_w, and the same behind some calls
+-- E9's desk with modules of 30 kW, and the same behind some calls
 abbrev pub behind : List Call → Desk
 behind l = desk_after_all (opened 3000 (1200 ∷ 900 ∷ []) (3000 ∷ 3000 ∷ [])).desk l
 
@@ -65,7 +65,7 @@ resting_at t =
 
 unfoldable pub runs : List Run
 runs =
-    -- N times s is 600, and controller 0 is assured of 1200: a start is accepted up to modules of 60 k_w
+    -- N times s is 600, and controller 0 is assured of 1200: a start is accepted up to modules of 60 kW
     start sheet card (behind []) 0 300 0
     ∷ start sheet card (behind []) 0 600 0
     -- "25 when the controller's assured share is below N times s or it holds something"

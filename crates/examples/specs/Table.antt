@@ -51,9 +51,9 @@ e9 =
     ∷ (claim 1 1, refused 17)
     ∷ []
 
--- F-6: the same with modules of 30 k_w, every figure times 300: looks give the old figure times 300, and numbers are as before
-abbrev pub e9_in30k_w : List (Call × Reply)
-e9_in30k_w =
+-- F-6: the same with modules of 30 kW, every figure times 300: looks give the old figure times 300, and numbers are as before
+abbrev pub e9_in_30_kw : List (Call × Reply)
+e9_in_30_kw =
     (look 0, gives 2100)
     ∷ (look 1, gives 1800)
     ∷ (claim 0 2100, done)
@@ -122,9 +122,9 @@ table =
     ∷ desk 10 (6 ∷ 5 ∷ []) (10 ∷ 10 ∷ []) 13 []
     ∷ desk 10 (5 ∷ 5 ∷ []) (10 ∷ 10 ∷ []) 0 []
     -- F-6: E9 and E10 with every figure times 300
-    ∷ desk 3000 (1200 ∷ 900 ∷ []) (3000 ∷ 3000 ∷ []) 0 e9_in30k_w
+    ∷ desk 3000 (1200 ∷ 900 ∷ []) (3000 ∷ 3000 ∷ []) 0 e9_in_30_kw
     ∷ desk 3000 (1200 ∷ 900 ∷ []) (3000 ∷ 3000 ∷ []) 0
-    (e9_in30k_w ++ ((hand_back 0 2400, refused 18) ∷ (hand_back 0 2100, done) ∷ []))
+    (e9_in_30_kw ++ ((hand_back 0 2400, refused 18) ∷ (hand_back 0 2100, done) ∷ []))
     -- F-2: E1 with A on the road until minute 25: order 1, 0, 2, and C starts no earlier than A before it
     ∷ call (sheet_with (arriving 1 10 0 30 25 ∷ entry 2 20 0 25 ∷ entry 1 10 0 30 ∷ []) 2) (replicate 47 7) 0
     (25 ∷ 0 ∷ 35 ∷ 0 ∷ 1 ∷ 0 ∷ 0 ∷ 0 ∷ 0 ∷ 0 ∷ 0 ∷ 0
