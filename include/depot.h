@@ -23,7 +23,7 @@
  *             depot_size within DEPOT_SIZE_STACK, depot_sets within DEPOT_SETS_STACK, depot_runner_start and depot_runner_step within DEPOT_RUNNER_STACK,
  *             every other call within DEPOT_CALL_STACK.
  *             The tests of the host package hold these figures.
- * Names       that begin with depot_ or DEPOT_ belong to the library. It calls memcpy, memmove and memset, and nothing else.
+ * Names       that begin with depot_ or DEPOT_ belong to the library. It calls none but memcpy, memmove and memset.
  *
  * Numbers of several bytes in a sheet or on a card are little-endian; bit 0 is the lowest.
  */

@@ -1,5 +1,5 @@
 #!/usr/bin/env python3
-"""Runs the printing program, which the gate's proofs or 'rt run' leave in its crate's out/, on sheets and compares what it prints with the lines of X-2 to X-4, written out here.
+"""Runs the printing program, which 'rt run' leaves in its crate's out/, on sheets and compares what it prints with the lines of X-2 to X-4, written out here.
 
 'depot plan --raw' is held to the same cases, which stand in host/tests/golden/printed.txt: --write writes that file, and without
 it the file is compared."""

@@ -331,7 +331,9 @@ fn archive_has_the_declared_names() {
     }
     defined.sort();
     assert_eq!(defined, c_calls().keys().collect::<Vec<_>>());
-    assert_eq!(needed, ["memcpy", "memmove", "memset"]);
+    let allowed = ["memcpy", "memmove", "memset"];
+    assert!(needed.iter().all(|name| allowed.contains(name)), "the archive needs {needed:?}");
+    assert!(needed.contains(&"memcpy"), "copies in the archive are calls: {needed:?}");
 }
 
 /// Every file that a header names is in the repository, but for the archive, which is made.
