@@ -132,7 +132,7 @@ module _ {t : List ℕ} {part : Part} (known : Known t part)
       (λ m l. ap (λ (x : ℕ). served x m) (held_is m)) in
       release_cut S known.fit.lasting known.fit.narrow w known.is.follows least starts.low
       (none_before known starts) T (release_at at least) S.need o.value (λ x. x) o.reach released
-      (λ X x l left short. short) (λ a b l m. l) serves o.reach-none o.reach-rises
+      (λ X x l short. short) (λ a b l m. l) serves o.reach-none o.reach-rises
       (omega (arith, free, of_set (λ k. need_at t k * o.value k), o.over))
     where
       serves : ServesFrom S P C (release_at at least) o.value o.reach

@@ -11,7 +11,7 @@ use Rattle.counting.specs.Counting.{only, sum, Rises, Holds}
 use Rattle.counting.proofs.Tests.{true-or-false, clash, less-or-not}
 use Rattle.schedule.specs.Plan.{Sheet, Plan, Valid, finish, plan_end, Narrow, Lasting}
 use Rattle.schedule.specs.ListPlan.{PartPlan, no_jobs, Follows, occupies, place_all, part_of, occupied}
-use Rattle.schedule.specs.Bounds.{kept, chain, head, must_run, minutes_behind, gain, StandsOn, Lasts, ServesFrom}
+use Rattle.schedule.specs.Bounds.{kept, chain, head, must_run, minutes_behind, gain, Lasts, ServesFrom}
 use Rattle.schedule.specs.PartPlans.{Sound, Completes, NoneBefore}
 use Rattle.schedule.specs.Beginnings.{CannotBeat}
 use Rattle.schedule.proofs.Sound.{part_sound, place_all_sound, completes_all, complete_valid}
@@ -52,7 +52,7 @@ module _ (S : Sheet) (lasting : Lasting S) (n : Narrow S) (w : List ℕ) (f : Fo
         go [] c k x z = clash (P.placed k) (completes_all S P [] c k x) z
         go (j ∷ o) c k x z = le_trans (next j c.0.0) (next_first S n P j o c.0 k z (completes_all S P (j ∷ o) c k x))
 
-    pub goes_on : GoesOn S P l Q
+    goes_on : GoesOn S P l Q
     goes_on = record {
       timed = valid_timed S Q valid;
       kept = λ k x z. (place_all_keeps S P p c.0 k z).start;
@@ -84,12 +84,12 @@ module _ (S : Sheet) (lasting : Lasting S) (n : Narrow S) (w : List ℕ) (f : Fo
   pub weights_cut : (y K : ℕ → ℕ) → Holds S.need S.jobs S.modules y K
       → sum close (λ t. only (leb l t) (K (S.modules - occupied S P t))) < sum S.jobs (λ k. only (not (P.placed k)) (kept S k * y k))
       → CannotBeat S (suc T) w
-  weights_cut y K most over = by_end (λ p c x. omega (arith, over, weights_bound S P l (Q p c) (goes_on p c) close x y K (λ X x l left. most X x l)))
+  weights_cut y K most over = by_end (λ p c x. omega (arith, over, weights_bound S P l (Q p c) (goes_on p c) close x y K most))
 
   -- each job that is left starts from its minute r on, whatever completes P
   pub release_cut : (r y v K Z : ℕ → ℕ)
       → ((k : ℕ) → k < S.jobs → P.placed k ≡ false → (p : List ℕ) → Completes S P p → r k ≤ (place_all S P p).plan.start k)
-      → StandsOn S P y K → Rises S.modules K → ServesFrom S P close r v Z → Z 0 ≡ 0 → Rises close Z
+      → Holds S.need S.jobs S.modules y K → Rises S.modules K → ServesFrom S P close r v Z → Z 0 ≡ 0 → Rises close Z
       → sum close (λ t. only (leb l t) (K (S.modules - occupied S P t) * gain Z close t))
       < sum S.jobs (λ k. only (not (P.placed k)) (y k * v k))
       → CannotBeat S (suc T) w
@@ -106,7 +106,7 @@ module _ (S : Sheet) (lasting : Lasting S) (n : Narrow S) (w : List ℕ) (f : Fo
       < sum S.jobs (λ k. only (not (P.placed k)) (y k * v k))
       → CannotBeat S (suc T) w
   reach_cut y v K Z most more lasts =
-      release_cut (λ k. 0) y v K Z (λ k m z p c. zero-le) (λ X x l left. most X x l) more (λ X x m left short late. lasts X x m short)
+      release_cut (λ k. 0) y v K Z (λ k m z p c. zero-le) most more (λ X x m left short late. lasts X x m short)
 
   -- a job that is left starts neither before minute l nor before its head
   abbrev first : ℕ → ℕ → ℕ

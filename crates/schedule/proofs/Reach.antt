@@ -7,7 +7,7 @@ use native.Mathlib.Omega.{arith}
 use native.Mathlib.Nat.{le_refl}
 use lib.Dec.{leb, ltb}
 use borrow.Author.Tests.{ltb-true, leb-true, lt-ltb, le-leb, not-true}
-use Rattle.counting.specs.Counting.{only, sum, count, Rises}
+use Rattle.counting.specs.Counting.{only, sum, count, Rises, Holds}
 use Rattle.counting.proofs.Tests.{and_left, and_right, and_both, only-mul}
 use Rattle.counting.proofs.Sums.{sum_same, sum_swap, sum-zero, sum_const, sum_first}
 use Rattle.counting.proofs.Intervals.{inside, sum_inside}
@@ -15,7 +15,7 @@ use Rattle.counting.proofs.Ranges.{le-largest}
 use Rattle.counting.proofs.Counts.{count_same, sum_alike}
 use Rattle.schedule.specs.Plan.{Sheet, Plan, finish, plan_end, Lasting}
 use Rattle.schedule.specs.ListPlan.{PartPlan, occupied}
-use Rattle.schedule.specs.Bounds.{kept, gain, StandsOn, ServesFrom}
+use Rattle.schedule.specs.Bounds.{kept, gain, ServesFrom}
 use Rattle.schedule.proofs.Occupied.{occupied_falls}
 use Rattle.schedule.proofs.Lanes.{StaysOpen, lanes_bound}
 use Rattle.schedule.proofs.Filling.{put_on_lanes}
@@ -72,7 +72,7 @@ count_below n g l =
 
 module _ (S : Sheet) (lasting : Lasting S) (P : PartPlan) (l : ℕ) (Q : Plan) (h : GoesOn S P l Q) (C : ℕ) (e : plan_end S Q + S.rest ≤ C)
     (r w y K Z : ℕ → ℕ) (from : (k : ℕ) → k < S.jobs → P.placed k ≡ false → r k ≤ Q.start k)
-    (most : StandsOn S P w K) (more : Rises S.modules K)
+    (most : Holds S.need S.jobs S.modules w K) (more : Rises S.modules K)
     (serves : ServesFrom S P C r y Z) (none : Z 0 ≡ 0) (rises : Rises C Z) where
   -- the lanes that are open at minute t
   width : ℕ → ℕ

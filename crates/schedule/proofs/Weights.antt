@@ -1,5 +1,5 @@
--- The bound by weights: where no set of jobs that are left and fit on x modules weighs more than K x, they weigh, minute by minute, no more
--- than K of what the placed jobs leave free. A job is counted for as long as it keeps its modules, so up to the plan's end and the
+-- The bound by weights: where no set of jobs that fits on x modules weighs more than K x, the jobs that are left weigh, minute by minute,
+-- no more than K of what the placed jobs leave free. A job is counted for as long as it keeps its modules, so up to the plan's end and the
 -- rest behind it. With the widths as weights it is the area bound.
 use mathlib.Core.Path.{◌≡◌, refl, sym, ap, ◌∙◌}
 use mathlib.Core.Logic.{◌⊎◌, inl, inr}
@@ -7,15 +7,15 @@ use mathlib.Core.Bool.{Bool, true, false, not, ◌&&◌}
 use Prim.Native.Nat.{ℕ, ◌+◌, ◌-◌, ◌*◌, ◌≤◌, ◌<◌, zero-le, min}
 use native.Mathlib.Omega.{arith}
 use lib.Dec.{leb, ltb}
-use borrow.Author.Tests.{ltb-true, lt-ltb, le-leb, lt-leb, not-true}
-use Rattle.counting.specs.Counting.{only, sum}
+use borrow.Author.Tests.{ltb-true, lt-ltb, le-leb, lt-leb}
+use Rattle.counting.specs.Counting.{only, sum, Holds}
 use Rattle.counting.proofs.Tests.{true-or-false, less-or-not, and_left, and_right, and_both, only_mono}
 use Rattle.counting.proofs.Sums.{sum-le, sum_same, sum-add, sum_swap, sum-zero}
 use Rattle.counting.proofs.Intervals.{inside, sum_inside}
 use Rattle.counting.proofs.Ranges.{le-largest}
 use Rattle.schedule.specs.Plan.{Sheet, Plan, finish, plan_end}
 use Rattle.schedule.specs.ListPlan.{PartPlan, occupies, occupied}
-use Rattle.schedule.specs.Bounds.{kept, StandsOn}
+use Rattle.schedule.specs.Bounds.{kept}
 use Rattle.schedule.proofs.Timed.{runs, Timed}
 
 -- Q goes on from P: it keeps the placed jobs and starts the others from minute l on
@@ -54,7 +54,7 @@ module _ (S : Sheet) (P : PartPlan) (l : ℕ) (Q : Plan) (h : GoesOn S P l Q) wh
           rw p (omega (arith, on))
 
   -- what is left at a minute weighs no more than the free modules hold
-  pub minute_weight : (y K : ℕ → ℕ) → StandsOn S P y K → (t : ℕ)
+  pub minute_weight : (y K : ℕ → ℕ) → Holds S.need S.jobs S.modules y K → (t : ℕ)
       → sum S.jobs (λ k. only (left t k) (y k)) ≤ only (leb l t) (K (S.modules - occupied S P t))
   minute_weight y K most t = one (less-or-not t l)
     where
@@ -63,8 +63,7 @@ module _ (S : Sheet) (P : PartPlan) (l : ℕ) (Q : Plan) (h : GoesOn S P l Q) wh
       zero m k x (inr p) = rw (p, lt-leb (Q.start k) t (omega (arith, h.later k x p))) refl
 
       one : (t < l) ⊎ (l ≤ t) → sum S.jobs (λ k. only (left t k) (y k)) ≤ only (leb l t) (K (S.modules - occupied S P t))
-      one (inr m) = rw (le-leb l t m) (most (left t) (S.modules - occupied S P t) (omega arith)
-          (λ k b. not-true (P.placed k) (and_left (not (P.placed k)) _ b)) (omega (arith, beside t m)))
+      one (inr m) = rw (le-leb l t m) (most (left t) (S.modules - occupied S P t) (omega arith) (omega (arith, beside t m)))
       one (inl m) =
           let none : sum S.jobs (λ k. only (left t k) (y k)) ≡ 0 =
           sum_same S.jobs _ (λ k. 0) (λ k x. zero m k x (true-or-false (P.placed k))) ∙ sum-zero S.jobs in
@@ -86,7 +85,7 @@ module _ (S : Sheet) (P : PartPlan) (l : ℕ) (Q : Plan) (h : GoesOn S P l Q) (C
       go false q = rw q (sym (sum-zero C))
 
   -- The jobs that are left weigh no more than the free modules hold.
-  pub weights_bound : (y K : ℕ → ℕ) → StandsOn S P y K
+  pub weights_bound : (y K : ℕ → ℕ) → Holds S.need S.jobs S.modules y K
       → sum S.jobs (λ k. only (not (P.placed k)) (kept S k * y k)) ≤ sum C (λ t. only (leb l t) (K (S.modules - occupied S P t)))
   weights_bound y K most =
       let all = sum_same S.jobs _ (λ k. sum C (λ t. only (left_at t k) (y k))) (over_minutes y)

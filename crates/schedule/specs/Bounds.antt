@@ -32,11 +32,6 @@ work S P l = S.modules * l + sum S.jobs (todo S P l)
 abbrev pub available_from : Sheet → PartPlan → ℕ → ℕ
 available_from S P m = largest S.jobs (λ i. only (P.placed i && P.plan.uses i m) (finish S P.plan i + S.rest))
 
--- no set of jobs that are left and need x modules together weighs more than K x
-abbrev pub StandsOn : Sheet → PartPlan → (ℕ → ℕ) → (ℕ → ℕ) → Type 0
-StandsOn S P y K = (X : ℕ → Bool) (x : ℕ) → x ≤ S.modules → ((k : ℕ) → X k ≡ true → P.placed k ≡ false)
-    → sum S.jobs (λ k. only (X k) (S.need k)) ≤ x → sum S.jobs (λ k. only (X k) (y k)) ≤ K x
-
 -- no set of jobs that are left and keep a module for x minutes together weighs more than Z x
 abbrev pub Lasts : Sheet → PartPlan → (ℕ → ℕ) → (ℕ → ℕ) → Type 0
 Lasts S P y Z = (X : ℕ → Bool) (x : ℕ) → ((k : ℕ) → X k ≡ true → P.placed k ≡ false)
