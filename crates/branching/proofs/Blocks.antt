@@ -13,7 +13,7 @@ use Rattle.bits.specs.Bits.{bit, without_bit, set_of}
 use Rattle.bits.proofs.Digits.{bit-none, bit-or}
 use Rattle.bits.proofs.Walks.{Walk, walk_first, walk_none, walk_next, walk_gone}
 use Rattle.tables.specs.Tables.{minutes_at, arrival_at, earlier_at, count_of, changeover_of}
-use Rattle.tables.specs.Part.{Part}
+use Rattle.tables.specs.declared.Part.{Part}
 use Rattle.branching.specs.declared.Behind.{Behind}
 use Rattle.branching.specs.Branching.{Passing, AllAwaited, AllArrived, BlockFrom, EndsInBlock}
 use Rattle.starting.proofs.Sifting.{or-true}

@@ -4,7 +4,7 @@ use Rattle.std.specs.Int.Bits.{bit_or}
 use Rattle.figures.specs.Figures.{most_jobs, no_minute}
 use Rattle.bits.specs.Bits.{bit}
 use Rattle.tables.specs.Tables.{minutes_at, kept_at, arrival_at, earlier_at, count_of, changeover_of}
-use Rattle.tables.specs.Part.{Part}
+use Rattle.tables.specs.declared.Part.{Part}
 use Rattle.relations.specs.Relations.{row_at}
 pub use Rattle.starting.specs.Starting.{Alone}
 use Rattle.branching.specs.declared.Behind.{Behind}

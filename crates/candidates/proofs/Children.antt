@@ -13,7 +13,8 @@ use Rattle.schedule.specs.Plan.{Sheet}
 use Rattle.schedule.specs.ListPlan.{PartPlan, no_jobs, ready}
 use Rattle.schedule.proofs.Branch.{place_within}
 use Rattle.tables.specs.Tables.{sheet_of, count_of, Fit}
-use Rattle.tables.specs.Part.{Part, word_of}
+use Rattle.tables.specs.declared.Part.{Part}
+use Rattle.tables.specs.Part.{word_of}
 use Rattle.placement.specs.Part.{FirstPart, IsPart, Placeable, Placed}
 use Rattle.placement.proofs.Parts.{first_is, left-count, start_short, placeable, fewer, placed_part}
 use Rattle.candidates.specs.Candidates.{Known, theory_part, JobStart}

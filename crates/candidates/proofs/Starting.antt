@@ -17,7 +17,8 @@ use Rattle.schedule.specs.Plan.{Sheet}
 use Rattle.schedule.specs.ListPlan.{PartPlan, ready, part_of}
 use Rattle.schedule.specs.PartPlans.{NoneBefore}
 use Rattle.tables.specs.Tables.{sheet_of, earlier_at, count_of}
-use Rattle.tables.specs.Part.{Part, word_of}
+use Rattle.tables.specs.declared.Part.{Part}
+use Rattle.tables.specs.Part.{word_of}
 use Rattle.schedule.proofs.Starts.{ready_says, start_may}
 use Rattle.placement.specs.Part.{StartFor, is_ready}
 use Rattle.placement.proofs.Parts.{ready_is, start_is, last_short}

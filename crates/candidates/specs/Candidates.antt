@@ -5,7 +5,8 @@ use Rattle.bits.specs.Bits.{bit}
 use Rattle.schedule.specs.Plan.{Sheet}
 use Rattle.schedule.specs.ListPlan.{PartPlan, ready, start_of, part_of}
 use Rattle.tables.specs.Tables.{sheet_of, Fit}
-use Rattle.tables.specs.Part.{Part, word_of}
+use Rattle.tables.specs.declared.Part.{Part}
+use Rattle.tables.specs.Part.{word_of}
 use Rattle.placement.specs.Part.{IsPart}
 use Rattle.candidates.specs.declared.Choice.{Choice}
 

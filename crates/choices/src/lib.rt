@@ -16,10 +16,8 @@ fn add_job(at: &mut [u16], count: usize, kept: u16)
     requires { Room at.old count kept }
     ensures { Doubled at.old at.new count kept }
 {
-    let mut i: usize = 0;
-    while i < count {
+    for i in 0..count {
         at[count + i] = at[i] + kept;
-        i += 1;
     }
 }
 
@@ -69,10 +67,8 @@ pub fn longest_fit(at: &[u16], count: usize, x: u16) -> u16
     ensures { result ≡ longest at.now count x }
 {
     let mut r: u16 = 0;
-    let mut i: usize = 0;
-    while i < count {
+    for i in 0..count {
         r = counting::larger(r, fitting(at[i], x));
-        i += 1;
     }
     r
 }

@@ -3,7 +3,6 @@
 
 ghost use Rattle.std.specs.Prelude.{◌≡◌, true, ◌<◌, ◌≤◌, max, length};
 ghost use Rattle.figures.specs.Figures.{most_jobs};
-ghost use Rattle.tables.specs.Part.{part_in};
 ghost use Rattle.entries.specs.Entry.{ways, group_bytes, entry_in, EntryAhead};
 
 use tables::Part;
@@ -49,21 +48,19 @@ pub fn entry_ahead(
     rested: u16,
 ) -> bool
     requires { (length group.now ≡ group_bytes) × (way < ways) × (jobs ≤ most_jobs) }
-    ensures { result ≡ true → EntryAhead (entry_in group.now way) jobs (part_in part.now).ends unplaced l rested }
+    ensures { result ≡ true → EntryAhead (entry_in group.now way) jobs part.now.ends unplaced l rested }
 {
     if words::read32(group, way * SET) != unplaced {
         return false;
     }
     let at = SETS + way * FIGURES;
     let mut late = after_both(words::read16(group, at), l, l);
-    let mut i: usize = 0;
-    while i < jobs {
+    for i in 0..jobs {
         late += after_both(
             words::read16(group, at + ENDS + 2 * i),
-            tables::end(part, i),
+            part.ends[i],
             rested,
         );
-        i += 1;
     }
     late == 0
 }

@@ -15,7 +15,7 @@ use Rattle.counting.proofs.Sums.{sum_same}
 use Rattle.figures.specs.Figures.{most_jobs, most_modules, no_minute}
 use Rattle.bits.specs.Bits.{bit}
 use Rattle.tables.specs.Tables.{need_at, kept_at, count_of, modules_of, Fit}
-use Rattle.tables.specs.Part.{Part}
+use Rattle.tables.specs.declared.Part.{Part}
 use Rattle.placement.specs.Profile.{ProfileOf}
 use Rattle.weights.specs.Weights.{Put}
 use Rattle.lanes.specs.Lanes.{served_on, Serving}

@@ -4,7 +4,7 @@ use Rattle.counting.specs.Counting.{only, sum, Rises}
 use Rattle.figures.specs.Figures.{most_jobs, no_minute}
 use Rattle.bits.specs.Bits.{bit}
 use Rattle.tables.specs.Tables.{need_at, kept_at, count_of, modules_of, Fit}
-use Rattle.tables.specs.Part.{Part}
+use Rattle.tables.specs.declared.Part.{Part}
 use Rattle.placement.specs.Profile.{ProfileOf}
 use Rattle.lanes.specs.Lanes.{served_on}
 use Rattle.fitting.specs.declared.Frame.{Frame}

@@ -116,10 +116,8 @@ fn leave_up_to(slate: &mut Slate, count: usize)
     requires { count ≤ most_jobs }
     ensures { length slate.new ≡ length slate.old }
 {
-    let mut k = counting::smaller(slate[ENTERED], NONE_ENTERED) as usize;
-    while k <= count {
+    for k in counting::smaller(slate[ENTERED], NONE_ENTERED) as usize..=count {
         leave(slate, k);
-        k += 1;
     }
 }
 
@@ -197,10 +195,8 @@ fn first_credit(count: usize) -> u16
 fn put_credits(slate: &mut Slate)
     ensures { length slate.new ≡ length slate.old }
 {
-    let mut count: usize = 0;
-    while count <= MOST_JOBS {
+    for count in 0..=MOST_JOBS {
         slate[CREDITS + count] = first_credit(count);
-        count += 1;
     }
 }
 

@@ -2,7 +2,6 @@
 // shares are sound.
 ghost use Rattle.std.specs.Prelude.{◌≡◌, ◌+◌, ◌<◌, ◌≤◌, length};
 ghost use Rattle.figures.specs.Figures.{most_jobs};
-ghost use Rattle.tables.specs.Part.{part_in};
 ghost use Rattle.fitting.specs.Fitting.{most_move, Within};
 
 use super::serving::minutes_from;
@@ -145,12 +144,12 @@ fn lanes_of(
     free: u16,
 ) -> Lanes
     requires { ((0 < frame.step) × (Within order.now count))
-        × ((part_in part.now).placed ≤ most_jobs) }
+        × (part.now.placed ≤ most_jobs) }
 {
     let none = Lanes {
         of: [0u16; MOST_JOBS],
     };
-    let placed = tables::placed(part);
+    let placed = part.placed;
     let mut lanes = traced(
         slate,
         jobs,
@@ -162,12 +161,10 @@ fn lanes_of(
         frame.least,
         free,
     );
-    let mut i = gone;
-    while i < placed {
-        let t = tables::until(part, i);
-        let more = tables::held(part, i);
+    for i in gone..placed {
+        let t = part.until[i];
+        let more = part.held[i];
         lanes = traced(slate, jobs, frame, order, count, release, lanes, t, more);
-        i += 1;
     }
     lanes
 }
@@ -190,12 +187,10 @@ fn squares_of(
     requires { Within order.now count }
 {
     let mut total: u64 = 0;
-    let mut i: usize = 0;
-    while i < count {
+    for i in 0..count {
         let j = job_at(order, count, i);
         let d = difference(tables::need(jobs, j), lanes[j]);
         total += counting::times(d, d) as u64;
-        i += 1;
     }
     total
 }
@@ -238,13 +233,11 @@ fn move_shares(
     requires { (0 < squares) × (Within order.now count) }
     ensures { length slate.new ≡ length slate.old }
 {
-    let mut i: usize = 0;
-    while i < count {
+    for i in 0..count {
         let j = job_at(order, count, i);
         let need = tables::need(jobs, j);
         let by = move_of(gap, difference(need, lanes[j]), squares);
         slate[CELLS + j] = moved(slate[CELLS + j], by, lanes[j] < need);
-        i += 1;
     }
 }
 
@@ -253,11 +246,9 @@ fn largest_share(slate: &Slate, order: &[usize; MOST_JOBS], count: usize) -> u16
     requires { Within order.now count }
 {
     let mut largest: u16 = 0;
-    let mut i: usize = 0;
-    while i < count {
+    for i in 0..count {
         let j = job_at(order, count, i);
         largest = counting::larger(largest, slate[CELLS + j]);
-        i += 1;
     }
     largest
 }
@@ -275,11 +266,9 @@ fn double_shares(slate: &mut Slate, order: &[usize; MOST_JOBS], count: usize)
     requires { Within order.now count }
     ensures { length slate.new ≡ length slate.old }
 {
-    let mut i: usize = 0;
-    while i < count {
+    for i in 0..count {
         let j = job_at(order, count, i);
         slate[CELLS + j] = doubled(slate[CELLS + j]);
-        i += 1;
     }
 }
 
@@ -297,7 +286,7 @@ pub fn turn(
     gap: u32,
 )
     requires { ((0 < frame.step) × (Within order.now count))
-        × ((part_in part.now).placed ≤ most_jobs) }
+        × (part.now.placed ≤ most_jobs) }
     ensures { length slate.new ≡ length slate.old }
 {
     let lanes = lanes_of(slate, jobs, part, frame, order, count, release, gone, free);

@@ -34,11 +34,9 @@ pub fn values_of(slate: &Slate, jobs: &Jobs, set: u32, step: u16) -> Figures
 {
     let count = tables::count(jobs);
     let mut next = [0u16; MOST_JOBS];
-    let mut k: usize = 0;
-    while k < count {
+    for k in 0..count {
         let left = bits::test32(set, k);
         next[k] = value_of(slate[CELLS + k], tables::kept(jobs, k), step, left);
-        k += 1;
     }
     Figures { of: next }
 }
@@ -50,10 +48,8 @@ pub fn worth_of(jobs: &Jobs, value: &[u16; MOST_JOBS]) -> u32
 {
     let count = tables::count(jobs);
     let mut total: u32 = 0;
-    let mut k: usize = 0;
-    while k < count {
+    for k in 0..count {
         total += counting::times(tables::need(jobs, k), value[k]);
-        k += 1;
     }
     total
 }
@@ -68,10 +64,8 @@ fn longest_of(jobs: &Jobs) -> u16
 {
     let count = tables::count(jobs);
     let mut longest: u16 = 1;
-    let mut k: usize = 0;
-    while k < count {
+    for k in 0..count {
         longest = counting::larger(longest, tables::kept(jobs, k));
-        k += 1;
     }
     longest
 }
@@ -94,9 +88,7 @@ pub fn put_shares(slate: &mut Slate, jobs: &Jobs)
 {
     let count = tables::count(jobs);
     let longest = longest_of(jobs);
-    let mut k: usize = 0;
-    while k < count {
+    for k in 0..count {
         slate[CELLS + k] = first_share(tables::kept(jobs, k), longest);
-        k += 1;
     }
 }

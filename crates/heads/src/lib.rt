@@ -6,7 +6,6 @@ ghost use Rattle.figures.specs.Figures.{most_jobs, last_end};
 ghost use Rattle.counting.specs.Counting.{only, largest};
 ghost use Rattle.bits.specs.Bits.{bit};
 ghost use Rattle.tables.specs.Tables.{minutes_at, earlier_at, count_of, Fit};
-ghost use Rattle.tables.specs.Prepared.{heads_in};
 ghost use Rattle.heads.specs.Heads.{HeadsOf, AllShort};
 
 use figures::MOST_JOBS;
@@ -32,10 +31,8 @@ fn latest_end(heads: &[u16; MOST_JOBS], jobs: &Jobs, j: usize) -> u16
     let n = tables::count(jobs);
     let earlier = tables::earlier(jobs, j);
     let mut r: u16 = 0;
-    let mut i: usize = 0;
-    while i < n {
+    for i in 0..n {
         r = counting::larger(r, end_of(heads, jobs, earlier, i));
-        i += 1;
     }
     r
 }
@@ -53,10 +50,8 @@ fn advance(jobs: &Jobs, heads: Heads, k: usize) -> Heads
 {
     let n = tables::count(jobs);
     let mut next = [0u16; MOST_JOBS];
-    let mut j: usize = 0;
-    while j < n {
+    for j in 0..n {
         next[j] = counting::larger(tables::arrival(jobs, j), latest_end(&heads.at, jobs, j));
-        j += 1;
     }
     Heads { at: next }
 }
@@ -70,22 +65,16 @@ pub fn of_all(jobs: &Jobs) -> Heads
     let mut heads = Heads {
         at: [0u16; MOST_JOBS],
     };
-    let mut k: usize = 0;
-    while k < n {
+    for k in 0..n {
         heads = advance(jobs, heads, k);
-        k += 1;
     }
     heads
 }
 
 // The first minute at which job k can start from minute l on.
-pub fn first_start(prepared: &Prepared, l: u16, k: usize) -> u32
+pub fn first_start(prepared: &Prepared, l: u16, k: usize) -> u16
     requires { k < most_jobs }
-    ensures { result ≡ max l (get_or (heads_in prepared.now) k 0) }
+    ensures { result ≡ max l (get_or prepared.now.heads k 0) }
 {
-    let head = tables::head(prepared, k);
-    if head <= (l as u32) {
-        return l as u32;
-    }
-    head
+    counting::larger(l, prepared.heads[k])
 }

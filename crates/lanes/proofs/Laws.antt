@@ -14,7 +14,7 @@ use Rattle.bits.specs.Bits.{bit}
 use Rattle.schedule.specs.Bounds.{gain}
 use Rattle.figures.specs.Figures.{most_modules}
 use Rattle.tables.specs.Tables.{kept_at, count_of, modules_of}
-use Rattle.tables.specs.Part.{Part}
+use Rattle.tables.specs.declared.Part.{Part}
 use Rattle.placement.specs.Profile.{held_of, ProfileOf}
 use Rattle.weights.specs.Weights.{all_weight}
 use Rattle.weights.proofs.Walks.{Walk, free-at}

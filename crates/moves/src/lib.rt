@@ -43,10 +43,8 @@ fn moved_on(order: &[u8; MOST_JOBS], a: usize, b: usize) -> [u8; MOST_JOBS]
 {
     let mut next = *order;
     let taken = order[a];
-    let mut i = a;
-    while i < b {
+    for i in a..b {
         next[i] = order[i + 1];
-        i += 1;
     }
     next[b] = taken;
     next

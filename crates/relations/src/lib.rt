@@ -33,10 +33,8 @@ fn longest_behind(tails: &[u16; MOST_JOBS], jobs: &Jobs, j: usize) -> u16
 {
     let n = tables::count(jobs);
     let mut r: u16 = 0;
-    let mut i: usize = 0;
-    while i < n {
+    for i in 0..n {
         r = counting::larger(r, behind(tails[i], tables::earlier(jobs, i), j));
-        i += 1;
     }
     r
 }
@@ -54,10 +52,8 @@ fn lengthen(jobs: &Jobs, tails: Tails, k: usize) -> Tails
 {
     let n = tables::count(jobs);
     let mut next = [0u16; MOST_JOBS];
-    let mut j: usize = 0;
-    while j < n {
+    for j in 0..n {
         next[j] = tables::minutes(jobs, j) + longest_behind(&tails.at, jobs, j);
-        j += 1;
     }
     Tails { at: next }
 }
@@ -71,10 +67,8 @@ pub fn chains(jobs: &Jobs) -> Tails
     let mut tails = Tails {
         at: [0u16; MOST_JOBS],
     };
-    let mut k: usize = 0;
-    while k < n {
+    for k in 0..n {
         tails = lengthen(jobs, tails, k);
-        k += 1;
     }
     tails
 }
@@ -99,10 +93,8 @@ fn later_of(jobs: &Jobs, i: usize) -> u32
 {
     let n = tables::count(jobs);
     let mut set: u32 = 0;
-    let mut k: usize = 0;
-    while k < n {
+    for k in 0..n {
         set = with_later(set, tables::earlier(jobs, k), i, k);
-        k += 1;
     }
     set
 }
@@ -119,10 +111,8 @@ fn later_jobs(jobs: &Jobs) -> LaterJobs
 {
     let n = tables::count(jobs);
     let mut of = [0u32; MOST_JOBS];
-    let mut i: usize = 0;
-    while i < n {
+    for i in 0..n {
         of[i] = later_of(jobs, i);
-        i += 1;
     }
     LaterJobs { of }
 }
@@ -174,10 +164,8 @@ fn row_of(jobs: &Jobs, later: &[u32; MOST_JOBS], j: usize) -> Row
         swapping: 0,
         beside: 0,
     };
-    let mut i: usize = 0;
-    while i < n {
+    for i in 0..n {
         row = with_pair(row, jobs, later, i, j);
-        i += 1;
     }
     row
 }
@@ -214,11 +202,9 @@ pub fn relate(jobs: &Jobs) -> Relations
     let later = laters.of;
     let n = tables::count(jobs);
     let mut all = Relations { of: [0u32; ROWS] };
-    let mut j: usize = 0;
-    while j < n {
+    for j in 0..n {
         let row = row_of(jobs, &later, j);
         all = with_row(all, j, row);
-        j += 1;
     }
     all
 }

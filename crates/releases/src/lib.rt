@@ -29,10 +29,8 @@ fn firsts_of(at: &[u16; MOST_JOBS], least: u16) -> Figures
     ensures { Put (λ k. k) (replicate most_jobs 0) result.of most_jobs (first_at at.now least) }
 {
     let mut next = [0u16; MOST_JOBS];
-    let mut k: usize = 0;
-    while k < MOST_JOBS {
+    for k in 0..MOST_JOBS {
         next[k] = first_of(at[k], least);
-        k += 1;
     }
     Figures { of: next }
 }
@@ -92,11 +90,9 @@ pub fn releases_of(jobs: &Jobs, set: u32, at: &[u16; MOST_JOBS], least: u16) -> 
     let count = tables::count(jobs);
     let first = firsts_of(at, least);
     let mut next = first.of;
-    let mut k: usize = 0;
-    while k < count {
+    for k in 0..count {
         let r = raised(&next, jobs, set, k);
         next[k] = r;
-        k += 1;
     }
     Figures { of: next }
 }

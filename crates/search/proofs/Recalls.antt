@@ -17,7 +17,8 @@ use Rattle.schedule.specs.Beginnings.{CannotBeat}
 use Rattle.schedule.specs.PartPlans.{NoneBefore}
 use Rattle.schedule.proofs.Cuts.{ahead_cut}
 use Rattle.tables.specs.Tables.{sheet_of, count_of}
-use Rattle.tables.specs.Part.{Part, word_of}
+use Rattle.tables.specs.declared.Part.{Part}
+use Rattle.tables.specs.Part.{word_of}
 use Rattle.placement.proofs.Parts.{left-count}
 use Rattle.memory.specs.Entries.{Entry, entries, entry_at, end_at, EntryOf, Hit, Adds}
 use Rattle.memory.proofs.Slots.{zero_sets}

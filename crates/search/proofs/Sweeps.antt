@@ -21,7 +21,8 @@ use Rattle.schedule.proofs.Starts.{ready_says}
 use Rattle.schedule.proofs.Idle.{idle_cut}
 use Rattle.schedule.proofs.Alone.{alone_cut}
 use Rattle.tables.specs.Tables.{sheet_of, need_at, count_of, modules_of}
-use Rattle.tables.specs.Part.{Part, word_of}
+use Rattle.tables.specs.declared.Part.{Part}
+use Rattle.tables.specs.Part.{word_of}
 use Rattle.placement.proofs.Parts.{start_short}
 use Rattle.candidates.specs.declared.Choice.{Choice}
 use Rattle.relations.specs.Relations.{row_at, Related}

@@ -8,6 +8,7 @@ use native.Mathlib.Omega.{arith}
 use lib.Dec.{ltb}
 use lib.ListN.{replicate, length-replicate}
 use borrow.Author.Tests.{ltb-true, lt-ltb}
+use Rattle.tables.specs.declared.Prepared.{Prepared}
 use Rattle.counting.specs.Counting.{only}
 use Rattle.counting.proofs.Tests.{true-or-false, clash, less-or-not}
 use Rattle.bits.specs.Bits.{bit}
@@ -19,7 +20,7 @@ use Rattle.schedule.specs.Ends.{EarliestEnd, EndsBy}
 use Rattle.schedule.specs.Beginnings.{CannotBeat}
 use Rattle.schedule.proofs.Theorems.{earliest_of_orders, order_ends_by, none_ends_by}
 use Rattle.tables.specs.Tables.{sheet_of, Fit}
-use Rattle.tables.specs.Part.{Part}
+use Rattle.tables.specs.declared.Part.{Part}
 use Rattle.tables.proofs.Laws.{zeros}
 use Rattle.placement.specs.Part.{FirstPart}
 use Rattle.candidates.proofs.Children.{first_known}
@@ -46,7 +47,7 @@ kept_is : {S : Sheet} {best : Found} → OrderOf S best → OrderOf S (kept_as b
 kept_is h = record { size = h.size; order = h.order; end = h.end; low = h.low }
 
 -- an order that is to end by the target
-pub enter : {t prepared : List ℕ} {part : Part} {memory : List ℕ} (target : ℕ) → Fit t → Tabled t prepared → target < 65535
+pub enter : {t : List ℕ} {prepared : Prepared} {part : Part} {memory : List ℕ} (target : ℕ) → Fit t → Tabled t prepared → target < 65535
     → Remembered (sheet_of t) memory (suc target) → FirstPart t part → Going t prepared part target memory
 enter {t} {part = part} target fit tabled low m first =
     record { low = low; known = first_known t part fit first; tabled = tabled; remembered = m }
@@ -105,12 +106,12 @@ none_by m h s o d = m.miss h s o d (o, refl)
 -- ---- a turn of the loop
 
 -- while earlier ends are looked for, an order and what is remembered; then no order ends earlier
-pub record Turn (t prepared : List ℕ) (best : Found) (memory : List ℕ) (left : ℕ) : Type 0 where
+pub record Turn (t : List ℕ) (prepared : Prepared) (best : Found) (memory : List ℕ) (left : ℕ) : Type 0 where
   pub state : Lowering t prepared best memory
   pub done : best.hit ≡ false → ¬ (left ≡ 0) → (o : List ℕ) → Order (sheet_of t) o
       → best.end ≤ end_of (sheet_of t) o
 
-pub turn_next : {t prepared : List ℕ} {best r : Found} {memory : List ℕ} {left : ℕ}
+pub turn_next : {t : List ℕ} {prepared : Prepared} {best r : Found} {memory : List ℕ} {left : ℕ}
     (memory' : List ℕ) → Lowering t prepared best memory
     → Lowered (sheet_of t) best r left → Remembered (sheet_of t) memory' r.end
     → Turn t prepared r memory' left
@@ -127,7 +128,7 @@ turn_less {S} {best} {r} l e = rw e (go (true-or-false r.hit))
     go (inl h) = rw h (omega (arith, l.hit h))
     go (inr h) = rw h (omega (arith, (l.miss h).0))
 
-pub turn_last : {t prepared : List ℕ} {best : Found} {memory : List ℕ} {left : ℕ} → Turn t prepared best memory left
+pub turn_last : {t : List ℕ} {prepared : Prepared} {best : Found} {memory : List ℕ} {left : ℕ} → Turn t prepared best memory left
     → best.hit ≡ false → LowestIf (sheet_of t) best left
 turn_last t e = record { is = t.state.best_is; least = t.done e }
 

@@ -6,7 +6,6 @@ ghost use Rattle.std.specs.Prelude.{◌≡◌, true, cond, ◌+◌, ◌<◌, ◌
 ghost use Rattle.figures.specs.Figures.{most_jobs};
 ghost use Rattle.bits.specs.Bits.{with_bit};
 ghost use Rattle.tables.specs.Tables.{kept_at, count_of};
-ghost use Rattle.tables.specs.Prepared.{related_in};
 ghost use Rattle.starting.specs.Starting.{Alone, EndOfOne, AllEarly};
 
 use figures::MOST_JOBS;
@@ -16,12 +15,12 @@ use tables::{Jobs, Prepared};
 // Whether job i, of the set, starts first and can run beside no other job of it.
 fn alone_at(prepared: &Prepared, start: u16, least: u16, set: u32, i: usize) -> bool
     requires { i < most_jobs }
-    ensures { result ≡ true → (start ≡ least) × Alone (related_in prepared.now) set i }
+    ensures { result ≡ true → (start ≡ least) × Alone prepared.now.related set i }
 {
     if start != least {
         return false;
     }
-    set & tables::related(prepared, i * ROW + 2) == 0
+    set & prepared.related[i * ROW + 2] == 0
 }
 
 // A job of the set that starts first and can run beside no other, or `count` where there is none.
@@ -33,7 +32,7 @@ pub fn first_alone(
     count: usize,
 ) -> usize
     requires { count ≤ most_jobs }
-    ensures { result < count → (get_or at.now result 0 ≡ least) × Alone (related_in prepared.now) set result }
+    ensures { result < count → (get_or at.now result 0 ≡ least) × Alone prepared.now.related set result }
 {
     let mut todo = bits::below32(set, count);
     while todo != 0 {

@@ -14,7 +14,7 @@ use Rattle.counting.proofs.Tests.{less-or-not}
 use Rattle.counting.proofs.Sums.{sum_same, sum-zero, le-sum}
 use Rattle.figures.specs.Figures.{most_modules}
 use Rattle.tables.specs.Tables.{count_of, modules_of, Fit}
-use Rattle.tables.specs.Part.{Part}
+use Rattle.tables.specs.declared.Part.{Part}
 use Rattle.placement.specs.Profile.{held_of, held_from}
 use Rattle.placement.proofs.Profiles.{held-at-le, held_from-le}
 use Rattle.choices.specs.Choices.{SumsOf, longest}

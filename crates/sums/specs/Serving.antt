@@ -3,7 +3,7 @@ use Rattle.std.specs.Prelude.{Bool, List, ℕ, ◌+◌, ◌-◌, ◌*◌, ◌≤
 use Rattle.counting.specs.Counting.{only, sum}
 use Rattle.figures.specs.Figures.{most_jobs, most_modules}
 use Rattle.tables.specs.Tables.{count_of, modules_of}
-use Rattle.tables.specs.Part.{Part}
+use Rattle.tables.specs.declared.Part.{Part}
 use Rattle.placement.specs.Profile.{held_of, ProfileOf}
 use Rattle.choices.specs.Choices.{together, Within}
 

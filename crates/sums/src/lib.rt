@@ -6,7 +6,6 @@ ghost use Rattle.std.specs.Int.{◌∣◌};
 ghost use Rattle.counting.specs.Counting.{only};
 ghost use Rattle.figures.specs.Figures.{most_jobs};
 ghost use Rattle.tables.specs.Tables.{kept_at, most_kept, count_of, Fit};
-ghost use Rattle.tables.specs.Part.{part_in};
 ghost use Rattle.choices.specs.Choices.{longest};
 ghost use Rattle.sums.specs.Sums.{longest_pair, Rounded, AllHere, Step, RoundedToSum};
 ghost use Rattle.sums.specs.Serving.{Running, Narrow, served_from, most_served, Unserved};
@@ -33,10 +32,8 @@ fn longest_pair(low: &[u16], lows: usize, high: &[u16], highs: usize, x: u16) ->
     ensures { result ≡ longest_pair low.now lows high.now highs x }
 {
     let mut r: u16 = 0;
-    let mut i: usize = 0;
-    while i < lows {
+    for i in 0..lows {
         r = counting::larger(r, paired(high, highs, low[i], x));
-        i += 1;
     }
     r
 }
@@ -90,11 +87,9 @@ fn step_of(jobs: &Jobs) -> u16
 {
     let count = tables::count(jobs);
     let mut step = tables::changeover(jobs);
-    let mut i: usize = 0;
-    while i < count {
+    for i in 0..count {
         step = divisor(step, tables::minutes(jobs, i));
         step = divisor(step, tables::arrival(jobs, i));
-        i += 1;
     }
     step
 }
@@ -117,12 +112,10 @@ fn all_here(jobs: &Jobs) -> bool
     ensures { result ≡ true → AllHere jobs.now (count_of jobs.now) }
 {
     let count = tables::count(jobs);
-    let mut i: usize = 0;
-    while i < count {
+    for i in 0..count {
         if tables::arrival(jobs, i) != 0 {
             return false;
         }
-        i += 1;
     }
     true
 }
@@ -162,16 +155,14 @@ fn reach_from(at: &[u16], count: usize, t: u16, close: u16) -> u16
 
 // What the modules of the placed jobs but the first `gone` serve, each from when it is given back, up to minute `close`.
 fn served_behind(at: &[u16], count: usize, part: &Part, gone: usize, close: u16) -> u32
-    requires { (Narrow (part_in part.now) gone) × (count ≤ length at.now) }
-    ensures { (result ≡ served_from (longest at.now count) (part_in part.now) gone close) × (result ≤ most_served) }
+    requires { (Narrow part.now gone) × (count ≤ length at.now) }
+    ensures { (result ≡ served_from (longest at.now count) part.now gone close) × (result ≤ most_served) }
 {
-    let placed = tables::placed(part);
+    let placed = part.placed;
     let mut total: u32 = 0;
-    let mut i = gone;
-    while i < placed {
-        let reach = reach_from(at, count, tables::until(part, i), close);
-        total += counting::times(tables::held(part, i), reach);
-        i += 1;
+    for i in gone..placed {
+        let reach = reach_from(at, count, part.until[i], close);
+        total += counting::times(part.held[i], reach);
     }
     total
 }
@@ -180,10 +171,10 @@ fn served_behind(at: &[u16], count: usize, part: &Part, gone: usize, close: u16)
 // placed jobs have given theirs back by minute `least`, and `free` modules are free then. More than SERVED_JOBS unplaced jobs are not looked
 // at.
 pub fn unserved(jobs: &Jobs, part: &Part, gone: usize, free: u16, least: u16, close: u16) -> bool
-    requires { (Fit jobs.now) × (Running jobs.now (part_in part.now) gone free least) }
-    ensures { result ≡ true → Unserved jobs.now (part_in part.now) least close }
+    requires { (Fit jobs.now) × (Running jobs.now part.now gone free least) }
+    ensures { result ≡ true → Unserved jobs.now part.now least close }
 {
-    let set = tables::unplaced(part);
+    let set = part.unplaced;
     if bits::ones32(set) > SERVED_JOBS {
         return false;
     }
@@ -194,5 +185,5 @@ pub fn unserved(jobs: &Jobs, part: &Part, gone: usize, free: u16, least: u16, cl
     }
     let behind = served_behind(&at, count, part, gone, close);
     let at_once = counting::times(free, reach_from(&at, count, least, close));
-    behind + at_once < tables::left(part)
+    behind + at_once < part.left
 }

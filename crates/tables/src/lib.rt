@@ -5,10 +5,8 @@
 ghost use Rattle.std.specs.Prelude.{◌≡◌, ◌+◌, ◌*◌, ◌<◌, min, get_or};
 ghost use Rattle.figures.specs.Figures.{most_jobs, no_minute};
 ghost use Rattle.tables.specs.Tables.{need_at, minutes_at, arrival_at, earlier_at, count_of, modules_of, changeover_of, kept_at};
-ghost use Rattle.tables.specs.Part.{part_in};
-ghost use Rattle.tables.specs.Prepared.{related_places, worth_places, most_places, lanes_places, tails_in, heads_in, related_in, worth_in, most_in, lanes_in};
 
-use figures::NO_MINUTE;
+use figures::{MOST_JOBS, NO_MINUTE};
 
 // A number as an index.
 fn wide(x: u16) -> usize
@@ -120,171 +118,59 @@ pub fn earlier(jobs: &Jobs, j: usize) -> u32
 
 // ---- the part-plan
 
-// A part-plan (P-15) has four lists of 20 numbers: the end of each placed job by its number; the placed jobs sorted by their ends, at UNTIL
-// the minutes from which their modules are free again, the changeover included, and at HELD their modules; and at ORDER the jobs as they
-// were placed. Then single numbers: the last start, the modules that are free then, how many jobs are placed, how many of those have given
-// back their modules by then, the set of the unplaced jobs and the module-minutes that they keep from others.
-pub const PART_PLACES: usize = 88;
-
-pub type Part = [u16; PART_PLACES];
-
-pub const UNTIL: usize = 20;
-
-pub const HELD: usize = 40;
-
-pub const ORDER: usize = 60;
-
-// The single numbers begin here, and are so many.
-pub const LAST: usize = 80;
-
-pub const NUMBERS: usize = 8;
-
-pub const FREE: usize = 81;
-
-pub const PLACED: usize = 82;
-
-pub const GONE: usize = 83;
-
-pub const UNPLACED: usize = 84;
-
-pub const LEFT: usize = 86;
-
-// The end of job j, or 0 while it is unplaced.
-pub fn end(part: &Part, j: usize) -> u16
-    requires { j < most_jobs }
-    ensures { result ≡ get_or (part_in part.now).ends j 0 }
-{
-    part[j]
-}
-
-// The minute from which the modules of the k-th placed job by ends are free again.
-pub fn until(part: &Part, k: usize) -> u16
-    requires { k < most_jobs }
-    ensures { result ≡ get_or (part_in part.now).until k 0 }
-{
-    part[UNTIL + k]
-}
-
-// The modules of that job.
-pub fn held(part: &Part, k: usize) -> u16
-    requires { k < most_jobs }
-    ensures { result ≡ get_or (part_in part.now).held k 0 }
-{
-    part[HELD + k]
-}
-
-// The job that was placed as the k-th.
-pub fn job_at(part: &Part, k: usize) -> usize
-    requires { k < most_jobs }
-    ensures { result ≡ get_or (part_in part.now).order k 0 }
-{
-    wide(part[ORDER + k])
-}
-
-// The last start.
-pub fn last(part: &Part) -> u16
-    ensures { result ≡ (part_in part.now).last }
-{
-    part[LAST]
-}
-
-// The modules that are free at the last start.
-pub fn free(part: &Part) -> u16
-    ensures { result ≡ (part_in part.now).free }
-{
-    part[FREE]
-}
-
-// How many jobs are placed.
-pub fn placed(part: &Part) -> usize
-    ensures { result ≡ (part_in part.now).placed }
-{
-    wide(part[PLACED])
-}
-
-// How many of them have given back their modules by the last start.
-pub fn gone(part: &Part) -> usize
-    ensures { result ≡ (part_in part.now).gone }
-{
-    wide(part[GONE])
-}
-
-// The set of the unplaced jobs.
-pub fn unplaced(part: &Part) -> u32
-    ensures { result ≡ (part_in part.now).unplaced }
-{
-    whole(part[UNPLACED], part[UNPLACED + 1])
-}
-
-// The module-minutes that the unplaced jobs keep from others.
-pub fn left(part: &Part) -> u32
-    ensures { result ≡ (part_in part.now).left }
-{
-    whole(part[LEFT], part[LEFT + 1])
+// A part-plan (P-15): some of the jobs placed, one after another.
+#[derive(Clone, Copy)]
+pub struct Part {
+    // The end of each placed job by its number, 0 for the others.
+    pub ends: [u16; MOST_JOBS],
+    // The placed jobs sorted by their ends: the minutes from which their modules are free again, the changeover included, and how many
+    // modules these are.
+    pub until: [u16; MOST_JOBS],
+    pub held: [u16; MOST_JOBS],
+    // The jobs as they were placed.
+    pub order: [u8; MOST_JOBS],
+    // The last start, and the modules that are free then.
+    pub last: u16,
+    pub free: u16,
+    // How many jobs are placed, and how many of those have given back their modules by the last start.
+    pub placed: usize,
+    pub gone: usize,
+    // The unplaced jobs, a set, and the module-minutes that they keep from others.
+    pub unplaced: u32,
+    pub left: u32,
 }
 
 // ---- the prepared table
 
-// What is made of the jobs once, side by side: the longest chain of each job, from HEADS on the minute before which it cannot start, from
-// RELATED on three sets for each job, from WORTH and MOST on five weightings, and from LANES on the tables of the lanes.
-pub const PREPARED_PLACES: usize = 1635;
-
-pub type Prepared = [u32; PREPARED_PLACES];
-
-pub const HEADS: usize = 20;
-
-pub const RELATED: usize = 40;
-
-pub const WORTH: usize = 100;
-
-pub const MOST: usize = 200;
-
-pub const LANES: usize = 525;
-
-// The longest chain that begins with job j.
-pub fn tail(prepared: &Prepared, j: usize) -> u32
-    requires { j < most_jobs }
-    ensures { result ≡ get_or (tails_in prepared.now) j 0 }
-{
-    prepared[j]
+// What is made of the jobs once.
+#[derive(Clone, Copy)]
+pub struct Prepared {
+    // The longest chain that begins with each job, and the minute before which it cannot start.
+    pub tails: [u16; MOST_JOBS],
+    pub heads: [u16; MOST_JOBS],
+    // Three sets of related jobs for each job.
+    pub related: [u32; RELATED_PLACES],
+    // Five weightings: the worth of each job, and the most that can stand on so many modules.
+    pub worth: [u32; WORTH_PLACES],
+    pub most: [u16; MOST_PLACES],
+    // The tables of the lanes.
+    pub lanes: [u32; LANES_PLACES],
 }
 
-// The minute before which job j cannot start.
-pub fn head(prepared: &Prepared, j: usize) -> u32
-    requires { j < most_jobs }
-    ensures { result ≡ get_or (heads_in prepared.now) j 0 }
-{
-    prepared[HEADS + j]
-}
+pub const RELATED_PLACES: usize = 60;
 
-// Place i of the jobs' relations.
-pub fn related(prepared: &Prepared, i: usize) -> u32
-    requires { i < related_places }
-    ensures { result ≡ get_or (related_in prepared.now) i 0 }
-{
-    prepared[RELATED + i]
-}
+pub const WORTH_PLACES: usize = 100;
 
-// Place i of the jobs' worth in the weightings.
-pub fn worth(prepared: &Prepared, i: usize) -> u32
-    requires { i < worth_places }
-    ensures { result ≡ get_or (worth_in prepared.now) i 0 }
-{
-    prepared[WORTH + i]
-}
+pub const MOST_PLACES: usize = 325;
 
-// Place i of the most that can stand on modules in the weightings.
-pub fn most(prepared: &Prepared, i: usize) -> u32
-    requires { i < most_places }
-    ensures { result ≡ get_or (most_in prepared.now) i 0 }
-{
-    prepared[MOST + i]
-}
+pub const LANES_PLACES: usize = 1110;
 
-// Place i of the lanes' tables.
-pub fn lanes(prepared: &Prepared, i: usize) -> u32
-    requires { i < lanes_places }
-    ensures { result ≡ get_or (lanes_in prepared.now) i 0 }
-{
-    prepared[LANES + i]
-}
+// Nothing made yet.
+pub const UNPREPARED: Prepared = Prepared {
+    tails: [0; MOST_JOBS],
+    heads: [0; MOST_JOBS],
+    related: [0; RELATED_PLACES],
+    worth: [0; WORTH_PLACES],
+    most: [0; MOST_PLACES],
+    lanes: [0; LANES_PLACES],
+};

@@ -33,10 +33,8 @@ fn with_value(old: &[u16; STEPS], width: usize, value: u16) -> Reach
     ensures { Put (λ x. x) old.now result.at steps (most_with old.now width value) }
 {
     let mut next = *old;
-    let mut x = width;
-    while x < STEPS {
+    for x in width..STEPS {
         next[x] = counting::larger(old[x], value + old[x - width]);
-        x += 1;
     }
     Reach { at: next }
 }
@@ -48,13 +46,11 @@ pub fn reach_of(jobs: &Jobs, value: &[u16; MOST_JOBS], step: u16) -> Reach
 {
     let count = tables::count(jobs);
     let mut reach = Reach { at: [0u16; STEPS] };
-    let mut k: usize = 0;
-    while k < count {
+    for k in 0..count {
         let kept = tables::kept(jobs, k);
         let gain = value[k];
         let lasts = steps(kept, step as u32);
         reach = with_value(&reach.at, lasts, gain);
-        k += 1;
     }
     reach
 }
@@ -72,11 +68,9 @@ fn with_set(reach: &[u16; STEPS], sets: &[u32; STEPS], width: usize, value: u16,
     requires { ((p : ℕ) → get_or reach.now p 0 ≤ few_value) × (value ≤ most_value) }
 {
     let mut next = *sets;
-    let mut x = width;
-    while x < STEPS {
+    for x in width..STEPS {
         let more = reach[x] < value + reach[x - width];
         next[x] = either(more, sets[x - width] | job, sets[x]);
-        x += 1;
     }
     Sets { at: next }
 }
@@ -88,12 +82,10 @@ pub fn serve(jobs: &Jobs, value: &[u16; MOST_JOBS], step: u16, t: usize) -> Serv
     let count = tables::count(jobs);
     let mut reach = Reach { at: [0u16; STEPS] };
     let mut sets = Sets { at: [0u32; STEPS] };
-    let mut k: usize = 0;
-    while k < count {
+    for k in 0..count {
         let width = steps(tables::kept(jobs, k), step as u32);
         sets = with_set(&reach.at, &sets.at, width, value[k], 1u32 << k);
         reach = with_value(&reach.at, width, value[k]);
-        k += 1;
     }
     Served {
         value: reach.at[t],

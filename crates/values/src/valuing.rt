@@ -48,12 +48,10 @@ fn largest(shares: &[u32; MOST_JOBS]) -> u32
     ensures { 0 < result }
 {
     let mut top: u32 = 1;
-    let mut k: usize = 0;
-    while k < MOST_JOBS {
+    for k in 0..MOST_JOBS {
         if top < shares[k] {
             top = shares[k];
         }
-        k += 1;
     }
     top
 }
@@ -73,10 +71,8 @@ fn share(x: u32, top: u32) -> u32
 fn scaled(shares: &[u32; MOST_JOBS]) -> Shares {
     let top = largest(shares);
     let mut next = [0u32; MOST_JOBS];
-    let mut k: usize = 0;
-    while k < MOST_JOBS {
+    for k in 0..MOST_JOBS {
         next[k] = share(shares[k], top);
-        k += 1;
     }
     Shares { of: next }
 }
@@ -87,10 +83,8 @@ fn first_shares(jobs: &Jobs) -> Shares
 {
     let count = tables::count(jobs);
     let mut next = [0u32; MOST_JOBS];
-    let mut k: usize = 0;
-    while k < count {
+    for k in 0..count {
         next[k] = wide(tables::kept(jobs, k));
-        k += 1;
     }
     scaled(&next)
 }
@@ -116,10 +110,8 @@ fn values_of(shares: &[u32; MOST_JOBS], jobs: &Jobs, step: u16) -> Figures
 {
     let count = tables::count(jobs);
     let mut next = [0u16; MOST_JOBS];
-    let mut k: usize = 0;
-    while k < count {
+    for k in 0..count {
         next[k] = value_of(shares[k], tables::kept(jobs, k), step);
-        k += 1;
     }
     Figures { of: next }
 }
@@ -170,10 +162,8 @@ fn turn(
     requires { 0 < parts }
 {
     let mut next = [0u32; MOST_JOBS];
-    let mut k: usize = 0;
-    while k < MOST_JOBS {
+    for k in 0..MOST_JOBS {
         next[k] = turned(shares[k], weight[k], most, parts, (set >> k) % 2 == 1);
-        k += 1;
     }
     Shares { of: next }
 }

@@ -24,10 +24,8 @@ fn needs(jobs: &Jobs) -> Figures
 {
     let count = tables::count(jobs);
     let mut next = [0u16; MOST_JOBS];
-    let mut k: usize = 0;
-    while k < count {
+    for k in 0..count {
         next[k] = tables::need(jobs, k);
-        k += 1;
     }
     Figures { of: next }
 }
@@ -38,10 +36,8 @@ fn counted(modules: u16) -> weights::Most
     ensures { Put (λ x. x) (replicate widths 0) result.at (modules + 1) (λ x. x) }
 {
     let mut next = [0u16; WIDTHS];
-    let mut x: u16 = 0;
-    while x <= modules {
+    for x in 0..=modules {
         next[x as usize] = x;
-        x += 1;
     }
     weights::Most { at: next }
 }
@@ -64,10 +60,8 @@ fn weights_in(jobs: &Jobs, q: usize) -> Figures
 {
     let count = tables::count(jobs);
     let mut next = [0u16; MOST_JOBS];
-    let mut k: usize = 0;
-    while k < count {
+    for k in 0..count {
         next[k] = weights::weight_of(jobs, k, q);
-        k += 1;
     }
     Figures { of: next }
 }
@@ -88,10 +82,8 @@ pub fn total(a: &[u16; MOST_JOBS], b: &[u16; MOST_JOBS], count: usize) -> u64
     ensures { result ≤ most_total }
 {
     let mut sum: u64 = 0;
-    let mut k: usize = 0;
-    while k < count {
+    for k in 0..count {
         sum += counting::times(a[k], b[k]) as u64;
-        k += 1;
     }
     sum
 }
@@ -109,10 +101,8 @@ fn lengths(jobs: &Jobs) -> Figures
 {
     let count = tables::count(jobs);
     let mut next = [0u16; MOST_JOBS];
-    let mut k: usize = 0;
-    while k < count {
+    for k in 0..count {
         next[k] = tables::kept(jobs, k);
-        k += 1;
     }
     Figures { of: next }
 }
@@ -146,11 +136,9 @@ pub fn chosen(jobs: &Jobs) -> Weighed
     ensures { Chosen jobs.now result.weight result.most }
 {
     let mut best = own_weights(jobs);
-    let mut q: usize = 0;
-    while q < WEIGHTINGS {
+    for q in 0..WEIGHTINGS {
         let other = weighting(jobs, q);
         best = heavier(best, other, jobs);
-        q += 1;
     }
     best
 }

@@ -13,7 +13,7 @@ use Rattle.counting.proofs.Intervals.{sum_from, sum_past}
 use Rattle.figures.specs.Figures.{most_jobs, most_modules}
 use Rattle.bits.specs.Bits.{bit}
 use Rattle.tables.specs.Tables.{kept_at, count_of, modules_of}
-use Rattle.tables.specs.Part.{Part}
+use Rattle.tables.specs.declared.Part.{Part}
 use Rattle.placement.specs.Profile.{held_of, held_from, Sorted, ProfileOf}
 use Rattle.placement.proofs.Profiles.{held_from-step, held-at-le, held_from-le}
 use Rattle.weights.specs.Weights.{weightings, all_weight, Weighting, room_for, Outweighed}

@@ -4,7 +4,7 @@ use Rattle.counting.specs.Counting.{only, sum, Rises, Holds}
 use Rattle.figures.specs.Figures.{most_jobs, most_modules, no_minute}
 use Rattle.bits.specs.Bits.{bit}
 use Rattle.tables.specs.Tables.{need_at, kept_at, most_kept, count_of, modules_of}
-use Rattle.tables.specs.Part.{Part}
+use Rattle.tables.specs.declared.Part.{Part}
 use Rattle.placement.specs.Profile.{held_of}
 
 -- ---- figures

@@ -6,7 +6,6 @@ use native.Mathlib.Omega.{arith}
 use native.Mathlib.Nat.{pos_of_ne-zero}
 use Rattle.counting.proofs.Tests.{clash}
 use Rattle.bits.proofs.Walks.{walk_first, walk_next, walk_less}
-use Rattle.tables.specs.Part.{part_in}
 use Rattle.areas.specs.Areas.{TooLate}
 use Rattle.areas.proofs.too_late.Goals as goal
 
@@ -19,7 +18,7 @@ below32-todo-requires c = omega (arith, c.count.ensures, c.requires.0.few)
 pub loop-todo-init : goal.loop-todo-init
 loop-todo-init c =
     let past = c in
-    (omega (arith, past.closing-close.ensures, past.if-close.false), rw (c.below32-todo.ensures, c.count.ensures, c.unplaced.ensures) (walk_first _ _))
+    (omega (arith, past.closing-close.ensures, past.if-close.false), rw (c.below32-todo.ensures, c.count.ensures) (walk_first _ _))
 
 pub lowest32-k-requires : goal.lowest32-k-requires
 lowest32-k-requires c = pos_of_ne-zero c.loop-todo-test.true
@@ -34,7 +33,7 @@ pub returns-then-late_job : goal.returns-then-late_job
 returns-then-late_job c = λ e.
     let loop = c.loop-todo in
     let a = c.args in
-    subst (λ (C : ℕ). TooLate a.jobs.now a.prepared.now (part_in a.part.now) a.target C) loop.invariant.0 (c.late_job.ensures c.if-late_job.true)
+    subst (λ (C : ℕ). TooLate a.jobs.now a.prepared.now a.part.now a.target C) loop.invariant.0 (c.late_job.ensures c.if-late_job.true)
 
 pub without_lowest32-todo-requires : goal.without_lowest32-todo-requires
 without_lowest32-todo-requires c = pos_of_ne-zero c.loop-todo-test.true

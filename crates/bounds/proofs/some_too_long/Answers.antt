@@ -22,14 +22,11 @@ offset_bounds-at-j c = record { fits = omega (arith, c.lowest32-j.ensures.0) }
 pub bounds-at-j : goal.bounds-at-j
 bounds-at-j c = omega (arith, c.loop-todo.invariant.below _ c.lowest32-j.ensures.1, c.requires)
 
-pub tail-requires : goal.tail-requires
-tail-requires c = omega (arith, c.loop-todo.invariant.below _ c.lowest32-j.ensures.1, c.requires)
-
 pub returns-then-too_long : goal.returns-then-too_long
 returns-then-too_long c = λ e.
     let f = c.too_long.ensures c.if-too_long.true in
     let j = c.lowest32-j in
-    (j.result, c.loop-todo.invariant.below _ j.ensures.1, f.0, rw c.tail.ensures at f.1)
+    (j.result, c.loop-todo.invariant.below _ j.ensures.1, f.0, f.1)
 
 pub without_lowest32-todo-requires : goal.without_lowest32-todo-requires
 without_lowest32-todo-requires c = pos_of_ne-zero c.loop-todo-test.true

@@ -9,7 +9,7 @@ pub below32-todo-requires : goal.below32-todo-requires
 below32-todo-requires c = omega (arith, c.requires, c.count.ensures)
 
 pub loop-todo-init : goal.loop-todo-init
-loop-todo-init c = rw (c.below32-todo.ensures, c.count.ensures, c.unplaced.ensures) (awaiting-none _ _)
+loop-todo-init c = rw (c.below32-todo.ensures, c.count.ensures) (awaiting-none _ _)
 
 pub lowest32-x-requires : goal.lowest32-x-requires
 lowest32-x-requires c = pos_of_ne-zero c.loop-todo-test.true

@@ -8,8 +8,7 @@ returns-then-alike_tried c = λ e. inl (c.alike_tried.ensures c.if-alike_tried.t
 
 pub returns-then-test32 : goal.returns-then-test32
 returns-then-test32 c = λ e.
-    let start = c.if-start-last.true ∙ c.last.ensures in
-    inr (inl (start, sym c.test32.ensures ∙ c.if-test32.true))
+    inr (inl (c.if-start-part.true, sym c.test32.ensures ∙ c.if-test32.true))
 
 pub swapped-requires : goal.swapped-requires
 swapped-requires c =

@@ -15,17 +15,12 @@ pub loop-todo-init : goal.loop-todo-init
 loop-todo-init c =
     let found = c.to_swap in
     let all = walk_first (count_of c.args.jobs.now) found.result in (
-      c.unplaced-unplaced.ensures,
+      refl,
       rw (c.below32-todo.ensures, c.count.ensures) (record { below = all.below; inside = λ i b. found.ensures i (all.inside i b) }),
     )
 
 pub lowest32-i-requires : goal.lowest32-i-requires
 lowest32-i-requires c = pos_of_ne-zero c.loop-todo-test.true
-
-pub end-requires : goal.end-requires
-end-requires c =
-    let head = c in
-    omega (arith, head.loop-todo.invariant.1.below _ c.lowest32-i.ensures.1, head.requires.0)
 
 pub offset_bounds-settled-i : goal.offset_bounds-settled-i
 offset_bounds-settled-i c = record { fits = omega (arith, c.lowest32-i.ensures.0) }
@@ -52,7 +47,7 @@ returns-then-starts_behind c = λ e.
       i.result,
       inv.1.below _ member,
       inv.1.inside _ member,
-      (rw (c.end.ensures, rest.ensures) at behind.0, rw inv.0 at behind.1),
+      (rw (rest.ensures) at behind.0, rw inv.0 at behind.1),
     )
 
 pub without_lowest32-todo-requires : goal.without_lowest32-todo-requires

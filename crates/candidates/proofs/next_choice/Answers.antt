@@ -1,6 +1,6 @@
 -- `candidates::next_choice` meets its contract.
 use mathlib.Core.Path.{refl}
-use Prim.Native.Nat.{◌%◌}
+use lib.ListN.{get_or}
 use native.Mathlib.Omega.{arith}
 use native.Mathlib.Nat.{pos_of_ne-zero}
 use Rattle.bits.proofs.Walks.{walk_less}
@@ -22,9 +22,6 @@ offset_bounds-at-j c = record { fits = omega (arith, c.lowest32-j.ensures.0) }
 pub bounds-at-j : goal.bounds-at-j
 bounds-at-j c = omega (arith, c.loop-todo.invariant.walk.below _ c.lowest32-j.ensures.1, c.requires)
 
-pub tail-requires : goal.tail-requires
-tail-requires c = omega (arith, c.loop-todo.invariant.walk.below _ c.lowest32-j.ensures.1, c.requires)
-
 pub without_lowest32-todo-requires : goal.without_lowest32-todo-requires
 without_lowest32-todo-requires c = pos_of_ne-zero c.loop-todo-test.true
 
@@ -42,7 +39,7 @@ loop-todo-preserved c =
     let rank = c.rank_of.ensures in
     let choose = c.choose-c in
     rw (c.without_lowest32-todo.ensures _ j.ensures.1 j.ensures.2)
-    (choosing-step a.at.now a.set a.count loop.todo j.result (c.tail.result % 65536) loop.c.job loop.c.rank
+    (choosing-step a.at.now a.set a.count loop.todo j.result (get_or a.prepared.now.tails j.result 0) loop.c.job loop.c.rank
     choose.result.job choose.result.rank rank.1 loop.invariant j.ensures.1 (rw rank.0 at choose.ensures))
 
 pub returns : goal.returns

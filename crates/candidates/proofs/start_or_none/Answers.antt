@@ -10,9 +10,9 @@ test32-requires c = omega (arith, c.requires.1, c.requires.0.fit.few)
 pub next_start-requires : goal.next_start-requires
 next_start-requires c =
     let pre = c.requires in
-    (pre.0, (pre.1, rw c.unplaced.ensures at (sym c.test32.ensures ∙ c.if-test32.true)))
+    (pre.0, (pre.1, (sym c.test32.ensures ∙ c.if-test32.true)))
 
 pub returns : goal.returns
 returns c =
     let pre = c.requires in
-    placed-none pre.0 pre.1 (rw c.unplaced.ensures at (sym c.test32.ensures ∙ c.if-test32.false))
+    placed-none pre.0 pre.1 ((sym c.test32.ensures ∙ c.if-test32.false))

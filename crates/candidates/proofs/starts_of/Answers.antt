@@ -11,7 +11,7 @@ below32-todo-requires c = omega (arith, c.count.ensures, c.requires.fit.few)
 pub loop-todo-init : goal.loop-todo-init
 loop-todo-init c =
     let pre = c.requires in
-    (pre, rw (c.below32-todo.ensures, c.unplaced.ensures, c.count.ensures) (starting-none (pre)))
+    (pre, rw (c.below32-todo.ensures, c.count.ensures) (starting-none (pre)))
 
 pub lowest32-j-requires : goal.lowest32-j-requires
 lowest32-j-requires c = pos_of_ne-zero c.loop-todo-test.true

@@ -15,7 +15,7 @@ returns-then-read32-unplaced c = no
 pub loop-i-init : goal.loop-i-init
 loop-i-init c =
     let last = c.after_both-late.ensures in
-    (zero-le, last.0, λ e. (omega (arith, last.1 e, c.read16.ensures), λ k h. absurd (omega arith)))
+    (last.0, λ e. (omega (arith, last.1 e, c.read16.ensures), λ k h. absurd (omega arith)))
 
 pub loop-i-preserved : goal.loop-i-preserved
 loop-i-preserved c =
@@ -23,16 +23,13 @@ loop-i-preserved c =
     let read = c in
     let loop = read.loop-i in
     let a = read.args in
-    let at = 64 + a.way * 42 in (
-      omega arith,
-      omega (arith, loop.invariant.1, one.0),
+    let at = 64 + a.way * 42 in (omega (arith, loop.invariant, one.0),
       λ e.
-          let so = loop.invariant.2 (omega arith) in
+          let so = loop.invariant.1 (omega arith) in
           let zero : c.after_both-late-in-loop-i.result ≡ 0 = omega arith in
-          let here : u16_at a.group.now (at + 2 + 2 * loop.i) ≤ max (get_or a.part.now loop.i 0) a.rested =
-          rw (read.read16-in-loop-i.ensures, c.end.ensures) at (one.1 zero) in
-          (so.0, below_more _ _ so.1 here),
-    )
+          let here : u16_at a.group.now (at + 2 + 2 * loop.i) ≤ max (get_or a.part.now.ends loop.i 0) a.rested =
+          rw (read.read16-in-loop-i.ensures) at (one.1 zero) in
+          (so.0, below_more _ _ so.1 here))
 
 pub returns : goal.returns
 returns c =
@@ -42,6 +39,6 @@ returns c =
     let start = else1 in
     let a = start.args in
     λ e.
-    let so = loop.invariant.2 (eqb-true _ _ e) in
-    ahead_in a.group.now a.way a.jobs a.part.now a.unplaced a.l a.rested start.requires.2
+    let so = loop.invariant.1 (eqb-true _ _ e) in
+    ahead_in a.group.now a.way a.jobs a.part.now.ends a.unplaced a.l a.rested start.requires.2
     (sym read32.ensures ∙ else1.if-read32-unplaced.false) so.0 (λ i h. so.1 i (omega arith))

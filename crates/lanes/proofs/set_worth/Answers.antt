@@ -5,7 +5,6 @@ use native.Mathlib.Nat.{pos_of_ne-zero}
 use Rattle.bits.proofs.Walks.{walk_first, walk_next, walk_less}
 use Rattle.bits.proofs.Weighing.{weighed-none, weighed_more, weighed_small, weighed_all}
 use Rattle.tables.specs.Tables.{count_of}
-use Rattle.tables.specs.Part.{part_in}
 use Rattle.values.specs.Values.{most_lane_worth}
 use Rattle.lanes.proofs.set_worth.Goals as goal
 
@@ -15,11 +14,10 @@ below32-todo-requires c = omega (arith, c.count.ensures, c.requires.0)
 pub loop-todo-init : goal.loop-todo-init
 loop-todo-init c =
     let count = c.count in
-    let unplaced = c.unplaced in
     let args = c.args in
-    let set = (part_in args.part.now).unplaced in
+    let set = args.part.now.unplaced in
     let jobs = count_of args.jobs.now in
-    rw (c.below32-todo.ensures, unplaced.ensures, count.ensures) (walk_first jobs set, weighed-none set jobs _ 0 refl)
+    rw (c.below32-todo.ensures, count.ensures) (walk_first jobs set, weighed-none set jobs _ 0 refl)
 
 pub lowest32-k-requires : goal.lowest32-k-requires
 lowest32-k-requires c = pos_of_ne-zero c.loop-todo-test.true

@@ -3,7 +3,4 @@ use Prim.Native.Nat.{◌-◌, ◌≤◌}
 use Rattle.moves.proofs.moved_on.Given as goal
 
 abbrev pub invariant-loop-i : goal.invariant-loop-i
-invariant-loop-i l = (l.a ≤ l.i) × (l.i ≤ l.b)
-
-abbrev pub decreases-loop-i : goal.decreases-loop-i
-decreases-loop-i l = l.b - l.i
+invariant-loop-i l = l.a ≤ l.i

@@ -34,11 +34,6 @@ first_start-requires c =
     let low = c.lowest32-k in
     omega (arith, c.requires.few, c.loop-todo.invariant.0.below low.result low.ensures.1)
 
-pub tail-requires : goal.tail-requires
-tail-requires c =
-    let low = c.lowest32-k in
-    omega (arith, c.requires.few, c.loop-todo.invariant.0.below low.result low.ensures.1)
-
 pub overflow_add-total : goal.overflow_add-total
 overflow_add-total c =
     let low = c.lowest32-k in
@@ -48,7 +43,7 @@ overflow_add-total c =
     let inside = loop.invariant.0.below low.result low.ensures.1 in
     let small = weighed_small loop.invariant.1 low.result inside low.ensures.1 most_modules
     (hold_small start.requires a.prepared.now a.l a.target a.m) in
-    let held = rw (c.need.ensures, c.kept.ensures, c.first_start.ensures, c.tail.ensures) at c.must_hold-total.ensures in
+    let held = rw (c.need.ensures, c.kept.ensures, c.first_start.ensures) at c.must_hold-total.ensures in
     record { fits = omega (arith, held, start.requires.few, small) }
 
 pub without_lowest32-todo-requires : goal.without_lowest32-todo-requires
@@ -65,7 +60,7 @@ loop-todo-preserved c =
     let loop = c.loop-todo in
     let member = low.ensures.1 in
     let inside = loop.invariant.0.below low.result member in
-    rw (c.without_lowest32-todo.ensures _ member low.ensures.2, c.must_hold-total.ensures, c.need.ensures, c.kept.ensures, c.first_start.ensures, c.tail.ensures)
+    rw (c.without_lowest32-todo.ensures _ member low.ensures.2, c.must_hold-total.ensures, c.need.ensures, c.kept.ensures, c.first_start.ensures)
     (walk_next low.result loop.invariant.0, weighed_more loop.invariant.1 low.result inside member)
 
 pub returns : goal.returns

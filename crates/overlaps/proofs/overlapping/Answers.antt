@@ -11,7 +11,7 @@ pub below32-todo-requires : goal.below32-todo-requires
 below32-todo-requires c = omega (arith, c.count.ensures, c.requires.0.few)
 
 pub loop-todo-init : goal.loop-todo-init
-loop-todo-init c = rw (c.below32-todo.ensures, c.count.ensures, c.unplaced.ensures) (walk_first _ _)
+loop-todo-init c = rw (c.below32-todo.ensures, c.count.ensures) (walk_first _ _)
 
 pub lowest32-k-requires : goal.lowest32-k-requires
 lowest32-k-requires c = pos_of_ne-zero c.loop-todo-test.true

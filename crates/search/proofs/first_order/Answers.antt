@@ -42,11 +42,6 @@ go_on-requires c =
     let h = loop.invariant.1.0 in
     (h.going.known, rw c.index.ensures (settled_next h (omega (arith, loop.invariant.0, past.loop-k-test.true)) (c.settle_place-best.ensures.placed (λ e. omega (arith, c.if-left-eq0.false, e)))))
 
-pub overflow_add-k : goal.overflow_add-k
-overflow_add-k c =
-    let past = c in
-    omega (arith, past.loop-k-test.true)
-
 pub loop-k-preserved : goal.loop-k-preserved
 loop-k-preserved c =
     let past = c in

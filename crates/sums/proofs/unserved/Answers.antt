@@ -34,14 +34,12 @@ returns c =
     let past = c in
     let a = past.args in
     let pre = past.requires in
-    let unplaced = past.unplaced-set in
     let sums = c.subset_sums-count in
     let behind = c.served_behind-behind in
     let reach = c.reach_from in
     let times = c.times-at_once in
     let if2 = c.if-count-eq0 in
-    let of_set = rw unplaced.ensures at sums.ensures in
     λ e.
-    let short = ltb-true (behind.result + times.result) c.left.result e in
-    too_little pre.0 pre.1 a.close of_set (omega (arith, if2.false))
-    (rw (behind.ensures.0, times.ensures, reach.ensures, c.left.ensures) at short)
+    let short = ltb-true (behind.result + times.result) c.args.part.now.left e in
+    too_little pre.0 pre.1 a.close sums.ensures (omega (arith, if2.false))
+    (rw (behind.ensures.0, times.ensures, reach.ensures) at short)

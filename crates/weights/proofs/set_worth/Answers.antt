@@ -5,7 +5,6 @@ use Prim.Native.Nat.{◌+◌, ◌*◌}
 use Rattle.bits.proofs.Walks.{walk_first, walk_next, walk_less}
 use Rattle.bits.proofs.Weighing.{weighed-none, weighed_more, weighed_small, weighed_all}
 use Rattle.tables.specs.Tables.{count_of}
-use Rattle.tables.specs.Part.{part_in}
 use Rattle.tables.proofs.Laws.{zeros}
 use Rattle.weights.specs.Weights.{weightings, most_worth}
 use Rattle.weights.proofs.set_worth.Goals as goal
@@ -15,9 +14,9 @@ below32-todo-requires c = omega (arith, c.count.ensures, c.requires.0)
 
 pub loop-todo-init : goal.loop-todo-init
 loop-todo-init c =
-    let set = (part_in c.args.part.now).unplaced in
+    let set = c.args.part.now.unplaced in
     let jobs = count_of c.args.jobs.now in
-    rw (c.below32-todo.ensures, c.unplaced.ensures, c.count.ensures)
+    rw (c.below32-todo.ensures, c.count.ensures)
     (walk_first jobs set, λ q l. weighed-none set jobs _ _ (zeros weightings q))
 
 pub lowest32-k-requires : goal.lowest32-k-requires

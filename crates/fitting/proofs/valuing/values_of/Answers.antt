@@ -12,10 +12,6 @@ loop-k-init c = ((c.count-count.ensures, search rules), (search rules, valued-no
 pub test32-left-requires : goal.test32-left-requires
 test32-left-requires c = omega (arith, c.requires.few, c.loop-k.invariant.0, c.loop-k-test.true)
 
-pub overflow_add-k : goal.overflow_add-k
-overflow_add-k c =
-    record { fits = omega (arith, c.requires.few, c.loop-k.invariant.0, c.loop-k-test.true) }
-
 pub offset_bounds-slate-k : goal.offset_bounds-slate-k
 offset_bounds-slate-k c =
     record { fits = omega (arith, c.requires.few, c.loop-k.invariant.0, c.loop-k-test.true) }
