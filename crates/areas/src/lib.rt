@@ -71,12 +71,12 @@ fn late_work(jobs: &Jobs, prepared: &Prepared, set: u32, l: u16, a: u16) -> u32
         (λ k. only (bit set k) (late_work jobs.now prepared.now l a k)) }
 {
     let mut total: u32 = 0;
-    let mut todo = bits::below32(set, tables::count(jobs));
+    let mut todo = bits::below32(set, jobs.count());
     while todo != 0 {
         let k = bits::lowest32(todo);
         let first = heads::first_start(prepared, l, k);
-        let behind = late_minutes(tables::kept(jobs, k), first, a);
-        total += counting::times(tables::need(jobs, k), behind);
+        let behind = late_minutes(jobs.kept(k), first, a);
+        total += counting::times(jobs.need(k), behind);
         todo = bits::without_lowest32(todo);
     }
     total
@@ -90,7 +90,7 @@ fn late_from(jobs: &Jobs, prepared: &Prepared, part: &Part, l: u16, a: u16, clos
         (λ k. only (bit part.now.unplaced k) (late_work jobs.now prepared.now l a k))
         + held_since part.now a }
 {
-    let room = counting::times(tables::modules(jobs), close - a);
+    let room = counting::times(jobs.modules(), close - a);
     let work = late_work(jobs, prepared, part.unplaced, l, a);
     room < work + held_after(part, a)
 }
@@ -125,11 +125,11 @@ pub fn too_late(jobs: &Jobs, prepared: &Prepared, part: &Part, target: u16) -> b
     ensures { result ≡ true → TooLate jobs.now prepared.now part.now target
         (target + changeover_of jobs.now) }
 {
-    let close = tables::closing(jobs, target);
+    let close = jobs.closing(target);
     if close == NO_MINUTE {
         return false;
     }
-    let mut todo = bits::below32(part.unplaced, tables::count(jobs));
+    let mut todo = bits::below32(part.unplaced, jobs.count());
     while todo != 0 {
         let k = bits::lowest32(todo);
         if late_job(jobs, prepared, part, target, close, k) {

@@ -7,6 +7,7 @@ use Prim.Native.Nat.{ℕ, suc, ◌+◌, ◌-◌, ◌*◌, ◌≤◌, ◌<◌}
 use native.Mathlib.Omega.{arith}
 use native.Mathlib.Numerals.{add-one}
 use lib.Count.{ones}
+use Rattle.tables.specs.declared.Jobs.{Jobs}
 use Rattle.tables.specs.declared.Prepared.{Prepared}
 use Rattle.counting.specs.Counting.{only}
 use Rattle.counting.proofs.Tests.{true-or-false}
@@ -31,7 +32,7 @@ use Rattle.bounds.specs.Bounds.{SomeTooLong, Hopeless, Bounding}
 use Rattle.bounds.proofs.Shortages.{short_cut}
 
 -- from the last start on, what is held is a small number
-pub held_later : {t : List ℕ} {part : Part} → Known t part → HeldLater part
+pub held_later : {t : Jobs} {part : Part} → Known t part → HeldLater part
 held_later {t} {part} known a from =
     let q = known.is.figures.profile in
     record {
@@ -41,7 +42,7 @@ held_later {t} {part} known a from =
       small = after_small t known.fit part (word_of part) known.is a;
     }
 
-module _ {t : List ℕ} {part : Part} (known : Known t part)
+module _ {t : Jobs} {part : Part} (known : Known t part)
     {at : List ℕ} {least : ℕ} (starts : JobStarts t part at least) where
   abbrev S : Sheet
   S = sheet_of t

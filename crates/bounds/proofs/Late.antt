@@ -6,6 +6,7 @@ use mathlib.Core.List.{List}
 use Prim.Native.Nat.{ℕ, suc, ◌+◌, ◌-◌, ◌*◌, ◌<◌, max}
 use native.Mathlib.Omega.{arith}
 use native.Mathlib.Nat.{le_of_eq}
+use Rattle.tables.specs.declared.Jobs.{Jobs}
 use Rattle.tables.specs.declared.Prepared.{Prepared}
 use Rattle.counting.specs.Counting.{only}
 use Rattle.counting.proofs.Tests.{true-or-false}
@@ -28,7 +29,7 @@ use Rattle.heads.specs.Heads.{HeadsOf}
 use Rattle.areas.specs.Areas.{late_work, LateChain, LateArea, TooLate}
 use Rattle.candidates.specs.Candidates.{Known, theory_part}
 
-module _ {t : List ℕ} {part : Part} (known : Known t part) (T : ℕ) (prepared : Prepared)
+module _ {t : Jobs} {part : Part} (known : Known t part) (T : ℕ) (prepared : Prepared)
     (chains : ChainsOf t prepared.tails (count_of t)) (heads : HeadsOf t prepared.heads (count_of t)) where
   abbrev S : Sheet
   S = sheet_of t

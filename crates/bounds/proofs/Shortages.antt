@@ -8,6 +8,7 @@ use native.Mathlib.Omega.{arith}
 use lib.Dec.{ltb, leb, eqb}
 use lib.ListN.{get_or}
 use borrow.Author.Tests.{ltb-true, lt-ltb, eqb-false}
+use Rattle.tables.specs.declared.Jobs.{Jobs}
 use Rattle.tables.specs.declared.Prepared.{Prepared}
 use Rattle.counting.specs.Counting.{only, sum}
 use Rattle.counting.proofs.Tests.{true-or-false, and_left, and_right, mul-only}
@@ -39,7 +40,7 @@ use Rattle.candidates.specs.Candidates.{Known, theory_part, JobStarts}
 use Rattle.candidates.proofs.Starting.{none_before}
 use Rattle.bounds.specs.Bounds.{TooFew}
 
-module _ {t : List ℕ} {part : Part} (known : Known t part)
+module _ {t : Jobs} {part : Part} (known : Known t part)
     {at : List ℕ} {least : ℕ} (starts : JobStarts t part at least) (T : ℕ) where
   abbrev S : Sheet
   S = sheet_of t

@@ -89,15 +89,15 @@ pub fn hopeless(
         → Hopeless jobs.now prepared.now part.now at.now least target
         (target + changeover_of jobs.now) }
 {
-    let close = tables::closing(jobs, target);
+    let close = jobs.closing(target);
     if close == NO_MINUTE {
         return false;
     }
-    if areas::crowded(part, tables::modules(jobs), least, close) {
+    if areas::crowded(part, jobs.modules(), least, close) {
         return true;
     }
     let unplaced = part.unplaced;
-    if some_too_long(prepared, at, unplaced, tables::count(jobs), target + 1) {
+    if some_too_long(prepared, at, unplaced, jobs.count(), target + 1) {
         return true;
     }
     too_few(jobs, prepared, part, least, target, close)
@@ -121,7 +121,7 @@ pub fn overfilled(
         → OverfullFrom jobs.now part.now (release_at at.now least) least (target + changeover_of jobs.now) }
     ensures size { length slate.new ≡ length slate.old }
 {
-    let close = tables::closing(jobs, target);
+    let close = jobs.closing(target);
     if close == NO_MINUTE {
         return false;
     }

@@ -83,9 +83,9 @@ fn swapped(
     ensures { result ≡ true → Swapped jobs.now prepared.now.related part.now
         settled.now start j }
 {
-    let rest = tables::changeover(jobs);
+    let rest = jobs.changeover();
     let unplaced = part.unplaced;
-    let mut todo = bits::below32(to_swap(prepared, part, j), tables::count(jobs));
+    let mut todo = bits::below32(to_swap(prepared, part, j), jobs.count());
     while todo != 0 {
         let i = bits::lowest32(todo);
         if starts_behind(
@@ -118,11 +118,11 @@ fn left_behind(jobs: &Jobs, part: &Part) -> Behind
 {
     let mut awaited: u32 = 0;
     let mut arrived: u16 = 0;
-    let mut todo = bits::below32(part.unplaced, tables::count(jobs));
+    let mut todo = bits::below32(part.unplaced, jobs.count());
     while todo != 0 {
         let x = bits::lowest32(todo);
-        awaited = awaited | tables::earlier(jobs, x);
-        arrived = counting::larger(arrived, tables::arrival(jobs, x));
+        awaited = awaited | jobs.earlier(x);
+        arrived = counting::larger(arrived, jobs.arrival(x));
         todo = bits::without_lowest32(todo);
     }
     Behind { awaited, arrived }
@@ -159,7 +159,7 @@ fn ends_in_block(
     ensures { result ≡ true → EndsInBlock jobs.now part.now settled.now behind start j }
 {
     let placed = part.placed;
-    let rest = tables::changeover(jobs);
+    let rest = jobs.changeover();
     let mut found = false;
     let mut latest = behind.arrived;
     for m in 0..placed {
@@ -173,7 +173,7 @@ fn ends_in_block(
             j_settled,
             latest,
             end,
-            tables::minutes(jobs, a),
+            jobs.minutes(a),
         );
         latest = counting::larger(latest, end + rest);
     }
@@ -238,7 +238,7 @@ pub fn to_try(jobs: &Jobs, prepared: &Prepared, at: &[u16; MOST_JOBS], least: u1
     if least == NO_MINUTE {
         return set;
     }
-    let count = tables::count(jobs);
+    let count = jobs.count();
     let i = first_alone(prepared, at, least, set, count);
     if i < count {
         return bits::set32(0, i);

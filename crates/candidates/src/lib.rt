@@ -48,7 +48,7 @@ pub fn starts_of(jobs: &Jobs, part: &Part) -> Starts
 {
     let mut at = [NO_MINUTE; MOST_JOBS];
     let mut least: u16 = NO_MINUTE;
-    let mut todo = bits::below32(part.unplaced, tables::count(jobs));
+    let mut todo = bits::below32(part.unplaced, jobs.count());
     while todo != 0 {
         let j = bits::lowest32(todo);
         let s = next_start(jobs, part, j);

@@ -32,7 +32,7 @@ fn with_job(at: &mut [u16], count: usize, jobs: &Jobs, set: u32, j: usize) -> us
     if 2 * count > at.len() {
         return 0;
     }
-    add_job(at, count, tables::kept(jobs, j));
+    add_job(at, count, jobs.kept(j));
     2 * count
 }
 
@@ -43,7 +43,7 @@ pub fn subset_sums(at: &mut [u16], jobs: &Jobs, set: u32) -> usize
 {
     at[0] = 0;
     let mut count: usize = 1;
-    let mut todo = bits::below32(set, tables::count(jobs));
+    let mut todo = bits::below32(set, jobs.count());
     while todo != 0 {
         let j = bits::lowest32(todo);
         count = with_job(at, count, jobs, set, j);

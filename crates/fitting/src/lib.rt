@@ -138,7 +138,7 @@ fn tabled(
     ensures size { length slate.new ≡ length slate.old }
 {
     let release = ordering::releases_of(at, least);
-    let left = ordering::ordered(&release.of, part.unplaced, tables::count(jobs));
+    let left = ordering::ordered(&release.of, part.unplaced, jobs.count());
     let frame = frame_of(left.count, least, close);
     shown(
         slate,

@@ -57,7 +57,7 @@ pub fn fill_rows(
             slate,
             from,
             frame,
-            tables::kept(jobs, j),
+            jobs.kept(j),
             release[j],
             value[j],
         );

@@ -124,7 +124,7 @@ fn traced(
     while 0 < i {
         i -= 1;
         let j = job_at(order, count, i);
-        let step = step_back(slate, frame, i, x, tables::kept(jobs, j), release[j]);
+        let step = step_back(slate, frame, i, x, jobs.kept(j), release[j]);
         next[j] = more_lanes(next[j], more, step.taken);
         x = step.x;
     }
@@ -189,7 +189,7 @@ fn squares_of(
     let mut total: u64 = 0;
     for i in 0..count {
         let j = job_at(order, count, i);
-        let d = difference(tables::need(jobs, j), lanes[j]);
+        let d = difference(jobs.need(j), lanes[j]);
         total += counting::times(d, d) as u64;
     }
     total
@@ -235,7 +235,7 @@ fn move_shares(
 {
     for i in 0..count {
         let j = job_at(order, count, i);
-        let need = tables::need(jobs, j);
+        let need = jobs.need(j);
         let by = move_of(gap, difference(need, lanes[j]), squares);
         slate[CELLS + j] = moved(slate[CELLS + j], by, lanes[j] < need);
     }

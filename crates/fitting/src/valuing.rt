@@ -32,11 +32,11 @@ pub fn values_of(slate: &Slate, jobs: &Jobs, set: u32, step: u16) -> Figures
     requires { Fit jobs.now }
     ensures { (Valued jobs.now step result.of) × (NoneBeside set result.of) }
 {
-    let count = tables::count(jobs);
+    let count = jobs.count();
     let mut next = [0u16; MOST_JOBS];
     for k in 0..count {
         let left = bits::test32(set, k);
-        next[k] = value_of(slate[CELLS + k], tables::kept(jobs, k), step, left);
+        next[k] = value_of(slate[CELLS + k], jobs.kept(k), step, left);
     }
     Figures { of: next }
 }
@@ -46,10 +46,10 @@ pub fn worth_of(jobs: &Jobs, value: &[u16; MOST_JOBS]) -> u32
     requires { (Fit jobs.now) × ((k : ℕ) → get_or value.now k 0 ≤ top_value) }
     ensures { result ≡ sum (count_of jobs.now) (λ k. need_at jobs.now k * get_or value.now k 0) }
 {
-    let count = tables::count(jobs);
+    let count = jobs.count();
     let mut total: u32 = 0;
     for k in 0..count {
-        total += counting::times(tables::need(jobs, k), value[k]);
+        total += counting::times(jobs.need(k), value[k]);
     }
     total
 }
@@ -62,10 +62,10 @@ fn longest_of(jobs: &Jobs) -> u16
     requires { Fit jobs.now }
     ensures { 0 < result }
 {
-    let count = tables::count(jobs);
+    let count = jobs.count();
     let mut longest: u16 = 1;
     for k in 0..count {
-        longest = counting::larger(longest, tables::kept(jobs, k));
+        longest = counting::larger(longest, jobs.kept(k));
     }
     longest
 }
@@ -86,9 +86,9 @@ pub fn put_shares(slate: &mut Slate, jobs: &Jobs)
     requires { Fit jobs.now }
     ensures { length slate.new ≡ length slate.old }
 {
-    let count = tables::count(jobs);
+    let count = jobs.count();
     let longest = longest_of(jobs);
     for k in 0..count {
-        slate[CELLS + k] = first_share(tables::kept(jobs, k), longest);
+        slate[CELLS + k] = first_share(jobs.kept(k), longest);
     }
 }

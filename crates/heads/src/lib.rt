@@ -17,7 +17,7 @@ fn end_of(heads: &[u16; MOST_JOBS], jobs: &Jobs, set: u32, i: usize) -> u16
     ensures { result ≡ only (bit set i) (get_or heads.now i 0 + minutes_at jobs.now i) }
 {
     if bits::test32(set, i) {
-        return heads[i] + tables::minutes(jobs, i);
+        return heads[i] + jobs.minutes(i);
     }
     0
 }
@@ -28,8 +28,8 @@ fn latest_end(heads: &[u16; MOST_JOBS], jobs: &Jobs, j: usize) -> u16
     ensures { result ≡ largest (count_of jobs.now)
         (λ i. only (bit (earlier_at jobs.now j) i) (get_or heads.now i 0 + minutes_at jobs.now i)) }
 {
-    let n = tables::count(jobs);
-    let earlier = tables::earlier(jobs, j);
+    let n = jobs.count();
+    let earlier = jobs.earlier(j);
     let mut r: u16 = 0;
     for i in 0..n {
         r = counting::larger(r, end_of(heads, jobs, earlier, i));
@@ -48,10 +48,10 @@ fn advance(jobs: &Jobs, heads: Heads, k: usize) -> Heads
     requires { (Fit jobs.now) × ((HeadsOf jobs.now heads.at k) × (k < most_jobs)) }
     ensures { HeadsOf jobs.now result.at (k + 1) }
 {
-    let n = tables::count(jobs);
+    let n = jobs.count();
     let mut next = [0u16; MOST_JOBS];
     for j in 0..n {
-        next[j] = counting::larger(tables::arrival(jobs, j), latest_end(&heads.at, jobs, j));
+        next[j] = counting::larger(jobs.arrival(j), latest_end(&heads.at, jobs, j));
     }
     Heads { at: next }
 }
@@ -61,7 +61,7 @@ pub fn of_all(jobs: &Jobs) -> Heads
     requires { Fit jobs.now }
     ensures { HeadsOf jobs.now result.at (count_of jobs.now) }
 {
-    let n = tables::count(jobs);
+    let n = jobs.count();
     let mut heads = Heads {
         at: [0u16; MOST_JOBS],
     };

@@ -83,7 +83,7 @@ fn set_worth(jobs: &Jobs, prepared: &Prepared, part: &Part) -> u32
         (λ k. only (bit part.now.unplaced k) (worth_at prepared.now.lanes k)) }
 {
     let mut total: u32 = 0;
-    let mut todo = bits::below32(part.unplaced, tables::count(jobs));
+    let mut todo = bits::below32(part.unplaced, jobs.count());
     while todo != 0 {
         let k = bits::lowest32(todo);
         total += worth_of(prepared, k);

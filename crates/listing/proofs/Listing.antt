@@ -20,6 +20,7 @@ use Rattle.schedule.specs.TieRule.{end_of}
 use Rattle.schedule.proofs.Starts.{ready_says}
 use Rattle.schedule.proofs.Existence.{stuck_circular}
 use Rattle.schedule.proofs.Prefixes.{part_count}
+use Rattle.tables.specs.declared.Jobs.{Jobs}
 use Rattle.tables.specs.Tables.{sheet_of, count_of, Fit}
 use Rattle.tables.specs.declared.Part.{Part}
 use Rattle.tables.specs.Part.{word_of}
@@ -31,7 +32,7 @@ use Rattle.candidates.proofs.Children.{first_known, word_at, word_within, start_
 use Rattle.listing.specs.declared.Found.{Found}
 use Rattle.listing.specs.Listing.{Finished, OrderOf, NextJob, OneMore, Tried, Improved}
 
-module _ {t : List ℕ} {part : Part} (known : Known t part) where
+module _ {t : Jobs} {part : Part} (known : Known t part) where
   abbrev S : Sheet
   S = sheet_of t
 
@@ -141,19 +142,19 @@ module _ {t : List ℕ} {part : Part} (known : Known t part) where
 -- ---- job after job
 
 -- a part-plan of k jobs
-pub record Upto (t : List ℕ) (count k : ℕ) (p : Part) : Type 0 where
+pub record Upto (t : Jobs) (count k : ℕ) (p : Part) : Type 0 where
   pub inside : k ≤ count
   pub count_is : count ≡ count_of t
   pub known : Known t p
   pub placed : p.placed ≡ k
 
-pub upto-none : {t : List ℕ} {count : ℕ} {p : Part} → Fit t → count ≡ count_of t → FirstPart t p → Upto t count 0 p
+pub upto-none : {t : Jobs} {count : ℕ} {p : Part} → Fit t → count ≡ count_of t → FirstPart t p → Upto t count 0 p
 upto-none {t} {count} {p} fit e h = record { inside = omega arith; count_is = e; known = first_known t p fit h; placed = h.placed }
 
-pub upto_more : {t : List ℕ} {count k : ℕ} {p r : Part} → Upto t count k p → k < count → OneMore t p r → Upto t count (k + 1) r
+pub upto_more : {t : Jobs} {count k : ℕ} {p r : Part} → Upto t count k p → k < count → OneMore t p r → Upto t count (k + 1) r
 upto_more u l h = record { inside = omega arith; count_is = u.count_is; known = h.known; placed = omega (arith, h.placed, u.placed) }
 
-pub upto_all : {t : List ℕ} {count k target : ℕ} {p : Part} {r : Found} → Upto t count k p → count ≤ k → Finished p count target r
+pub upto_all : {t : Jobs} {count k target : ℕ} {p : Part} {r : Found} → Upto t count k p → count ≤ k → Finished p count target r
     → OrderOf (sheet_of t) r
 upto_all {t} {count} {k} {target} {p} {r} u l h =
     finished_order u.known (omega (arith, u.placed, u.inside, u.count_is))

@@ -5,6 +5,7 @@ use Rattle.figures.specs.Figures.{most_jobs, no_minute}
 use Rattle.schedule.specs.Plan.{Sheet}
 use Rattle.schedule.specs.ListPlan.{Order}
 use Rattle.schedule.specs.TieRule.{end_of}
+use Rattle.tables.specs.declared.Jobs.{Jobs}
 use Rattle.tables.specs.Tables.{count_of}
 use Rattle.tables.specs.declared.Part.{Part}
 use Rattle.candidates.specs.Candidates.{Known, JobStart}
@@ -32,13 +33,13 @@ abbrev pub none_listed : Found
 none_listed = record { hit = false; end = no_minute; order = replicate most_jobs 0 }
 
 -- job j may come next and starts at minute s
-pub record NextJob (t : List ℕ) (p : Part) (j s : ℕ) : Type 0 where
+pub record NextJob (t : Jobs) (p : Part) (j s : ℕ) : Type 0 where
   pub job : j < count_of t
   pub start : JobStart t p j s
   pub low : s < no_minute
 
 -- r is a part-plan with one job more than p
-pub record OneMore (t : List ℕ) (p r : Part) : Type 0 where
+pub record OneMore (t : Jobs) (p r : Part) : Type 0 where
   pub known : Known t r
   pub placed : r.placed ≡ p.placed + 1
 

@@ -32,12 +32,12 @@ fn all_hold(jobs: &Jobs, prepared: &Prepared, set: u32, l: u16, target: u16, m: 
         (λ k. only (bit set k) (must_hold jobs.now prepared.now l target m k)) }
 {
     let mut total: u16 = 0;
-    let mut todo = bits::below32(set, tables::count(jobs));
+    let mut todo = bits::below32(set, jobs.count());
     while todo != 0 {
         let k = bits::lowest32(todo);
         total += must_hold(
-            tables::need(jobs, k),
-            tables::kept(jobs, k),
+            jobs.need(k),
+            jobs.kept(k),
             heads::first_start(prepared, l, k),
             prepared.tails[k],
             target,
@@ -63,7 +63,7 @@ fn no_room_at(
     requires { (Fit jobs.now) × ((ProfileOf part.now gone free (modules_of jobs.now) l) × (l ≤ m)) }
     ensures { result ≡ true → Overlapping jobs.now prepared.now part.now l target }
 {
-    let ended = placement::advance(part, gone, free, tables::modules(jobs), m);
+    let ended = placement::advance(part, gone, free, jobs.modules(), m);
     ended.free < all_hold(jobs, prepared, part.unplaced, l, target, m)
 }
 
@@ -90,7 +90,7 @@ fn no_room_for(
         return false;
     }
     let first = heads::first_start(prepared, l, k);
-    if (first as u32) + (tables::kept(jobs, k) as u32) <= (m as u32) {
+    if (first as u32) + (jobs.kept(k) as u32) <= (m as u32) {
         return false;
     }
     no_room_at(jobs, prepared, part, gone, free, l, target, m)
@@ -109,7 +109,7 @@ pub fn overlapping(
     requires { (Fit jobs.now) × (ProfileOf part.now gone free (modules_of jobs.now) l) }
     ensures { result ≡ true → Overlapping jobs.now prepared.now part.now l target }
 {
-    let mut todo = bits::below32(part.unplaced, tables::count(jobs));
+    let mut todo = bits::below32(part.unplaced, jobs.count());
     while todo != 0 {
         let k = bits::lowest32(todo);
         if no_room_for(jobs, prepared, part, gone, free, l, target, k) {

@@ -29,6 +29,7 @@ use Rattle.schedule.proofs.Starts.{Ready, ready_says, ready_when, start_may, not
 use Rattle.schedule.proofs.Sound.{part_sound}
 use Rattle.schedule.proofs.Occupied.{room-sum}
 use Rattle.schedule.proofs.Jumps.{start_here}
+use Rattle.tables.specs.declared.Jobs.{Jobs}
 use Rattle.tables.proofs.Ends.{ends_short}
 use Rattle.schedule.proofs.Prefixes.{part_count, part_more, follows_more}
 use Rattle.tables.specs.Tables.{sheet_of, need_at, minutes_at, kept_at, most_kept, arrival_at, earlier_at, count_of, modules_of, changeover_of, Fit}
@@ -42,7 +43,7 @@ use Rattle.placement.proofs.Inserts.{inserted-sum}
 abbrev last_free : ℕ
 last_free = last_end + longest_changeover
 
-module _ (t : List ℕ) (fit : Fit t) where
+module _ (t : Jobs) (fit : Fit t) where
   abbrev S : Sheet
   S = sheet_of t
 

@@ -7,6 +7,7 @@ use Rattle.figures.specs.Figures.{most_jobs, most_modules}
 use Rattle.bits.specs.Bits.{bit, without_bit}
 use Rattle.schedule.specs.Plan.{Sheet, finish}
 use Rattle.schedule.specs.ListPlan.{PartPlan, no_jobs, Follows, part_of}
+use Rattle.tables.specs.declared.Jobs.{Jobs}
 use Rattle.tables.specs.Tables.{need_at, minutes_at, kept_at, arrival_at, earlier_at, count_of, modules_of, changeover_of}
 use Rattle.tables.specs.declared.Part.{Part}
 use Rattle.tables.specs.Part.{word_of}
@@ -40,7 +41,7 @@ pub record IsPart (S : Sheet) (w : List ℕ) (p : Part) : Type 0 where
 -- ---- one job more, by the figures alone
 
 -- job j of the table t can be placed at minute `start`
-pub record Placeable (t : List ℕ) (p : Part) (j start : ℕ) : Type 0 where
+pub record Placeable (t : Jobs) (p : Part) (j start : ℕ) : Type 0 where
   pub size : length p.ends ≡ most_jobs
   pub places : length p.order ≡ most_jobs
   pub job : j < most_jobs
@@ -66,7 +67,7 @@ pub record ListsWith (p : Part) (j end until width : ℕ) (r : Part) : Type 0 wh
   pub single : (r.placed ≡ p.placed) × (r.unplaced ≡ p.unplaced)
 
 -- r is p with job j placed there
-pub record Placed (t : List ℕ) (p : Part) (j start : ℕ) (r : Part) : Type 0 where
+pub record Placed (t : Jobs) (p : Part) (j start : ℕ) (r : Part) : Type 0 where
   pub size : length r.ends ≡ most_jobs
   pub places : length r.order ≡ most_jobs
   pub unplaced : r.unplaced ≡ without_bit p.unplaced j
@@ -86,17 +87,17 @@ abbrev pub waits : List ℕ → ℕ → ℕ → ℕ → ℕ
 waits ends set jobs t = max t (largest jobs (λ i. only (bit set i) (get_or ends i 0)))
 
 -- r is the start of job j: the first minute, from the last start, its arrival and the ends of its earlier jobs on, at which its modules are free
-abbrev pub StartFor : List ℕ → Part → ℕ → ℕ → Type 0
+abbrev pub StartFor : Jobs → Part → ℕ → ℕ → Type 0
 StartFor t p j r =
     FirstRoomOf p (modules_of t) (need_at t j) (waits p.ends (earlier_at t j) (count_of t) (max p.last (arrival_at t j))) r
 
 -- job j is unplaced, and none of its earlier jobs is
-abbrev pub is_ready : List ℕ → Part → ℕ → Bool
+abbrev pub is_ready : Jobs → Part → ℕ → Bool
 is_ready t p j = bit p.unplaced j && eqb (bit_and (earlier_at t j) p.unplaced) 0
 
 -- ---- no job is placed
 
-pub record FirstPart (t : List ℕ) (p : Part) : Type 0 where
+pub record FirstPart (t : Jobs) (p : Part) : Type 0 where
   pub size : length p.ends ≡ most_jobs
   pub places : length p.order ≡ most_jobs
   pub unplaced : p.unplaced ≡ 2 ^ count_of t - 1

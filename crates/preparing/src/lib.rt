@@ -32,7 +32,7 @@ pub fn put_lanes(prepared: &mut Prepared, jobs: &Jobs, end: u16)
     requires { (Begun jobs.now prepared.old) × (Fit jobs.now) }
     ensures { Tabled jobs.now prepared.new }
 {
-    let lanes = values::lanes_of(jobs, tables::closing(jobs, end));
+    let lanes = values::lanes_of(jobs, jobs.closing(end));
     let tables = lanes.of;
     prepared.lanes = tables;
 }

@@ -31,10 +31,10 @@ fn longest_behind(tails: &[u16; MOST_JOBS], jobs: &Jobs, j: usize) -> u16
     ensures { result ≡ largest (count_of jobs.now)
         (λ i. only (bit (earlier_at jobs.now i) j) (get_or tails.now i 0)) }
 {
-    let n = tables::count(jobs);
+    let n = jobs.count();
     let mut r: u16 = 0;
     for i in 0..n {
-        r = counting::larger(r, behind(tails[i], tables::earlier(jobs, i), j));
+        r = counting::larger(r, behind(tails[i], jobs.earlier(i), j));
     }
     r
 }
@@ -50,10 +50,10 @@ fn lengthen(jobs: &Jobs, tails: Tails, k: usize) -> Tails
     requires { (Fit jobs.now) × ((ChainsOf jobs.now tails.at k) × (k < most_jobs)) }
     ensures { ChainsOf jobs.now result.at (k + 1) }
 {
-    let n = tables::count(jobs);
+    let n = jobs.count();
     let mut next = [0u16; MOST_JOBS];
     for j in 0..n {
-        next[j] = tables::minutes(jobs, j) + longest_behind(&tails.at, jobs, j);
+        next[j] = jobs.minutes(j) + longest_behind(&tails.at, jobs, j);
     }
     Tails { at: next }
 }
@@ -63,7 +63,7 @@ pub fn chains(jobs: &Jobs) -> Tails
     requires { Fit jobs.now }
     ensures { ChainsOf jobs.now result.at (count_of jobs.now) }
 {
-    let n = tables::count(jobs);
+    let n = jobs.count();
     let mut tails = Tails {
         at: [0u16; MOST_JOBS],
     };
@@ -91,10 +91,10 @@ fn later_of(jobs: &Jobs, i: usize) -> u32
     requires { (count_of jobs.now ≤ most_jobs) × (i < most_jobs) }
     ensures { LaterOf jobs.now i (count_of jobs.now) result }
 {
-    let n = tables::count(jobs);
+    let n = jobs.count();
     let mut set: u32 = 0;
     for k in 0..n {
-        set = with_later(set, tables::earlier(jobs, k), i, k);
+        set = with_later(set, jobs.earlier(k), i, k);
     }
     set
 }
@@ -109,7 +109,7 @@ fn later_jobs(jobs: &Jobs) -> LaterJobs
     requires { count_of jobs.now ≤ most_jobs }
     ensures { Laters jobs.now result.of }
 {
-    let n = tables::count(jobs);
+    let n = jobs.count();
     let mut of = [0u32; MOST_JOBS];
     for i in 0..n {
         of[i] = later_of(jobs, i);
@@ -132,20 +132,20 @@ fn with_pair(row: Row, jobs: &Jobs, later: &[u32; MOST_JOBS], i: usize, j: usize
     requires { (i < most_jobs) × (j < most_jobs) }
     ensures { PairPut row jobs.now later.now i j result }
 {
-    let need1 = tables::need(jobs, i);
-    let need2 = tables::need(jobs, j);
+    let need1 = jobs.need(i);
+    let need2 = jobs.need(j);
     let later1 = later[i];
     let later2 = later[j];
     let a = pairs::alike(
         need1,
         need2,
-        tables::minutes(jobs, i),
-        tables::minutes(jobs, j),
+        jobs.minutes(i),
+        jobs.minutes(j),
         later1,
         later2,
     );
     let s = pairs::may_swap(need1, need2, later1, later2);
-    let b = pairs::fits_beside(need1, need2, tables::modules(jobs), i, j);
+    let b = pairs::fits_beside(need1, need2, jobs.modules(), i, j);
     Row {
         alike: pairs::joined(row.alike, a, i),
         swapping: pairs::joined(row.swapping, s, i),
@@ -158,7 +158,7 @@ fn row_of(jobs: &Jobs, later: &[u32; MOST_JOBS], j: usize) -> Row
     requires { (Laters jobs.now later.now) × ((count_of jobs.now ≤ most_jobs) × (j < count_of jobs.now)) }
     ensures { RowOf jobs.now j (count_of jobs.now) result }
 {
-    let n = tables::count(jobs);
+    let n = jobs.count();
     let mut row = Row {
         alike: 0,
         swapping: 0,
@@ -200,7 +200,7 @@ pub fn relate(jobs: &Jobs) -> Relations
 {
     let laters = later_jobs(jobs);
     let later = laters.of;
-    let n = tables::count(jobs);
+    let n = jobs.count();
     let mut all = Relations { of: [0u32; ROWS] };
     for j in 0..n {
         let row = row_of(jobs, &later, j);

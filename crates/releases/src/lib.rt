@@ -62,7 +62,7 @@ fn ended(release: &[u16; MOST_JOBS], jobs: &Jobs, set: u32) -> u16
     let mut todo = set;
     while todo != 0 {
         let i = bits::lowest32(todo);
-        latest = counting::larger(latest, end_of(release[i], tables::minutes(jobs, i)));
+        latest = counting::larger(latest, end_of(release[i], jobs.minutes(i)));
         todo = bits::without_lowest32(todo);
     }
     latest
@@ -75,8 +75,8 @@ fn raised(release: &[u16; MOST_JOBS], jobs: &Jobs, set: u32, k: usize) -> u16
         → ((i : ℕ) → i < count_of jobs.now → bit set i ≡ true → bit (earlier_at jobs.now k) i ≡ true
         → get_or release.now i 0 + minutes_at jobs.now i ≤ x) → result ≤ x) }
 {
-    let count = tables::count(jobs);
-    let before = bits::below32(tables::earlier(jobs, k) & set, count);
+    let count = jobs.count();
+    let before = bits::below32(jobs.earlier(k) & set, count);
     let least = ended(release, jobs, before);
     counting::larger(release[k], least)
 }
@@ -87,7 +87,7 @@ pub fn releases_of(jobs: &Jobs, set: u32, at: &[u16; MOST_JOBS], least: u16) -> 
     requires { (Fit jobs.now) × ((k : ℕ) → k < count_of jobs.now → least ≤ get_or at.now k 0) }
     ensures { Releases jobs.now at.now set least result.of }
 {
-    let count = tables::count(jobs);
+    let count = jobs.count();
     let first = firsts_of(at, least);
     let mut next = first.of;
     for k in 0..count {

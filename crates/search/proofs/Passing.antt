@@ -11,6 +11,7 @@ use lib.Count.{ones}
 use lib.ListN.{length, get_or, set, length-set}
 use lib.Seq.{get_or-set_same, get_or-set_other}
 use borrow.Author.Tests.{eqb-true, eq-eqb, ne_eqb, not-false}
+use Rattle.tables.specs.declared.Jobs.{Jobs}
 use Rattle.tables.specs.declared.Prepared.{Prepared}
 use Rattle.counting.specs.Counting.{only}
 use Rattle.counting.proofs.Tests.{true-or-false, clash, same_or_not}
@@ -39,7 +40,7 @@ use Rattle.branching.specs.declared.Behind.{Behind}
 use Rattle.branching.specs.Branching.{settled_now, AllAwaited, AllArrived, EndsInBlock, PassedOver}
 use Rattle.search.specs.Search.{Fails, SettledAt, SameStart, SettledSo, Searching, TriedSo, Choosing}
 
-module _ {t : List ℕ} {prepared : Prepared} {part : Part} {target : ℕ} {memory settled slate : List ℕ} {same tried job at : ℕ}
+module _ {t : Jobs} {prepared : Prepared} {part : Part} {target : ℕ} {memory settled slate : List ℕ} {same tried job at : ℕ}
     (s : Searching t prepared part target memory settled slate same) (choosing : Choosing t part target tried job at) where
   abbrev S : Sheet
   S = sheet_of t

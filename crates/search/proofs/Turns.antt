@@ -12,6 +12,7 @@ use Rattle.schedule.specs.ListPlan.{Order, PartPlan, ready}
 use Rattle.schedule.specs.Beginnings.{Begins, CannotBeat}
 use Rattle.schedule.proofs.Starts.{ready_says}
 use Rattle.schedule.proofs.Cuts.{children_cut}
+use Rattle.tables.specs.declared.Jobs.{Jobs}
 use Rattle.tables.specs.Tables.{sheet_of, count_of}
 use Rattle.tables.specs.declared.Part.{Part}
 use Rattle.tables.specs.Part.{word_of}
@@ -25,7 +26,7 @@ use Rattle.listing.proofs.Listing.{whole, end_is, word_is, finished_order}
 use Rattle.search.proofs.Recalls.{remembered_adds, hit_cut}
 use Rattle.search.specs.Search.{Remembered, Fails, Outcome}
 
-module _ {t : List ℕ} {part : Part} (known : Known t part) where
+module _ {t : Jobs} {part : Part} (known : Known t part) where
   abbrev S : Sheet
   S = sheet_of t
 

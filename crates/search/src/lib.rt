@@ -77,9 +77,9 @@ fn cut_off(
     if memory::recall(
         memory,
         part,
-        tables::count(jobs),
+        jobs.count(),
         least,
-        tables::changeover(jobs),
+        jobs.changeover(),
     ) {
         return true;
     }
@@ -111,7 +111,7 @@ fn visit(
     if used_up(left) {
         return none_found();
     }
-    let count = tables::count(jobs);
+    let count = jobs.count();
     let unplaced = part.unplaced;
     if u32::count_ones(unplaced) == 0 {
         return listing::finished(part, count, target);
@@ -385,7 +385,7 @@ fn first_order(
     ensures tied { ¬ (left.new ≡ 0) → TieRuled (sheet_of jobs.now) result }
     ensures limit { Unlimited left.old left.new }
 {
-    let count = tables::count(jobs);
+    let count = jobs.count();
     let mut best = least;
     let mut part = placement::first_part(jobs);
     for k in 0..count {

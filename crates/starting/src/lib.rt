@@ -50,7 +50,7 @@ fn or_ends(jobs: &Jobs, r: u32, start: u16, j: usize) -> u32
     requires { j < most_jobs }
     ensures { result ≡ min r (start + kept_at jobs.now j) }
 {
-    let end = (start as u32) + (tables::kept(jobs, j) as u32);
+    let end = (start as u32) + (jobs.kept(j) as u32);
     if r <= end { r } else { end }
 }
 
@@ -63,7 +63,7 @@ pub fn first_end(jobs: &Jobs, at: &[u16; MOST_JOBS], set: u32) -> u32
     ensures { EndOfOne jobs.now at.now result }
 {
     let mut r: u32 = NO_END;
-    let mut todo = bits::below32(set, tables::count(jobs));
+    let mut todo = bits::below32(set, jobs.count());
     while todo != 0 {
         let j = bits::lowest32(todo);
         r = or_ends(jobs, r, at[j], j);

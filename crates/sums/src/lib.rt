@@ -85,11 +85,11 @@ fn step_of(jobs: &Jobs) -> u16
     requires { count_of jobs.now ≤ most_jobs }
     ensures { Step jobs.now (count_of jobs.now) result }
 {
-    let count = tables::count(jobs);
-    let mut step = tables::changeover(jobs);
+    let count = jobs.count();
+    let mut step = jobs.changeover();
     for i in 0..count {
-        step = divisor(step, tables::minutes(jobs, i));
-        step = divisor(step, tables::arrival(jobs, i));
+        step = divisor(step, jobs.minutes(i));
+        step = divisor(step, jobs.arrival(i));
     }
     step
 }
@@ -111,9 +111,9 @@ fn all_here(jobs: &Jobs) -> bool
     requires { count_of jobs.now ≤ most_jobs }
     ensures { result ≡ true → AllHere jobs.now (count_of jobs.now) }
 {
-    let count = tables::count(jobs);
+    let count = jobs.count();
     for i in 0..count {
-        if tables::arrival(jobs, i) != 0 {
+        if jobs.arrival(i) != 0 {
             return false;
         }
     }
@@ -126,7 +126,7 @@ pub fn rounded(jobs: &Jobs, target: u16) -> u16
     requires { Fit jobs.now }
     ensures { Rounded jobs.now target result }
 {
-    if tables::changeover(jobs) != 0 {
+    if jobs.changeover() != 0 {
         return rounded_to_step(jobs, target);
     }
     if all_here(jobs) {

@@ -1,119 +1,105 @@
-// The three tables that the search is lent, and what stands at their places: the job table, what a sheet says of its jobs; the part-plan;
-// and the prepared table, what is made of the jobs once. A set of jobs in a table of 16-bit numbers takes two places, its lower half first.
+// The job table, what a sheet says of its jobs; the part-plan; and the prepared table, what is made of the jobs once.
 #![tactic(auto)]
 
-ghost use Rattle.std.specs.Prelude.{◌≡◌, ◌+◌, ◌*◌, ◌<◌, min, get_or};
+ghost use Rattle.std.specs.Prelude.{◌≡◌, ◌+◌, ◌<◌, min};
 ghost use Rattle.figures.specs.Figures.{most_jobs, no_minute};
-ghost use Rattle.tables.specs.Tables.{need_at, minutes_at, arrival_at, earlier_at, count_of, modules_of, changeover_of, kept_at};
 
 use figures::{MOST_JOBS, NO_MINUTE};
 
-// A number as an index.
-fn wide(x: u16) -> usize
-    ensures { result ≡ x }
-{
-    x as usize
-}
-
-// The two halves of a 32-bit number as one.
-fn whole(low: u16, high: u16) -> u32
-    ensures { result ≡ low + high * 65536 }
-{
-    (low as u32) + (high as u32) * 65536
-}
-
 // ---- the job table
 
-// Job j's modules at j, its minutes at MINUTES + j, its arrival at ARRIVALS + j, its earlier jobs at EARLIER + 2 * j, and at KEPT + j how
-// long it keeps its modules from others.
-pub const JOB_PLACES: usize = 123;
-
-pub type Jobs = [u16; JOB_PLACES];
-
-pub const MINUTES: usize = 20;
-
-pub const ARRIVALS: usize = 40;
-
-pub const EARLIER: usize = 60;
-
-pub const COUNT: usize = 100;
-
-pub const MODULES: usize = 101;
-
-pub const CHANGEOVER: usize = 102;
-
-pub const KEPT: usize = 103;
-
-// How many jobs there are.
-pub fn count(jobs: &Jobs) -> usize
-    ensures { result ≡ count_of jobs.now }
-{
-    wide(jobs[COUNT])
+// What a sheet says of its jobs.
+#[derive(Clone, Copy)]
+pub struct Jobs {
+    // The modules that each job needs, its minutes, and the first minute at which it may start.
+    pub need: [u16; MOST_JOBS],
+    pub minutes: [u16; MOST_JOBS],
+    pub arrival: [u16; MOST_JOBS],
+    // The jobs that must have ended before it starts, a set.
+    pub earlier: [u32; MOST_JOBS],
+    // How long it keeps its modules from others: its minutes and the changeover.
+    pub kept: [u16; MOST_JOBS],
+    // How many jobs there are.
+    pub count: usize,
+    // How many modules the cabinet has, and the minutes that a module rests between two jobs.
+    pub modules: u16,
+    pub changeover: u16,
 }
 
-// How many modules the cabinet has.
-pub fn modules(jobs: &Jobs) -> u16
-    ensures { result ≡ modules_of jobs.now }
-{
-    jobs[MODULES]
-}
+impl Jobs {
+    ghost use Rattle.tables.specs.Tables.{need_at, minutes_at, arrival_at, earlier_at, count_of, modules_of, changeover_of, kept_at};
 
-// The minutes that a module rests between two jobs.
-pub fn changeover(jobs: &Jobs) -> u16
-    ensures { result ≡ changeover_of jobs.now }
-{
-    jobs[CHANGEOVER]
-}
-
-// The minute by which a plan that ends by minute t has given back all modules, or NO_MINUTE where that is no minute.
-pub fn closing(jobs: &Jobs, t: u16) -> u16
-    ensures { result ≡ min (t + changeover_of jobs.now) no_minute }
-{
-    let close = (t as u32) + (changeover(jobs) as u32);
-    if close < (NO_MINUTE as u32) {
-        return close as u16;
+    // How many jobs there are.
+    pub fn count(&self) -> usize
+        ensures { result ≡ count_of self.now }
+    {
+        self.count
     }
-    NO_MINUTE
-}
 
-// The modules that job j needs.
-pub fn need(jobs: &Jobs, j: usize) -> u16
-    requires { j < most_jobs }
-    ensures { result ≡ need_at jobs.now j }
-{
-    jobs[j]
-}
+    // How many modules the cabinet has.
+    pub fn modules(&self) -> u16
+        ensures { result ≡ modules_of self.now }
+    {
+        self.modules
+    }
 
-// The minutes of job j.
-pub fn minutes(jobs: &Jobs, j: usize) -> u16
-    requires { j < most_jobs }
-    ensures { result ≡ minutes_at jobs.now j }
-{
-    jobs[MINUTES + j]
-}
+    // The minutes that a module rests between two jobs.
+    pub fn changeover(&self) -> u16
+        ensures { result ≡ changeover_of self.now }
+    {
+        self.changeover
+    }
 
-// The first minute at which job j may start.
-pub fn arrival(jobs: &Jobs, j: usize) -> u16
-    requires { j < most_jobs }
-    ensures { result ≡ arrival_at jobs.now j }
-{
-    jobs[ARRIVALS + j]
-}
+    // The minute by which a plan that ends by minute t has given back all modules, or NO_MINUTE where that is no minute.
+    pub fn closing(&self, t: u16) -> u16
+        ensures { result ≡ min (t + changeover_of self.now) no_minute }
+    {
+        let close = (t as u32) + (self.changeover() as u32);
+        if close < (NO_MINUTE as u32) {
+            return close as u16;
+        }
+        NO_MINUTE
+    }
 
-// How long job j keeps its modules from others: its minutes and the changeover.
-pub fn kept(jobs: &Jobs, j: usize) -> u16
-    requires { j < most_jobs }
-    ensures { result ≡ kept_at jobs.now j }
-{
-    jobs[KEPT + j]
-}
+    // The modules that job j needs.
+    pub fn need(&self, j: usize) -> u16
+        requires { j < most_jobs }
+        ensures { result ≡ need_at self.now j }
+    {
+        self.need[j]
+    }
 
-// The jobs that must have ended before job j starts, a set.
-pub fn earlier(jobs: &Jobs, j: usize) -> u32
-    requires { j < most_jobs }
-    ensures { result ≡ earlier_at jobs.now j }
-{
-    whole(jobs[EARLIER + 2 * j], jobs[EARLIER + 2 * j + 1])
+    // The minutes of job j.
+    pub fn minutes(&self, j: usize) -> u16
+        requires { j < most_jobs }
+        ensures { result ≡ minutes_at self.now j }
+    {
+        self.minutes[j]
+    }
+
+    // The first minute at which job j may start.
+    pub fn arrival(&self, j: usize) -> u16
+        requires { j < most_jobs }
+        ensures { result ≡ arrival_at self.now j }
+    {
+        self.arrival[j]
+    }
+
+    // How long job j keeps its modules from others: its minutes and the changeover.
+    pub fn kept(&self, j: usize) -> u16
+        requires { j < most_jobs }
+        ensures { result ≡ kept_at self.now j }
+    {
+        self.kept[j]
+    }
+
+    // The jobs that must have ended before job j starts, a set.
+    pub fn earlier(&self, j: usize) -> u32
+        requires { j < most_jobs }
+        ensures { result ≡ earlier_at self.now j }
+    {
+        self.earlier[j]
+    }
 }
 
 // ---- the part-plan

@@ -124,7 +124,7 @@ pub fn lanes_of(jobs: &Jobs, close: u16) -> Lanes
     let choice = weighing::chosen(jobs);
     let weight = choice.weight;
     let most = choice.most;
-    let value = valuing::values_for(jobs, &weight, most[tables::modules(jobs) as usize], step, t);
+    let value = valuing::values_for(jobs, &weight, most[jobs.modules() as usize], step, t);
     let reach = serving::reach_of(jobs, &value.of, step);
     joined(&reach.at, &most, &weight, &value.of, step)
 }

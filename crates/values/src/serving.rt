@@ -44,10 +44,10 @@ pub fn reach_of(jobs: &Jobs, value: &[u16; MOST_JOBS], step: u16) -> Reach
     requires { ((Fit jobs.now) × (0 < step)) × (Valued jobs.now step value.now) }
     ensures { Reached jobs.now value.now (count_of jobs.now) step result.at }
 {
-    let count = tables::count(jobs);
+    let count = jobs.count();
     let mut reach = Reach { at: [0u16; STEPS] };
     for k in 0..count {
-        let kept = tables::kept(jobs, k);
+        let kept = jobs.kept(k);
         let gain = value[k];
         let lasts = steps(kept, step as u32);
         reach = with_value(&reach.at, lasts, gain);
@@ -79,11 +79,11 @@ fn with_set(reach: &[u16; STEPS], sets: &[u32; STEPS], width: usize, value: u16,
 pub fn serve(jobs: &Jobs, value: &[u16; MOST_JOBS], step: u16, t: usize) -> Served
     requires { ((Fit jobs.now) × (0 < step)) × ((Valued jobs.now step value.now) × (t < steps)) }
 {
-    let count = tables::count(jobs);
+    let count = jobs.count();
     let mut reach = Reach { at: [0u16; STEPS] };
     let mut sets = Sets { at: [0u32; STEPS] };
     for k in 0..count {
-        let width = steps(tables::kept(jobs, k), step as u32);
+        let width = steps(jobs.kept(k), step as u32);
         sets = with_set(&reach.at, &sets.at, width, value[k], 1u32 << k);
         reach = with_value(&reach.at, width, value[k]);
     }

@@ -81,10 +81,10 @@ fn scaled(shares: &[u32; MOST_JOBS]) -> Shares {
 fn first_shares(jobs: &Jobs) -> Shares
     requires { count_of jobs.now ≤ most_jobs }
 {
-    let count = tables::count(jobs);
+    let count = jobs.count();
     let mut next = [0u32; MOST_JOBS];
     for k in 0..count {
-        next[k] = wide(tables::kept(jobs, k));
+        next[k] = wide(jobs.kept(k));
     }
     scaled(&next)
 }
@@ -108,10 +108,10 @@ fn values_of(shares: &[u32; MOST_JOBS], jobs: &Jobs, step: u16) -> Figures
     requires { count_of jobs.now ≤ most_jobs }
     ensures { Valued jobs.now step result.of }
 {
-    let count = tables::count(jobs);
+    let count = jobs.count();
     let mut next = [0u16; MOST_JOBS];
     for k in 0..count {
-        next[k] = value_of(shares[k], tables::kept(jobs, k), step);
+        next[k] = value_of(shares[k], jobs.kept(k), step);
     }
     Figures { of: next }
 }
@@ -243,7 +243,7 @@ pub fn values_for(jobs: &Jobs, weight: &[u16; MOST_JOBS], most: u16, step: u16, 
     requires { ((Fit jobs.now) × (0 < step)) × (t < steps) }
     ensures { Valued jobs.now step result.of }
 {
-    let count = tables::count(jobs);
+    let count = jobs.count();
     let mut shares = first_shares(jobs);
     let mut best = Valuation {
         value: [0u16; MOST_JOBS],

@@ -22,10 +22,10 @@ fn needs(jobs: &Jobs) -> Figures
     requires { count_of jobs.now ≤ most_jobs }
     ensures { Put (λ k. k) (replicate most_jobs 0) result.of (count_of jobs.now) (need_at jobs.now) }
 {
-    let count = tables::count(jobs);
+    let count = jobs.count();
     let mut next = [0u16; MOST_JOBS];
     for k in 0..count {
-        next[k] = tables::need(jobs, k);
+        next[k] = jobs.need(k);
     }
     Figures { of: next }
 }
@@ -48,7 +48,7 @@ fn own_weights(jobs: &Jobs) -> Weighed
     ensures { Chosen jobs.now result.weight result.most }
 {
     let weight = needs(jobs).of;
-    let most = counted(tables::modules(jobs)).at;
+    let most = counted(jobs.modules()).at;
     Weighed { weight, most }
 }
 
@@ -58,7 +58,7 @@ fn weights_in(jobs: &Jobs, q: usize) -> Figures
     ensures { Put (λ k. k) (replicate most_jobs 0) result.of (count_of jobs.now)
         (λ k. weight_in (modules_of jobs.now) q (need_at jobs.now k)) }
 {
-    let count = tables::count(jobs);
+    let count = jobs.count();
     let mut next = [0u16; MOST_JOBS];
     for k in 0..count {
         next[k] = weights::weight_of(jobs, k, q);
@@ -99,10 +99,10 @@ pub fn multiple(x: u64, by: u16) -> u64
 fn lengths(jobs: &Jobs) -> Figures
     requires { count_of jobs.now ≤ most_jobs }
 {
-    let count = tables::count(jobs);
+    let count = jobs.count();
     let mut next = [0u16; MOST_JOBS];
     for k in 0..count {
-        next[k] = tables::kept(jobs, k);
+        next[k] = jobs.kept(k);
     }
     Figures { of: next }
 }
@@ -113,8 +113,8 @@ fn asked(jobs: &Jobs, weight: &[u16; MOST_JOBS], most: &[u16; WIDTHS]) -> u64
     requires { Fit jobs.now }
 {
     let kept = lengths(jobs);
-    let worth = total(weight, &kept.of, tables::count(jobs));
-    multiple(worth, most[tables::modules(jobs) as usize])
+    let worth = total(weight, &kept.of, jobs.count());
+    multiple(worth, most[jobs.modules() as usize])
 }
 
 // Of two weightings the one that asks for more minutes of the whole cabinet; the first of equals.

@@ -46,8 +46,8 @@ pub fn weight_of(jobs: &Jobs, k: usize, q: usize) -> u16
     requires { (Fit jobs.now) × ((k < count_of jobs.now) × (q < weightings)) }
     ensures { result ≡ weight_in (modules_of jobs.now) q (need_at jobs.now k) }
 {
-    let m = tables::modules(jobs) as usize;
-    let a = (q + 2) * (tables::need(jobs, k) as usize);
+    let m = jobs.modules() as usize;
+    let a = (q + 2) * (jobs.need(k) as usize);
     if a % m == 0 {
         return ((q + 1) * (a / m)) as u16;
     }
@@ -87,12 +87,12 @@ pub fn most_of(jobs: &Jobs, q: usize) -> Most
     requires { (Fit jobs.now) × (q < weightings) }
     ensures { MostOf jobs.now (count_of jobs.now) q result.at }
 {
-    let count = tables::count(jobs);
-    let modules = tables::modules(jobs);
+    let count = jobs.count();
+    let modules = jobs.modules();
     let mut table = Most { at: [0u16; WIDTHS] };
     for k in 0..count {
         let weight = weight_of(jobs, k, q);
-        table = with_job(table, tables::need(jobs, k), weight, modules);
+        table = with_job(table, jobs.need(k), weight, modules);
     }
     table
 }
@@ -115,11 +115,11 @@ fn with_weighting(all: Weights, jobs: &Jobs, q: usize) -> Weights
     requires { (Fit jobs.now) × ((q < weightings) × (WeightedTo jobs.now all.worth all.most q)) }
     ensures { WeightedTo jobs.now result.worth result.most (q + 1) }
 {
-    let count = tables::count(jobs);
+    let count = jobs.count();
     let mut next = all;
     for k in 0..count {
         let weight = weight_of(jobs, k, q);
-        next.worth[k * WEIGHTINGS + q] = counting::times(tables::kept(jobs, k), weight);
+        next.worth[k * WEIGHTINGS + q] = counting::times(jobs.kept(k), weight);
     }
     let table = most_of(jobs, q);
     put_most(next, q, &table.at)
@@ -165,7 +165,7 @@ fn set_worth(jobs: &Jobs, prepared: &Prepared, part: &Part) -> Totals
     let mut weight = Totals {
         of: [0u32; WEIGHTINGS],
     };
-    let mut todo = bits::below32(part.unplaced, tables::count(jobs));
+    let mut todo = bits::below32(part.unplaced, jobs.count());
     while todo != 0 {
         let k = bits::lowest32(todo);
         weight = with_worth(weight, prepared, k);

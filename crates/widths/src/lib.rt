@@ -27,10 +27,10 @@ pub fn sums_of(jobs: &Jobs, set: u32) -> u64
     ensures { WidthsOf jobs.now set result }
 {
     let mut sums: u64 = 1;
-    let mut todo = bits::below32(set, tables::count(jobs));
+    let mut todo = bits::below32(set, jobs.count());
     while todo != 0 {
         let j = bits::lowest32(todo);
-        sums = with_width(sums, tables::need(jobs, j));
+        sums = with_width(sums, jobs.need(j));
         todo = bits::without_lowest32(todo);
     }
     sums
