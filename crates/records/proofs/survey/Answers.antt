@@ -19,7 +19,7 @@ unfolding sum any
 loop-i-preserved c =
     let v = c.loop-i in (
       rw add-one (ap₂ ◌+◌ v.invariant.0 c.label_length-total.ensures.0),
-      rw add-one (ap₂ ◌||◌ v.invariant.1 c.faulty.ensures),
+      rw add-one (ap₂ ◌||◌ v.invariant.1 c.faulty-found.ensures),
       omega arith,
     )
 
