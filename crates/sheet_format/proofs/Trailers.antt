@@ -8,7 +8,8 @@ use borrow.Author.Tests.{ltb-false, le-ltb, eq-eqb, ne_eqb}
 use Rattle.checking.specs.Checking.{first_failing}
 use Rattle.checking.proofs.Order.{Passed, all_passed, first_in_front, first-behind}
 use Rattle.sheet_format.specs.Figures.{most_jobs, most_modules, longest_changeover, longest_sheet, record_size, trailer_size}
-use Rattle.sheet_format.specs.Format.{offset_of, count_of, Cabinet, cabinet_of}
+use Rattle.sheet_format.specs.Format.{offset_of, count_of, cabinet_of}
+use Rattle.sheet_format.specs.declared.Cabinet.{Cabinet}
 use Rattle.sheet_format.specs.Checks.{wrong_length, wrong_offset, figure_checks, trailer_checks}
 use Rattle.sheet_format.proofs.Bounds.{inside, not-outside}
 

@@ -4,8 +4,7 @@ use Rattle.counting.specs.Counting.{sum, joined}
 use Rattle.words.specs.Words.{byte_at, u16_at, u32_at, bytes_of}
 use Rattle.sheet_format.specs.declared.Job.{Job}
 use Rattle.sheet_format.specs.Figures.{most_jobs, record_size, trailer_size}
--- what a sheet says of the cabinet: its modules N, and the minutes that a module rests between two jobs
-pub use Rattle.sheet_format.specs.declared.Cabinet.{Cabinet}
+use Rattle.sheet_format.specs.declared.Cabinet.{Cabinet}
 
 -- ---- a record: label length (1 byte), modules needed (1), minutes (2), earlier jobs (4), departure (2), arrival (2)
 
@@ -48,6 +47,7 @@ modules_of s = u16_at s (trailer_at s + 6)
 abbrev pub changeover_of : List ℕ → ℕ
 changeover_of s = u16_at s (trailer_at s + 8)
 
+-- what a sheet says of the cabinet
 abbrev pub cabinet : ℕ → ℕ → Cabinet
 cabinet modules changeover = record { modules = modules; changeover = changeover }
 

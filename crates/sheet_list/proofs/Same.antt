@@ -13,7 +13,8 @@ use Rattle.counting.proofs.Joins.{joined_same}
 use Rattle.checking.specs.Checking.{Check, first_failing}
 use Rattle.sheet_format.specs.declared.Job.{Job}
 use Rattle.sheet_format.specs.Figures.{most_jobs}
-use Rattle.sheet_format.specs.Format.{record_bytes, trailer_bytes, sheet_bytes, jobs_in, places, Cabinet}
+use Rattle.sheet_format.specs.Format.{record_bytes, trailer_bytes, sheet_bytes, jobs_in, places}
+use Rattle.sheet_format.specs.declared.Cabinet.{Cabinet}
 use Rattle.sheet_format.specs.Checks.{figure_checks, too_short}
 use Rattle.sheet_format.proofs.Lists.{job_in-place}
 use Rattle.sheet_format.proofs.Cuts.{content_same}
