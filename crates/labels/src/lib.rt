@@ -13,6 +13,7 @@ use sheet_format::label_length;
 
 // The number of a label call on what reading answered: its own refusal, then 14, or 0 where there is a label. It stays a number: C may
 // lend a reading with any.
+#[tactic(auto, unfolding(checking::specs::Checking::first_failing))]
 fn place_refusal(found: Reading, job: usize) -> u32
     ensures { result ≡ first_failing (place_checks found job) }
 {

@@ -1,5 +1,6 @@
 -- `sheet_list::gather` meets its contract: the first i records stand in their places.
-use Rattle.std.proofs.Common.{ℕ, ◌+◌, ◌<◌, ◌≡◌, ap, ◌∙◌, arith, List, set}
+use Rattle.std.proofs.Common.{ℕ, ◌+◌, ◌<◌, ◌≡◌, ap, ◌∙◌, arith, List}
+use lib.ListN.{set}
 use Rattle.counting.specs.Counting.{joined}
 use Rattle.sheet_format.specs.declared.Job.{Job}
 use Rattle.sheet_format.specs.Format.{jobs_in, places, no_jobs}
@@ -11,7 +12,12 @@ unfolding places joined no_jobs
 loop-i-init c = c.no_jobs-list.ensures
 
 pub loop-i-preserved : goal.loop-i-preserved
-loop-i-preserved c = ?
+loop-i-preserved c =
+    let i = c.loop-i.i in
+    let jobs = jobs_in c.args.jobs.now in
+    ap (λ (l : List Job). set l i (jobs i)) c.loop-i.invariant ∙ place_more i jobs (omega (arith, c.min-count.ensures))
 
 pub returns : goal.returns
-returns c = ?
+returns c =
+    let e : c.loop-i.i ≡ c.min-count.result = omega arith in
+    c.loop-i.invariant ∙ ap (λ (n : ℕ). places n (jobs_in c.args.jobs.now)) (e ∙ c.min-count.ensures)
