@@ -22,8 +22,14 @@ returns-in-Err c =
 pub check_count-requires : goal.check_count-requires
 check_count-requires c = jobs_read c.args.sheet.now c.in-Ok.jobs c.in-Ok.ensures
 
-pub returns-in-Err-in-Ok : goal.returns-in-Err-in-Ok
-returns-in-Err-in-Ok c = ?
+pub returns-in-Err-check_count : goal.returns-in-Err-check_count
+returns-in-Err-check_count c =
+    let a = c.args in
+    let e = c.in-Err-check_count.refusal in
+    let r = c.refused-in-Err-check_count in
+    let answer = no-count a.sheet.now a.by a.card.now a.work.now c.in-Ok.jobs c.in-Ok.ensures (number_of e) c.in-Err-check_count.ensures
+    (number-some e) in
+    record { answer = turned r.result (number_of e) r.ensures ∙ answer.0; card = answer.1.0; work = answer.1.1 }
 
 -- ---- no check fails
 pub write_least-requires : goal.write_least-requires
