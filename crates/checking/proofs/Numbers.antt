@@ -1,5 +1,4 @@
 -- No refusal has the number 0, which says that nothing is refused.
-use mathlib.Core.Path.{◌≡◌}
 use mathlib.Core.Logic.{◌≢◌}
 use native.Mathlib.Omega.{arith}
 use Rattle.checking.specs.Refusals.{number_of}

@@ -46,44 +46,44 @@ module _ (s card work : List ℕ) where
       (number-some e)
 
   module _ (t : List ℕ) (f : CheckedOf s (Ok t)) where
-      passed : planable_refusal s ≡ 0
-      passed = sym f.refusal
+    passed : planable_refusal s ≡ 0
+    passed = sym f.refusal
 
-      pub ready : Ready s t
-      ready = ready-table s t passed f.table
+    pub ready : Ready s t
+    ready = ready-table s t passed f.table
 
-      pub few_jobs : count_of t ≤ most_jobs
-      few_jobs = ready.fit.few
+    pub few_jobs : count_of t ≤ most_jobs
+    few_jobs = ready.fit.few
 
-      -- by 10
-      by-room : (b : Bool) → ltb (length card) (card_size (count_of t)) ≡ b → plan_refusal s (length card) ≡ first_failing ((10, b) ∷ [])
-      unfolding plan_refusal planable_refusal
-      by-room b e =
-          first-behind (planable_checks s) (room_checks (sheet_in s) (length card)) (all_passed (planable_checks s) refl passed)
-          ∙ ap (λ (n : ℕ). first_failing ((10, ltb (length card) (card_size n)) ∷ [])) (sym ready.same.jobs)
-          ∙ ap (λ (b : Bool). first_failing ((10, b) ∷ [])) e
+    -- by 10
+    by-room : (b : Bool) → ltb (length card) (card_size (count_of t)) ≡ b → plan_refusal s (length card) ≡ first_failing ((10, b) ∷ [])
+    unfolding plan_refusal planable_refusal
+    by-room b e =
+        first-behind (planable_checks s) (room_checks (sheet_in s) (length card)) (all_passed (planable_checks s) refl passed)
+        ∙ ap (λ (n : ℕ). first_failing ((10, ltb (length card) (card_size n)) ∷ [])) (sym ready.same.jobs)
+        ∙ ap (λ (b : Bool). first_failing ((10, b) ∷ [])) e
 
-      pub no_room : ltb (length card) (card_size (count_of t)) ≡ true → Given s card work 10 card work
+    pub no_room : ltb (length card) (card_size (count_of t)) ≡ true → Given s card work 10 card work
+    unfolding first_failing
+    no_room l = refused_leaves 10 (sym (by-room true l)) (λ e. omega arith)
+
+    module _ (l : ltb (length card) (card_size (count_of t)) ≡ false) where
+      pub can_plan : Fit t × ((¬ Circular (sheet_of t)) × (card_size (count_of t) ≤ length card))
+      can_plan = (ready.fit, (ready.free, ltb-false (length card) (card_size (count_of t)) l))
+
+      pub none : plan_refusal s (length card) ≡ 0
       unfolding first_failing
-      no_room l = refused_leaves 10 (sym (by-room true l)) (λ e. omega arith)
+      none = by-room false l
 
-      module _ (l : ltb (length card) (card_size (count_of t)) ≡ false) where
-        pub can_plan : Fit t × ((¬ Circular (sheet_of t)) × (card_size (count_of t) ≤ length card))
-        can_plan = (ready.fit, (ready.free, ltb-false (length card) (card_size (count_of t)) l))
-
-        pub none : plan_refusal s (length card) ≡ 0
-        unfolding first_failing
-        none = by-room false l
-
-        pub answered : (card' work' : List ℕ) → card' ≡ best_card (sheet_of t) ++ drop (card_size (count_of t)) card
-            → work' ≡ replicate (length work) 0 → Given s card work 0 card' work'
-        unfolding work_after
-        answered card' work' written cleared = (
-          sym none,
-          (
-            written
-                ∙ ap₂ (λ (c : List ℕ) (n : ℕ). c ++ drop (card_size n) card) (best-card_same ready.same ready.free) ready.same.jobs
-                ∙ sym (plan-written s card none),
-            cleared ∙ rw none refl,
-          ),
-        )
+      pub answered : (card' work' : List ℕ) → card' ≡ best_card (sheet_of t) ++ drop (card_size (count_of t)) card
+          → work' ≡ replicate (length work) 0 → Given s card work 0 card' work'
+      unfolding work_after
+      answered card' work' written cleared = (
+        sym none,
+        (
+          written
+              ∙ ap₂ (λ (c : List ℕ) (n : ℕ). c ++ drop (card_size n) card) (best-card_same ready.same ready.free) ready.same.jobs
+              ∙ sym (plan-written s card none),
+          cleared ∙ rw none refl,
+        ),
+      )

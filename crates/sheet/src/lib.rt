@@ -160,12 +160,7 @@ fn write_parts(
     let length = end + TRAILER_SIZE;
     words::copy(&mut out[..offset], labels);
     records::write_all(&mut out[offset..end], jobs, count);
-    trailer::write(
-        &mut out[end..length],
-        offset as u32,
-        count as u16,
-        cabinet,
-    );
+    trailer::write(&mut out[end..length], offset as u32, count as u16, cabinet);
     length
 }
 

@@ -77,58 +77,58 @@ module _ (s : List ℕ) (by : ℕ) (card work : List ℕ) where
       (number-some e)
 
   module _ (t : List ℕ) (f : ReadOf s (Ok t)) (k : ℕ) (e : k ≡ count_refusal (sheet_of t) by (length card)) where
-      fit : FitJobs t
-      fit = jobs_read s t f
+    fit : FitJobs t
+    fit = jobs_read s t f
 
-      same-sheet : SameJobs (sheet_of t) (sheet_in s)
-      same-sheet = same_read s t f
+    same-sheet : SameJobs (sheet_of t) (sheet_in s)
+    same-sheet = same_read s t f
 
-      -- the number of the table is the sheet's
-      number : k ≡ size_refusal s by (length card)
-      number = e ∙ number_same same-sheet fit.lasting by (length card) ∙ sym (behind-reading s by (length card) (was_read s t f))
+    -- the number of the table is the sheet's
+    number : k ≡ size_refusal s by (length card)
+    number = e ∙ number_same same-sheet fit.lasting by (length card) ∙ sym (behind-reading s by (length card) (was_read s t f))
 
-      -- by 9, 20 or 10
-      pub no-count : (k ≡ 0 → ⊥) → Given (record { refusal = k; modules = 0 }) card work
-      no-count h = refused_leaves k number h
+    -- by 9, 20 or 10
+    pub no-count : (k ≡ 0 → ⊥) → Given (record { refusal = k; modules = 0 }) card work
+    no-count h = refused_leaves k number h
 
-      module _ (n : k ≡ 0) where
-        passed : Enough (sheet_of t) by (length card)
-        passed = enough (sheet_of t) by (length card) (sym e ∙ n)
+    module _ (n : k ≡ 0) where
+      passed : Enough (sheet_of t) by (length card)
+      passed = enough (sheet_of t) by (length card) (sym e ∙ n)
 
-        free : ¬ Circular (sheet_of t)
-        free = (ordered_when (sheet_of t)).0 passed.ordered
+      free : ¬ Circular (sheet_of t)
+      free = (ordered_when (sheet_of t)).0 passed.ordered
 
-        pub can_size : Askable t
-            × ((least_count (sheet_of t) by ≤ most_modules) × (card_size (count_of t) ≤ length card))
-        can_size =
-            (record { jobs = fit; free = free }, (passed.count, ltb-false (length card) (card_size (count_of t)) passed.room))
+      pub can_size : Askable t
+          × ((least_count (sheet_of t) by ≤ most_modules) × (card_size (count_of t) ≤ length card))
+      can_size =
+          (record { jobs = fit; free = free }, (passed.count, ltb-false (length card) (card_size (count_of t)) passed.room))
 
-        abbrev S : Sheet
-        S = sheet_of t
+      abbrev S : Sheet
+      S = sheet_of t
 
-        abbrev T : Sheet
-        T = sheet_in s
+      abbrev T : Sheet
+      T = sheet_in s
 
-        count_same : least_count S by ≡ least_count T by
-        count_same = least_same same-sheet fit.lasting by
+      count_same : least_count S by ≡ least_count T by
+      count_same = least_same same-sheet fit.lasting by
 
-        card_same : best_card (with_modules S (least_count S by)) ≡ best_card (with_modules T (least_count T by))
-        card_same =
-            ap (λ (i : ℕ). best_card (with_modules S i)) count_same
-            ∙ best-card_same (same_with same-sheet (least_count T by)) (λ c. free (circular_same (marks_with S (least_count T by)) c))
+      card_same : best_card (with_modules S (least_count S by)) ≡ best_card (with_modules T (least_count T by))
+      card_same =
+          ap (λ (i : ℕ). best_card (with_modules S i)) count_same
+          ∙ best-card_same (same_with same-sheet (least_count T by)) (λ c. free (circular_same (marks_with S (least_count T by)) c))
 
-        size_is : length (best_card (with_modules T (least_count T by))) ≡ card_size (count_of t)
-        size_is = ap length (sym card_same) ∙ best_size (with_modules S (least_count S by)) (λ c. free (circular_same (marks_with S (least_count S by)) c))
+      size_is : length (best_card (with_modules T (least_count T by))) ≡ card_size (count_of t)
+      size_is = ap length (sym card_same) ∙ best_size (with_modules S (least_count S by)) (λ c. free (circular_same (marks_with S (least_count S by)) c))
 
-        pub answered : (m : ℕ) (card' work' : List ℕ) → m ≡ least_count S by
-            → card' ≡ best_card (with_modules S (least_count S by)) ++ drop (card_size (count_of t)) card
-            → work' ≡ replicate (length work) 0 → Given (record { refusal = 0; modules = m }) card' work'
-        unfolding size_answer size_card_after work_after
-        answered m card' work' count written cleared =
-            let none : size_refusal s by (length card) ≡ 0 = sym number ∙ n in (
-              rw none (ap (λ (i : ℕ). record { refusal = 0; modules = i }) (count ∙ count_same)),
-              (
-                rw none (written ∙ ap₂ (λ (c : List ℕ) (i : ℕ). c ++ drop i card) card_same (sym size_is)),
-                cleared ∙ rw none refl,
-              ),
-            )
+      pub answered : (m : ℕ) (card' work' : List ℕ) → m ≡ least_count S by
+          → card' ≡ best_card (with_modules S (least_count S by)) ++ drop (card_size (count_of t)) card
+          → work' ≡ replicate (length work) 0 → Given (record { refusal = 0; modules = m }) card' work'
+      unfolding size_answer size_card_after work_after
+      answered m card' work' count written cleared =
+          let none : size_refusal s by (length card) ≡ 0 = sym number ∙ n in (
+            rw none (ap (λ (i : ℕ). record { refusal = 0; modules = i }) (count ∙ count_same)),
+            (
+              rw none (written ∙ ap₂ (λ (c : List ℕ) (i : ℕ). c ++ drop i card) card_same (sym size_is)),
+              cleared ∙ rw none refl,
+            ),
+          )

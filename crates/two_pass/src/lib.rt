@@ -57,13 +57,7 @@ fn try_read(sheet: &[u8]) -> Result<Reading, Refusal>
     let cabinet = trailer::cabinet(sheet);
     let found = read_records(sheet, offset, count);
     let jobs = found.jobs;
-    check_content(
-        jobs,
-        count,
-        found.faulty,
-        found.total,
-        &sheet[..offset],
-    )?;
+    check_content(jobs, count, found.faulty, found.total, &sheet[..offset])?;
     Ok(Reading {
         refusal: 0,
         jobs,

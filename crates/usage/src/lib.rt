@@ -35,8 +35,5 @@ pub fn used(sheet: &[u8], work: &mut [u8]) -> Usage
     }
     let end = search::earliest(work, &jobs);
     let occupied = occupancy::work_of(&jobs);
-    occupancy::share(
-        occupied,
-        counting::times(tables::modules(&jobs), end),
-    )
+    occupancy::share(occupied, counting::times(tables::modules(&jobs), end))
 }

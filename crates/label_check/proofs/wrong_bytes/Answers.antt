@@ -1,8 +1,7 @@
 -- `label_check::wrong_bytes` meets its contract: none of the bytes before this one is wrong.
-use mathlib.Core.Path.{◌≡◌, refl, sym, ap, ap₂, ◌∙◌}
+use mathlib.Core.Path.{refl, sym, ap₂, ◌∙◌}
 use mathlib.Core.Bool.{◌||◌}
 use native.Mathlib.Numerals.{add-one}
-use native.Mathlib.Omega.{arith}
 use lib.ListN.{length}
 use Rattle.counting.specs.Counting.{any}
 use Rattle.counting.proofs.Ranges.{any_at}

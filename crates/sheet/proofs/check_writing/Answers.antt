@@ -1,5 +1,5 @@
 -- `sheet::check_writing` meets its contract: each refusal stands behind the checks that passed.
-use mathlib.Core.Path.{◌≡◌, sym}
+use mathlib.Core.Path.{sym}
 use native.Mathlib.Omega.{arith}
 use Rattle.std.proofs.lemmas.Result.{err_from_is_err_and}
 use Rattle.checking.specs.Refusals.{number_of}

@@ -1,6 +1,5 @@
 -- `sheet::read` meets its contract.
 use mathlib.Core.Path.{sym, ◌∙◌}
-use Rattle.checking.specs.Refusals.{number_of}
 use Rattle.checking.proofs.Numbers.{number-some}
 use Rattle.sheet.proofs.Answers.{refused_is}
 use Rattle.sheet.proofs.read.Goals as goal

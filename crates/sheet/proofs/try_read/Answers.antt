@@ -1,5 +1,5 @@
 -- `sheet::try_read` meets its contract.
-use mathlib.Core.Path.{refl, sym}
+use mathlib.Core.Path.{refl}
 use Rattle.std.proofs.lemmas.Result.{err_from_is_err_and}
 use Rattle.checking.specs.Refusals.{number_of}
 use Rattle.checking.proofs.Numbers.{number-some}

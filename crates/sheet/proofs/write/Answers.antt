@@ -1,7 +1,6 @@
 -- `sheet::write` meets its contract.
 use mathlib.Core.Path.{◌≡◌, refl, sym, ◌∙◌}
 use lib.ListN.{length}
-use Rattle.checking.specs.Refusals.{number_of}
 use Rattle.checking.proofs.Numbers.{number-some}
 use Rattle.sheet_format.specs.Format.{jobs_in, cabinet}
 use Rattle.sheet.proofs.Writes.{writes, refused_answer, refused_leaves, written_answer, written_leaves}

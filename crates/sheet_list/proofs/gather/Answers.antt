@@ -1,5 +1,5 @@
 -- `sheet_list::gather` meets its contract: the first i records stand in their places.
-use Rattle.std.proofs.Common.{ℕ, ◌+◌, ◌<◌, ◌≡◌, ap, ◌∙◌, arith, List}
+use Rattle.std.proofs.Common.{ℕ, ◌≡◌, ap, ◌∙◌, arith, List}
 use lib.ListN.{set}
 use Rattle.counting.specs.Counting.{joined}
 use Rattle.sheet_format.specs.declared.Job.{Job}

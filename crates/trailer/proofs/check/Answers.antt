@@ -1,5 +1,5 @@
 -- `trailer::check` meets its contract: each refusal stands behind the tests that passed.
-use mathlib.Core.Path.{◌≡◌, refl, sym, ◌∙◌}
+use mathlib.Core.Path.{refl, sym, ◌∙◌}
 use Rattle.std.proofs.lemmas.Result.{err_from_is_err_and}
 use Rattle.checking.specs.Checking.{first_failing}
 use Rattle.checking.specs.Refusals.{number_of}
