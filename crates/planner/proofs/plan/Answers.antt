@@ -1,11 +1,6 @@
 -- `planner::plan` meets its contract.
-use mathlib.Core.Path.{◌≡◌, sym, ◌∙◌}
-use mathlib.Core.Bool.{false}
-use lib.Dec.{ltb}
-use lib.ListN.{length}
+use mathlib.Core.Path.{sym, ◌∙◌}
 use Rattle.std.proofs.lemmas.Result.{err_from_is_err_and}
-use Rattle.tables.specs.Tables.{count_of}
-use Rattle.card.specs.Card.{card_size}
 use Rattle.planner.proofs.Calls.{turned_away, few_jobs, no_room, can_plan, answered}
 use Rattle.planner.proofs.plan.Goals as goal
 
