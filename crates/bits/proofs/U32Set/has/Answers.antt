@@ -1,7 +1,7 @@
 -- the code is the definition
 use Rattle.std.proofs.Common.{refl}
 use Rattle.bits.specs.Bits.{bit}
-use Rattle.bits.proofs.test32.Goals as goal
+use Rattle.bits.proofs.U32Set.has.Goals as goal
 
 pub returns : goal.returns
 unfolding bit
