@@ -11,7 +11,11 @@ use std::ops::{BitAnd, BitOr, Sub};
 
 // A word as a set of the numbers below its width. Each size of word says what `up`, `has`, `size` and `lowest` are and
 // proves the laws at the end; the rest is written and proved once.
-pub trait Set: Copy + Drop + BitAnd<Self, Output = Self> + BitOr<Self, Output = Self> + Sub<Self, Output = Self> {
+pub trait Set: Copy
+    + Drop
+    + BitAnd<Self, Output = Self>
+    + BitOr<Self, Output = Self>
+    + Sub<Self, Output = Self> {
     // The word as a number.
     ghost number: { Self → ℕ };
 
