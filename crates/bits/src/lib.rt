@@ -2,14 +2,15 @@
 #![tactic(auto)]
 
 ghost use Rattle.std.proofs.Common.{rules};
-ghost use Rattle.std.specs.Prelude.{◌≡◌, true, false, ℕ, ◌-◌, ◌*◌, ◌%◌, ◌^◌, ◌<◌, ◌≤◌, refl};
+ghost use Rattle.std.specs.Prelude.{◌≡◌, true, false, ℕ, ◌-◌, ◌*◌, ◌%◌, ◌^◌, ◌<◌, ◌≤◌, refl, eqb};
 ghost use Rattle.std.specs.Int.Bits.{bit_and, bit_or};
 ghost use Rattle.std.specs.Int.Count.{ones};
-ghost use Rattle.bits.specs.Bits.{bit, with_bit, without_bit, set_of};
+ghost use Rattle.std.specs.Iterator.{at_most};
+ghost use Rattle.bits.specs.Bits.{bit, with_bit, without_bit, set_of, LowestFirst};
 
 use std::ops::{BitAnd, BitOr, Sub};
 
-// A word as a set of the numbers below its width. Each size of word says what `up`, `has`, `size` and `lowest` are and
+// A word as a set of the numbers below its width. Each size of word says what its few steps (`up` to `lowest`) are and
 // proves the laws at the end; the rest is written and proved once.
 pub trait Set: Copy
     + Drop
@@ -36,6 +37,10 @@ pub trait Set: Copy
     fn has(self, i: usize) -> bool
         requires { i < width }
         ensures { result ≡ bit (number self) i };
+
+    // Whether the set has no member.
+    fn is_empty(self) -> bool
+        ensures { result ≡ eqb (number self) 0 };
 
     // How many members the set has.
     fn size(self) -> u32
@@ -78,6 +83,13 @@ pub trait Set: Copy
         self & (Self::ONE.up(n) - Self::ONE)
     }
 
+    // The members, the lowest first.
+    final fn members(self) -> Walk<Self>
+        ensures { result.left ≡ self }
+    {
+        Walk { left: self }
+    }
+
     // What an implementation proves: `ONE` is 1, and `|`, `&` and `-` do to words what they do to numbers.
     ghost one_is: { number ONE ≡ 1 };
 
@@ -92,6 +104,30 @@ pub trait Set: Copy
     ghost can_take: { (x y : Self) → number y ≤ number x → Self.can_sub x y };
 
     ghost take_is: { (x y r : Self) → Self.sub_gives x y r → number r ≡ number x - number y };
+}
+
+// A walk over the members of a set.
+#[derive(Drop)]
+pub struct Walk<S> {
+    // The members that are still to come.
+    pub left: S,
+}
+
+impl<S: Set> Iterator for Walk<S> {
+    type Item = usize;
+
+    ghost next_gives = { λ s r t. LowestFirst S.width (S.number s.left) r (S.number t.left) };
+
+    ghost remaining = { λ s. at_most (ones (S.number s.left)) };
+
+    fn next(&mut self) -> Option<usize> {
+        if self.left.is_empty() {
+            return None;
+        }
+        let j = self.left.lowest();
+        self.left = self.left.without_lowest();
+        Some(j)
+    }
 }
 
 impl Set for u32 {
@@ -109,6 +145,10 @@ impl Set for u32 {
 
     fn has(self, i: usize) -> bool {
         (self >> i) % 2 == 1
+    }
+
+    fn is_empty(self) -> bool {
+        self == 0
     }
 
     fn size(self) -> u32 {
@@ -149,6 +189,10 @@ impl Set for u64 {
 
     fn has(self, i: usize) -> bool {
         (self >> i) % 2 == 1
+    }
+
+    fn is_empty(self) -> bool {
+        self == 0
     }
 
     fn size(self) -> u32 {
