@@ -1,6 +1,6 @@
 -- What it takes for no check of a call to fail, and so what an answered opening and a granted claim, hand-back or change tell.
 use mathlib.Core.Path.{◌≡◌, refl}
-use mathlib.Core.Bool.{Bool, true, false, not}
+use mathlib.Core.Bool.{Bool, true, false, not, cond}
 use mathlib.Core.List.{List}
 use Prim.Native.Nat.{ℕ, ◌+◌, ◌≤◌, ◌<◌}
 use native.Mathlib.Omega.{arith}
@@ -9,14 +9,20 @@ use lib.ListN.{length, get_or}
 use borrow.Author.Tests.{ltb-false, eqb-true, eqb-false, le-ltb, eq-eqb, ne_eqb, not-false}
 use Rattle.counting.proofs.Tests.{or_left, or_right}
 use Rattle.counting.proofs.Ranges.{any_none, none_any}
+use Rattle.std.specs.Prelude.{Ok, Err}
 use Rattle.checking.specs.Checking.{first_failing}
+use Rattle.checking.specs.declared.Refusal.{Refusal}
+use Rattle.checking.specs.declared.Refusal.TheVariants.{SheetLength, TooManyJobs, ModuleCount, RecordOffset, WrongRecord, LabelLengths, WrongLabel, OverWide, Circular, ShortBuffer, ControllerCount, WrongShares}
+use Rattle.checking.specs.declared.Refusal.TheVariants.{SharesAboveLimit, NotThere, NoPower, AboveCeiling, AboveLimit, AboveHolding, LongChangeover, NoCountServes}
+use Rattle.checking.specs.declared.Refusal.TheVariants.{HoldingAboveCeiling, HoldingsAboveLimit, NoJobs, ModuleSize, WrongController, WrongCard}
+use Rattle.checking.specs.Refusals.{number_of}
 use Rattle.checking.proofs.Order.{all_passed, none_failing}
 use Rattle.desk.specs.declared.Desk.{Desk}
 use Rattle.desk.specs.Desk.{most_power, fewest_controllers, most_controllers, holding, ceiling_of, reserved_for_others}
 use Rattle.desk.specs.Checks.{in_range, wrong_lengths, wrong_pair, some_pair_wrong, wrong_figures, shares_in_all, shares_exceed}
 use Rattle.desk.specs.Checks.{not_of_desk, open_checks, booking_checks, return_checks, figure_checks}
 use Rattle.desk.specs.Checks.{wrong_count, some_holds_more, raised_in_all, raised_exceed}
-use Rattle.desk.specs.Calls.{open_refusal, opened, claim_refusal, hand_back_refusal}
+use Rattle.desk.specs.Calls.{open_refusal, opened, claim_refusal, hand_back_refusal, answered}
 use Rattle.desk.proofs.Sound.{InRange, range_says, in_range_lem, Sound, Here, of-desk_says, of-desk}
 
 -- ---- opening
@@ -74,6 +80,45 @@ module _ (limit : ℕ) (assured ceilings : List ℕ) where
         right,
         le-ltb _ _ o.total,
       ) refl
+
+-- ---- what a call answers
+
+-- a refusal's number is not 0
+numbered : (r : Refusal) → eqb (number_of r) 0 ≡ false
+numbered SheetLength = refl
+numbered TooManyJobs = refl
+numbered ModuleCount = refl
+numbered RecordOffset = refl
+numbered WrongRecord = refl
+numbered LabelLengths = refl
+numbered WrongLabel = refl
+numbered OverWide = refl
+numbered Circular = refl
+numbered ShortBuffer = refl
+numbered ControllerCount = refl
+numbered WrongShares = refl
+numbered SharesAboveLimit = refl
+numbered NotThere = refl
+numbered NoPower = refl
+numbered AboveCeiling = refl
+numbered AboveLimit = refl
+numbered AboveHolding = refl
+numbered LongChangeover = refl
+numbered NoCountServes = refl
+numbered HoldingAboveCeiling = refl
+numbered HoldingsAboveLimit = refl
+numbered NoJobs = refl
+numbered ModuleSize = refl
+numbered WrongController = refl
+numbered WrongCard = refl
+
+module _ (d e : Desk) (n : ℕ) where
+  -- a refusal by the number n, and a desk where n is 0, are answered as a call with that number is
+  pub refused_answer : (r : Refusal) → number_of r ≡ n → answered d (Err r) ≡ record { refusal = n; desk = cond (eqb n 0) e d }
+  refused_answer r q = rw (← q, numbered r) refl
+
+  pub granted_answer : 0 ≡ n → answered d (Ok e) ≡ record { refusal = n; desk = cond (eqb n 0) e d }
+  granted_answer q = rw (← q) refl
 
 -- ---- claims and hand-backs
 

@@ -1,4 +1,4 @@
--- `desk::Desk::claim_refusal` meets its contract: the checks in turn.
+-- `desk::Desk::check_claim` meets its contract: the checks in turn.
 use mathlib.Core.Path.{◌≡◌, refl, sym, ◌∙◌}
 use mathlib.Core.Bool.{false}
 use Prim.Native.Nat.{◌+◌, ◌≤◌, ◌<◌}
@@ -8,8 +8,8 @@ use Rattle.checking.specs.Checking.{first_failing}
 use Rattle.desk.specs.Desk.{holding, ceiling_of, reserved_for_others}
 use Rattle.desk.specs.Checks.{not_of_desk}
 use Rattle.desk.specs.Calls.{claim_refusal}
-use Rattle.desk.proofs.Sound.{Here, of-desk_says}
-use Rattle.desk.proofs.Desk.claim_refusal.Goals as goal
+use Rattle.desk.proofs.Sound.{Here, here_says}
+use Rattle.desk.proofs.Desk.check_claim.Goals as goal
 
 pub returns-then-not_of_desk : goal.returns-then-not_of_desk
 unfolding claim_refusal first_failing
@@ -23,17 +23,15 @@ returns-then-power-eq0 c =
 
 pub below_ceiling-requires : goal.below_ceiling-requires
 below_ceiling-requires c =
-    let passed : not_of_desk c.args.self c.args.controller ≡ false = sym c.not_of_desk.ensures ∙ c.if-not_of_desk.false in
-    let at : Here c.args.self c.args.controller = of-desk_says _ _ passed in
+    let at : Here c.args.self c.args.controller = here_says c.not_of_desk.ensures c.if-not_of_desk.false in
     (at.inside, at.hold)
 
 pub returns-then-below_ceiling-power : goal.returns-then-below_ceiling-power
 unfolding claim_refusal first_failing
 returns-then-below_ceiling-power c =
     let passed : not_of_desk c.args.self c.args.controller ≡ false = sym c.not_of_desk.ensures ∙ c.if-not_of_desk.false in
-    let at : Here c.args.self c.args.controller = of-desk_says _ _ passed in
+    let at : Here c.args.self c.args.controller = here_says c.not_of_desk.ensures c.if-not_of_desk.false in
     let a = c.args in
-    let h = at in
     let b = c.below_ceiling.ensures in
     let t = c.if-below_ceiling-power.true in
     let over : ceiling_of a.self a.controller < holding a.self a.controller + a.power = omega arith in
@@ -41,21 +39,17 @@ returns-then-below_ceiling-power c =
 
 pub holding_at-requires : goal.holding_at-requires
 holding_at-requires c =
-    let passed : not_of_desk c.args.self c.args.controller ≡ false = sym c.not_of_desk.ensures ∙ c.if-not_of_desk.false in
-    let at : Here c.args.self c.args.controller = of-desk_says _ _ passed in
+    let at : Here c.args.self c.args.controller = here_says c.not_of_desk.ensures c.if-not_of_desk.false in
     at.inside
 
 pub overflow_add-holding_at : goal.overflow_add-holding_at
 overflow_add-holding_at c =
-    let passed : not_of_desk c.args.self c.args.controller ≡ false = sym c.not_of_desk.ensures ∙ c.if-not_of_desk.false in
-    let at : Here c.args.self c.args.controller = of-desk_says _ _ passed in
+    let at : Here c.args.self c.args.controller = here_says c.not_of_desk.ensures c.if-not_of_desk.false in
     let under : let a = c.args in
     holding a.self a.controller + a.power ≤ ceiling_of a.self a.controller =
-    let h = at in
     let b = c.below_ceiling.ensures in
     let t = c.if-below_ceiling-power.false in
     omega arith in
-    let h = at in
     let g = c.holding_at.ensures in
     omega (arith, under)
 
@@ -66,15 +60,12 @@ reserved_for_others-requires c =
 
 pub overflow_add-holding_at-2 : goal.overflow_add-holding_at-2
 overflow_add-holding_at-2 c =
-    let passed : not_of_desk c.args.self c.args.controller ≡ false = sym c.not_of_desk.ensures ∙ c.if-not_of_desk.false in
-    let at : Here c.args.self c.args.controller = of-desk_says _ _ passed in
+    let at : Here c.args.self c.args.controller = here_says c.not_of_desk.ensures c.if-not_of_desk.false in
     let under : let a = c.args in
     holding a.self a.controller + a.power ≤ ceiling_of a.self a.controller =
-    let h = at in
     let b = c.below_ceiling.ensures in
     let t = c.if-below_ceiling-power.false in
     omega arith in
-    let h = at in
     let g = c.holding_at.ensures in
     let r = c.reserved_for_others.ensures in
     omega (arith, under)
@@ -83,10 +74,9 @@ pub returns-then-limit-holding_at : goal.returns-then-limit-holding_at
 unfolding claim_refusal first_failing
 returns-then-limit-holding_at c =
     let passed : not_of_desk c.args.self c.args.controller ≡ false = sym c.not_of_desk.ensures ∙ c.if-not_of_desk.false in
-    let at : Here c.args.self c.args.controller = of-desk_says _ _ passed in
+    let at : Here c.args.self c.args.controller = here_says c.not_of_desk.ensures c.if-not_of_desk.false in
     let under : let a = c.args in
     holding a.self a.controller + a.power ≤ ceiling_of a.self a.controller =
-    let h = at in
     let b = c.below_ceiling.ensures in
     let t = c.if-below_ceiling-power.false in
     omega arith in
@@ -102,10 +92,9 @@ pub returns : goal.returns
 unfolding claim_refusal first_failing
 returns c =
     let passed : not_of_desk c.args.self c.args.controller ≡ false = sym c.not_of_desk.ensures ∙ c.if-not_of_desk.false in
-    let at : Here c.args.self c.args.controller = of-desk_says _ _ passed in
+    let at : Here c.args.self c.args.controller = here_says c.not_of_desk.ensures c.if-not_of_desk.false in
     let under : let a = c.args in
     holding a.self a.controller + a.power ≤ ceiling_of a.self a.controller =
-    let h = at in
     let b = c.below_ceiling.ensures in
     let t = c.if-below_ceiling-power.false in
     omega arith in

@@ -1,4 +1,4 @@
--- `desk::Desk::hand_back_refusal` meets its contract: the checks in turn.
+-- `desk::Desk::check_hand_back` meets its contract: the checks in turn.
 use mathlib.Core.Path.{◌≡◌, refl, sym, ◌∙◌}
 use mathlib.Core.Bool.{false}
 use Prim.Native.Nat.{◌≤◌, ◌<◌}
@@ -8,8 +8,8 @@ use Rattle.checking.specs.Checking.{first_failing}
 use Rattle.desk.specs.Desk.{holding}
 use Rattle.desk.specs.Checks.{not_of_desk}
 use Rattle.desk.specs.Calls.{hand_back_refusal}
-use Rattle.desk.proofs.Sound.{of-desk_says}
-use Rattle.desk.proofs.Desk.hand_back_refusal.Goals as goal
+use Rattle.desk.proofs.Sound.{here_says}
+use Rattle.desk.proofs.Desk.check_hand_back.Goals as goal
 
 pub returns-then-not_of_desk : goal.returns-then-not_of_desk
 unfolding hand_back_refusal first_failing
@@ -23,8 +23,7 @@ returns-then-power-eq0 c =
 
 pub holding_at-requires : goal.holding_at-requires
 holding_at-requires c =
-    let passed : not_of_desk c.args.self c.args.controller ≡ false = sym c.not_of_desk.ensures ∙ c.if-not_of_desk.false in
-    (of-desk_says _ _ passed).inside
+    (here_says c.not_of_desk.ensures c.if-not_of_desk.false).inside
 
 pub returns-then-holding_at-power : goal.returns-then-holding_at-power
 unfolding hand_back_refusal first_failing
