@@ -75,6 +75,11 @@ abbrev pub answered : Desk → Result Desk Refusal → Booked
 answered d (Ok e) = record { refusal = 0; desk = e }
 answered d (Err r) = record { refusal = number_of r; desk = d }
 
+-- the desk that is opened, or the refusal's number and the desk of zeros
+abbrev pub opened_by : Result Desk Refusal → Opened
+opened_by (Ok d) = record { refusal = 0; desk = d }
+opened_by (Err r) = record { refusal = number_of r; desk = no_desk }
+
 -- ---- lists of calls
 
 -- a claim and a hand-back by the controller of that number, for so many hundreds of watts; a look; a change to a new limit,
