@@ -43,8 +43,7 @@ fn write_rows(part: &mut [u8], slots: Slots, count: usize)
     requires { (count ≤ most_jobs) × (length part.old ≡ row_size * count) }
     ensures { part.new ≡ joined count (slot_row slots) }
 {
-    let mut j: usize = 0;
-    while j < count {
+    for j in 0..count {
         let at = ROW_SIZE * j;
         let to = at + ROW_SIZE;
         write_row(
@@ -53,7 +52,6 @@ fn write_rows(part: &mut [u8], slots: Slots, count: usize)
             slots.end[j],
             slots.modules[j],
         );
-        j += 1;
     }
 }
 
@@ -62,11 +60,7 @@ fn write_order(part: &mut [u8], order: &[u8; MOST_JOBS], count: usize)
     requires { (count ≤ most_jobs) × ((count ≤ length order.now) × (length part.old ≡ count)) }
     ensures { part.new ≡ take count order.now }
 {
-    let mut k: usize = 0;
-    while k < count {
-        part[k] = order[k];
-        k += 1;
-    }
+    part.copy_from_slice(&order[..count]);
 }
 
 // The trailer over the whole part.

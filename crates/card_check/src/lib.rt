@@ -125,12 +125,10 @@ fn pairs_fit(jobs: &Jobs, card: &[u8], j: usize) -> bool
         ≡ every (count_of jobs.now) (pair_fits (sheet_of jobs.now) card.now j) }
 {
     let count = tables::count(jobs);
-    let mut i: usize = 0;
-    while i < count {
+    for i in 0..count {
         if !pair_fits(jobs, card, j, i) {
             return false;
         }
-        i += 1;
     }
     true
 }
@@ -152,12 +150,10 @@ fn rows_fit(jobs: &Jobs, card: &[u8]) -> bool
     ensures { result ≡ every (count_of jobs.now) (row_fits (sheet_of jobs.now) card.now) }
 {
     let count = tables::count(jobs);
-    let mut j: usize = 0;
-    while j < count {
+    for j in 0..count {
         if !row_fits(jobs, card, j) {
             return false;
         }
-        j += 1;
     }
     true
 }
@@ -186,10 +182,8 @@ fn times_named(card: &[u8], n: usize, j: usize) -> usize
     ensures { result ≡ count n (λ k. eqb (get_or card.now (order_at n + k) 0) j) }
 {
     let mut times: usize = 0;
-    let mut k: usize = 0;
-    while k < n {
+    for k in 0..n {
         times += named(card, n, k, j);
-        k += 1;
     }
     times
 }
@@ -199,12 +193,10 @@ fn names_each(card: &[u8], n: usize) -> bool
     requires { (n ≤ most_jobs) × (length card.now ≡ card_size n) }
     ensures { result ≡ every n (λ j. eqb (count n (λ k. eqb (get_or card.now (order_at n + k) 0) j)) 1) }
 {
-    let mut j: usize = 0;
-    while j < n {
+    for j in 0..n {
         if times_named(card, n, j) != 1 {
             return false;
         }
-        j += 1;
     }
     true
 }
@@ -216,8 +208,7 @@ fn rises(jobs: &Jobs, card: &[u8]) -> bool
 {
     let n = tables::count(jobs);
     let mut last: u32 = 0;
-    let mut k: usize = 0;
-    while k < n {
+    for k in 0..n {
         let job = job_at(card, n, k);
         if n <= job {
             return false;
@@ -227,7 +218,6 @@ fn rises(jobs: &Jobs, card: &[u8]) -> bool
             return false;
         }
         last = begins;
-        k += 1;
     }
     true
 }
@@ -259,10 +249,8 @@ fn last_end(jobs: &Jobs, card: &[u8]) -> u32
 {
     let count = tables::count(jobs);
     let mut last: u32 = 0;
-    let mut j: usize = 0;
-    while j < count {
+    for j in 0..count {
         last = later(last, finish(jobs, card, j));
-        j += 1;
     }
     last
 }

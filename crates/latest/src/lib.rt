@@ -33,10 +33,8 @@ fn own_starts(jobs: &Jobs, departures: &[u16; MOST_JOBS]) -> Starts
 {
     let n = tables::count(jobs);
     let mut of = [0u16; MOST_JOBS];
-    let mut j: usize = 0;
-    while j < n {
+    for j in 0..n {
         of[j] = own_start(jobs, departures, j);
-        j += 1;
     }
     Starts { of }
 }
@@ -47,9 +45,10 @@ fn sooner(start: u16, counts: bool, end: u16, minutes: u16) -> u16
     ensures { result ≡ cond counts (min start (end - minutes)) start }
 {
     if counts {
-        return counting::smaller(start, end - minutes);
+        start.min(end - minutes)
+    } else {
+        start
     }
-    start
 }
 
 // The latest start of job j by its own departure, and by the starts of the jobs that wait for it.
@@ -60,11 +59,9 @@ fn start_by(jobs: &Jobs, departures: &[u16; MOST_JOBS], starts: &[u16; MOST_JOBS
     let n = tables::count(jobs);
     let minutes = tables::minutes(jobs, j);
     let mut start = own_start(jobs, departures, j);
-    let mut i: usize = 0;
-    while i < n {
+    for i in 0..n {
         let waits = bits::test32(tables::earlier(jobs, i), j);
         start = sooner(start, waits, starts[i], minutes);
-        i += 1;
     }
     start
 }
@@ -76,10 +73,8 @@ fn next_starts(jobs: &Jobs, departures: &[u16; MOST_JOBS], starts: &[u16; MOST_J
 {
     let n = tables::count(jobs);
     let mut of = [0u16; MOST_JOBS];
-    let mut j: usize = 0;
-    while j < n {
+    for j in 0..n {
         of[j] = start_by(jobs, departures, starts, j);
-        j += 1;
     }
     Starts { of }
 }
@@ -92,10 +87,8 @@ pub fn latest_starts(jobs: &Jobs, departures: &[u16; MOST_JOBS]) -> Starts
 {
     let n = tables::count(jobs);
     let mut starts = own_starts(jobs, departures);
-    let mut k: usize = 0;
-    while k < n {
+    for k in 0..n {
         starts = next_starts(jobs, departures, &starts.of);
-        k += 1;
     }
     starts
 }

@@ -17,10 +17,7 @@ fn with_earlier(set: u32, from: u32, a: usize, earlier: u32) -> u32
     requires { a < most_jobs }
     ensures { result ≡ cond (bit from a) (bit_or set earlier) set }
 {
-    if bits::test32(from, a) {
-        return set | earlier;
-    }
-    set
+    if bits::test32(from, a) { set | earlier } else { set }
 }
 
 // The earlier jobs of each job of the set.
@@ -29,11 +26,9 @@ fn reached(jobs: &Jobs, set: u32) -> u32
     ensures { Reached jobs.now set (count_of jobs.now) result }
 {
     let n = tables::count(jobs);
-    let mut all: u32 = 0;
-    let mut a: usize = 0;
-    while a < n {
+    let mut all = 0;
+    for a in 0..n {
         all = with_earlier(all, set, a, tables::earlier(jobs, a));
-        a += 1;
     }
     all
 }
@@ -53,10 +48,8 @@ fn followed_by(jobs: &Jobs, j: usize) -> u32
 {
     let n = tables::count(jobs);
     let mut set = tables::earlier(jobs, j);
-    let mut k: usize = 0;
-    while k < n {
+    for k in 0..n {
         set = further(jobs, j, set);
-        k += 1;
     }
     set
 }
@@ -74,10 +67,8 @@ fn all_followed(jobs: &Jobs) -> JobSets
 {
     let n = tables::count(jobs);
     let mut of = [0u32; MOST_JOBS];
-    let mut j: usize = 0;
-    while j < n {
+    for j in 0..n {
         of[j] = followed_by(jobs, j);
-        j += 1;
     }
     JobSets { of }
 }
@@ -87,11 +78,9 @@ fn later_than(before: &[u32; MOST_JOBS], i: usize, n: usize) -> u32
     requires { (i < most_jobs) × (n ≤ most_jobs) }
     ensures { LaterThan before.now i n result }
 {
-    let mut set: u32 = 0;
-    let mut j: usize = 0;
-    while j < n {
+    let mut set = 0;
+    for j in 0..n {
         set = pairs::joined(set, bits::test32(before[j], i), j);
-        j += 1;
     }
     set
 }
@@ -102,10 +91,8 @@ fn all_later(before: &[u32; MOST_JOBS], n: usize) -> JobSets
     ensures { LaterTo before.now n n result.of }
 {
     let mut of = [0u32; MOST_JOBS];
-    let mut i: usize = 0;
-    while i < n {
+    for i in 0..n {
         of[i] = later_than(before, i, n);
-        i += 1;
     }
     JobSets { of }
 }
@@ -147,10 +134,8 @@ pub fn implied_marks(jobs: &Jobs) -> JobSets
 {
     let n = tables::count(jobs);
     let mut of = [0u32; MOST_JOBS];
-    let mut j: usize = 0;
-    while j < n {
+    for j in 0..n {
         of[j] = implied_of(jobs, j);
-        j += 1;
     }
     JobSets { of }
 }

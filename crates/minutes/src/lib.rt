@@ -66,15 +66,13 @@ fn book_all(desk: Desk, jobs: &Jobs, card: &[u8], turn: Turn, claiming: bool) ->
 {
     let count = tables::count(jobs);
     let mut at = desk;
-    let mut j: usize = 0;
-    while j < count {
+    for j in 0..count {
         let booked = book_if_due(at, jobs, card, turn, j, claiming);
         let refusal = booked.refusal;
         if refusal != 0 {
             return Booked { refusal, desk };
         }
         at = booked.desk;
-        j += 1;
     }
     Booked {
         refusal: 0,
@@ -111,10 +109,8 @@ pub fn last_minute(jobs: &Jobs, card: &[u8]) -> u32
 {
     let count = tables::count(jobs);
     let mut last: u32 = 0;
-    let mut j: usize = 0;
-    while j < count {
+    for j in 0..count {
         last = card_check::later(last, due_minute(jobs, card, j, false) + 1);
-        j += 1;
     }
     last
 }

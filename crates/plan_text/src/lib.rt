@@ -48,11 +48,9 @@ fn with_rows(text: Text, sheet: &[u8], card: &[u8], found: Reading) -> Text
 {
     let jobs = found.count;
     let mut next = text;
-    let mut j: usize = 0;
-    while j < jobs {
+    for j in 0..jobs {
         let job = found.jobs[j];
         next = with_row(next, sheet, card, found, j, job.departure);
-        j += 1;
     }
     next
 }

@@ -35,11 +35,9 @@ fn busy_at(slots: Slots, count: usize, rest: u16, t: u16) -> u64
     requires { (count ≤ most_jobs) × (Ending slots count rest) }
     ensures { result ≡ busy_at slots count rest t }
 {
-    let mut set: u64 = 0;
-    let mut i: usize = 0;
-    while i < count {
+    let mut set = 0;
+    for i in 0..count {
         set = free_modules::with_busy(set, slots.modules[i], slots.end[i] + rest, t);
-        i += 1;
     }
     set
 }
@@ -70,13 +68,11 @@ pub fn replay(jobs: &Jobs, order: &[u8; MOST_JOBS]) -> Slots
         modules: [0u64; MOST_JOBS],
     };
     let mut part = placement::first_part(jobs);
-    let mut k: usize = 0;
-    while k < count {
-        let j = counting::index(order[k]);
+    for k in 0..count {
+        let j = usize::from(order[k]);
         let start = placement::start_of(jobs, &part, j);
         slots = with_job(slots, jobs, j, start);
         placement::place(&mut part, jobs, j, start);
-        k += 1;
     }
     slots
 }

@@ -217,12 +217,10 @@ fn zeros_behind(places: &[u8], used: usize) -> bool
     if places.len() < used {
         return false;
     }
-    let mut i: usize = 0;
-    while i < places.len() {
+    for i in 0..places.len() {
         if !used_or_zero(places, used, i) {
             return false;
         }
-        i += 1;
     }
     true
 }

@@ -76,11 +76,9 @@ fn departures_of(sheet: &[u8]) -> Minutes
 {
     let found = sheet::read(sheet);
     let mut of = [0u16; MOST_JOBS];
-    let mut j: usize = 0;
-    while j < found.count {
+    for j in 0..found.count {
         let job = found.jobs[j];
         of[j] = job.departure;
-        j += 1;
     }
     Minutes { of }
 }
@@ -122,11 +120,9 @@ fn entries(
 {
     let mut answer = no_slacks(0);
     answer.count = count;
-    let mut j: usize = 0;
-    while j < count {
+    for j in 0..count {
         let one = entry(latest[j], starts[j], implied[j]);
         answer.jobs[j] = one;
-        j += 1;
     }
     answer
 }

@@ -42,10 +42,8 @@ pub fn with_field(text: Text, field: &[u8], after: u8) -> Text
     ensures { result ≡ adding text (field.now ++ (after ∷ [])) }
 {
     let mut next = text;
-    let mut i: usize = 0;
-    while i < field.len() {
+    for i in 0..field.len() {
         next = with_byte(next, field[i]);
-        i += 1;
     }
     with_byte(next, after)
 }
@@ -107,10 +105,8 @@ pub fn with_hexadecimal(text: Text, x: u64, after: u8) -> Text
     ensures { result ≡ adding text (hexadecimal x ++ (after ∷ [])) }
 {
     let mut next = text;
-    let mut i: usize = 0;
-    while i < 16 {
+    for i in 0..16 {
         next = with_byte(next, digit((x >> (4 * (15 - i))) % 16));
-        i += 1;
     }
     with_byte(next, after)
 }

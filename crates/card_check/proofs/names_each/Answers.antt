@@ -11,7 +11,7 @@ use Rattle.card_check.proofs.names_each.Goals as goal
 
 pub loop-j-init : goal.loop-j-init
 unfolding every
-loop-j-init c = (omega arith, refl)
+loop-j-init c = refl
 
 pub returns-then-times_named-ne1 : goal.returns-then-times_named-ne1
 returns-then-times_named-ne1 c =
@@ -20,13 +20,10 @@ returns-then-times_named-ne1 c =
 
 pub loop-j-preserved : goal.loop-j-preserved
 loop-j-preserved c =
-    let a = c.args in (
-      omega arith,
-      every_more (once a.card.now a.n) c.loop-j.j c.loop-j.invariant.1 (eq-eqb _ 1 (sym c.times_named.ensures ∙ c.if-times_named-ne1.false)),
-    )
+    let a = c.args in every_more (once a.card.now a.n) c.loop-j.j c.loop-j.invariant (eq-eqb _ 1 (sym c.times_named.ensures ∙ c.if-times_named-ne1.false))
 
 pub returns : goal.returns
 returns c =
     let a = c.args in
     let e : c.loop-j.j ≡ a.n = omega arith in
-    sym (subst (λ (n : ℕ). every n (once a.card.now a.n) ≡ true) e c.loop-j.invariant.1)
+    sym (subst (λ (n : ℕ). every n (once a.card.now a.n) ≡ true) e c.loop-j.invariant)

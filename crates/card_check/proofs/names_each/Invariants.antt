@@ -14,7 +14,4 @@ abbrev pub once : List ℕ → ℕ → ℕ → Bool
 once card n j = eqb (count n (λ k. eqb (get_or card (order_at n + k) 0) j)) 1
 
 abbrev pub invariant-loop-j : goal.invariant-loop-j
-invariant-loop-j l = (l.j ≤ l.n) × (every l.j (once l.card l.n) ≡ true)
-
-abbrev pub decreases-loop-j : goal.decreases-loop-j
-decreases-loop-j l = l.n - l.j
+invariant-loop-j l = every l.j (once l.card l.n) ≡ true

@@ -9,7 +9,7 @@ use Rattle.card_check.proofs.pairs_fit.Goals as goal
 
 pub loop-i-init : goal.loop-i-init
 unfolding every
-loop-i-init c = (omega arith, refl)
+loop-i-init c = refl
 
 pub pair_fits-requires : goal.pair_fits-requires
 pair_fits-requires c =
@@ -24,13 +24,10 @@ returns-then-not-pair_fits c =
 
 pub loop-i-preserved : goal.loop-i-preserved
 loop-i-preserved c =
-    let a = c.args in (
-      omega arith,
-      every_more (pair_fits (sheet_of a.jobs.now) a.card.now a.j) c.loop-i.i c.loop-i.invariant.1
-          (sym c.pair_fits.ensures ∙ c.if-not-pair_fits.false),
-    )
+    let a = c.args in every_more (pair_fits (sheet_of a.jobs.now) a.card.now a.j) c.loop-i.i c.loop-i.invariant
+          (sym c.pair_fits.ensures ∙ c.if-not-pair_fits.false)
 
 pub returns : goal.returns
 returns c =
     let e : c.loop-i.i ≡ count_of c.args.jobs.now = omega arith in
-    sym (rw (← e) c.loop-i.invariant.1)
+    sym (rw (← e) c.loop-i.invariant)

@@ -8,7 +8,4 @@ use Rattle.card_check.specs.Test.{pair_fits}
 use Rattle.card_check.proofs.pairs_fit.Given as goal
 
 abbrev pub invariant-loop-i : goal.invariant-loop-i
-invariant-loop-i l = (l.i ≤ count_of l.jobs) × (every l.i (pair_fits (sheet_of l.jobs) l.card l.j) ≡ true)
-
-abbrev pub decreases-loop-i : goal.decreases-loop-i
-decreases-loop-i l = l.count - l.i
+invariant-loop-i l = every l.i (pair_fits (sheet_of l.jobs) l.card l.j) ≡ true

@@ -11,7 +11,7 @@ use Rattle.card_check.proofs.rows_fit.Goals as goal
 
 pub loop-j-init : goal.loop-j-init
 unfolding every
-loop-j-init c = (omega arith, refl)
+loop-j-init c = refl
 
 pub returns-then-not-row_fits : goal.returns-then-not-row_fits
 returns-then-not-row_fits c =
@@ -21,14 +21,11 @@ returns-then-not-row_fits c =
 
 pub loop-j-preserved : goal.loop-j-preserved
 loop-j-preserved c =
-    let a = c.args in (
-      omega arith,
-      every_more (row_fits (sheet_of a.jobs.now) a.card.now) c.loop-j.j c.loop-j.invariant.1
-          (sym c.row_fits.ensures ∙ c.if-not-row_fits.false),
-    )
+    let a = c.args in every_more (row_fits (sheet_of a.jobs.now) a.card.now) c.loop-j.j c.loop-j.invariant
+          (sym c.row_fits.ensures ∙ c.if-not-row_fits.false)
 
 pub returns : goal.returns
 returns c =
     let a = c.args in
     let e : c.loop-j.j ≡ count_of a.jobs.now = omega arith in
-    sym (subst (λ (n : ℕ). every n (row_fits (sheet_of a.jobs.now) a.card.now) ≡ true) e c.loop-j.invariant.1)
+    sym (subst (λ (n : ℕ). every n (row_fits (sheet_of a.jobs.now) a.card.now) ≡ true) e c.loop-j.invariant)

@@ -8,7 +8,4 @@ use Rattle.card_check.specs.Test.{row_fits}
 use Rattle.card_check.proofs.rows_fit.Given as goal
 
 abbrev pub invariant-loop-j : goal.invariant-loop-j
-invariant-loop-j l = (l.j ≤ count_of l.jobs) × (every l.j (row_fits (sheet_of l.jobs) l.card) ≡ true)
-
-abbrev pub decreases-loop-j : goal.decreases-loop-j
-decreases-loop-j l = l.count - l.j
+invariant-loop-j l = every l.j (row_fits (sheet_of l.jobs) l.card) ≡ true

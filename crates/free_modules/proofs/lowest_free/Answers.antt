@@ -14,23 +14,19 @@ use Rattle.free_modules.proofs.lowest_free.Goals as goal
 
 pub loop-m-init : goal.loop-m-init
 unfolding set_of sum
-loop-m-init c = (search rules, refl)
+loop-m-init c = refl
 
 pub loop-m-preserved : goal.loop-m-preserved
 loop-m-preserved c =
     let loop = c.loop-m in
-    let loop-test = c.loop-m-test in
     let a = c.args in
-    let m = loop.m in (
-      search rules,
-      c.take_module-set.ensures
-          ∙ ap (λ (x : ℕ). cond (outside a.busy m && ltb (ones x) a.want) (with_bit x m) x) loop.invariant.1
-          ∙ lowest_more a.modules (outside a.busy) a.want m loop-test.true,
-    )
+    let m = loop.m in c.take_module-set.ensures
+          ∙ ap (λ (x : ℕ). cond (outside a.busy m && ltb (ones x) a.want) (with_bit x m) x) loop.invariant
+          ∙ lowest_more a.modules (outside a.busy) a.want m (omega arith)
 
 pub returns : goal.returns
 returns c =
     let loop = c.loop-m in
     let args = c.args in
-    let e : loop.m ≡ args.modules = omega (arith, loop.invariant.0, c.loop-m-test.false) in
-    rw e at loop.invariant.1
+    let e : loop.m ≡ args.modules = omega arith in
+    rw e at loop.invariant

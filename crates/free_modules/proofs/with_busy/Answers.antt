@@ -12,8 +12,8 @@ returns-then-t-until c =
     let e : ltb a.t a.until ≡ true = lt-ltb a.t a.until c.if-t-until.true in
     rw e
 
-pub returns : goal.returns
-returns c =
+pub returns-else-t-until : goal.returns-else-t-until
+returns-else-t-until c =
     let a = c.args in
     let e : ltb a.t a.until ≡ false = le-ltb a.t a.until c.if-t-until.false in
     rw e (sym (or_zero_r a.set))

@@ -12,7 +12,4 @@ abbrev pub Has : List ℕ → List ℕ → List ℕ → ℕ → ℕ → Type 0
 Has t departures starts j x = x ≡ start_by t departures starts (count_of t) j
 
 abbrev pub invariant-loop-j : goal.invariant-loop-j
-invariant-loop-j l = (l.j ≤ l.n) × (l.n ≡ count_of l.jobs) × Filled (Has l.jobs l.departures l.starts) l.j l.of
-
-abbrev pub decreases-loop-j : goal.decreases-loop-j
-decreases-loop-j l = l.n - l.j
+invariant-loop-j l = (l.n ≡ count_of l.jobs) × Filled (Has l.jobs l.departures l.starts) l.j l.of

@@ -9,25 +9,25 @@ use Rattle.latest.proofs.own_starts.Goals as goal
 pub loop-j-init : goal.loop-j-init
 loop-j-init c =
     let a = c.args in
-    (omega arith, c.count-n.ensures, filled_none (Has a.jobs.now a.departures.now) _ refl)
+    (c.count-n.ensures, filled_none (Has a.jobs.now a.departures.now) _ refl)
 
 pub own_start-requires : goal.own_start-requires
 own_start-requires c =
     let pre = c.requires in
-    (pre.0, pre.1, omega (arith, c.loop-j.invariant.1, c.loop-j-test.true))
+    (pre.0, pre.1, omega (arith, c.loop-j.invariant.0, c.loop-j-test.true))
 
 pub bounds-of-j : goal.bounds-of-j
 bounds-of-j c =
-    omega (arith, c.requires.0.few, c.loop-j.invariant.1, c.loop-j-test.true)
+    omega (arith, c.requires.0.few, c.loop-j.invariant.0, c.loop-j-test.true)
 
 pub loop-j-preserved : goal.loop-j-preserved
 loop-j-preserved c =
     let loop = c.loop-j in
     let few = c.requires.0.few in
-    (omega arith, loop.invariant.1, filled_more c.own_start.result loop.invariant.2 (omega (arith, few, loop.invariant.1)) c.own_start.ensures)
+    (loop.invariant.0, filled_more c.own_start.result loop.invariant.1 (omega (arith, few, loop.invariant.0)) c.own_start.ensures)
 
 pub returns : goal.returns
 returns c =
     let loop = c.loop-j in
-    let e : loop.j ≡ count_of c.args.jobs.now = omega (arith, loop.invariant.0, loop.invariant.1, c.loop-j-test.false) in
-    (rw e at loop.invariant.2).each
+    let e : loop.j ≡ count_of c.args.jobs.now = omega (arith, loop.invariant.0, c.loop-j-test.false) in
+    (rw e at loop.invariant.1).each

@@ -12,7 +12,4 @@ abbrev pub Has : List ℕ → List ℕ → ℕ → ℕ → Type 0
 Has t departures j x = x ≡ own_start t departures j
 
 abbrev pub invariant-loop-j : goal.invariant-loop-j
-invariant-loop-j l = (l.j ≤ l.n) × (l.n ≡ count_of l.jobs) × Filled (Has l.jobs l.departures) l.j l.of
-
-abbrev pub decreases-loop-j : goal.decreases-loop-j
-decreases-loop-j l = l.n - l.j
+invariant-loop-j l = (l.n ≡ count_of l.jobs) × Filled (Has l.jobs l.departures) l.j l.of

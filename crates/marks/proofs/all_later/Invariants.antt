@@ -10,7 +10,4 @@ abbrev pub Later : List ℕ → ℕ → ℕ → ℕ → Type 0
 Later before n i = LaterThan before i n
 
 abbrev pub invariant-loop-i : goal.invariant-loop-i
-invariant-loop-i l = (l.i ≤ l.n) × Filled (Later l.before l.n) l.i l.of
-
-abbrev pub decreases-loop-i : goal.decreases-loop-i
-decreases-loop-i l = l.n - l.i
+invariant-loop-i l = Filled (Later l.before l.n) l.i l.of

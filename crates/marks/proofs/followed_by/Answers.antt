@@ -8,7 +8,7 @@ use Rattle.marks.proofs.followed_by.Goals as goal
 pub loop-k-init : goal.loop-k-init
 loop-k-init c =
     let a = c.args in
-    (omega arith, rw c.earlier-set.ensures (within_none a.jobs.now a.j))
+    rw c.earlier-set.ensures (within_none a.jobs.now a.j)
 
 pub further-set-requires : goal.further-set-requires
 further-set-requires c = c.requires
@@ -17,10 +17,10 @@ pub loop-k-preserved : goal.loop-k-preserved
 loop-k-preserved c =
     let loop = c.loop-k in
     let a = c.args in
-    (omega arith, within_more a.jobs.now a.j loop.k loop.set c.further-set.result loop.invariant.1 c.further-set.ensures)
+    within_more a.jobs.now a.j loop.k loop.set c.further-set.result loop.invariant c.further-set.ensures
 
 pub returns : goal.returns
 returns c =
     let loop = c.loop-k in
-    let e : loop.k ≡ count_of c.args.jobs.now = omega (arith, loop.invariant.0, c.loop-k-test.false, c.count-n.ensures) in
-    rw e at loop.invariant.1
+    let e : loop.k ≡ count_of c.args.jobs.now = omega (arith, c.loop-k-test.false, c.count-n.ensures) in
+    rw e at loop.invariant

@@ -7,13 +7,13 @@ use Rattle.marks.proofs.implied_marks.Invariants.{Implied}
 use Rattle.marks.proofs.implied_marks.Goals as goal
 
 pub loop-j-init : goal.loop-j-init
-loop-j-init c = (omega arith, filled_none (Implied c.args.jobs.now) _ refl)
+loop-j-init c = filled_none (Implied c.args.jobs.now) _ refl
 
 pub loop-j-preserved : goal.loop-j-preserved
-loop-j-preserved c = (omega arith, filled_more c.implied_of.result c.loop-j.invariant.1 (omega arith) c.implied_of.ensures)
+loop-j-preserved c = filled_more c.implied_of.result c.loop-j.invariant (omega arith) c.implied_of.ensures
 
 pub returns : goal.returns
 returns c =
     let loop = c.loop-j in
-    let e : loop.j ≡ count_of c.args.jobs.now = omega (arith, loop.invariant.0, c.loop-j-test.false, c.count-n.ensures) in
-    (rw e at loop.invariant.1).each
+    let e : loop.j ≡ count_of c.args.jobs.now = omega (arith, c.loop-j-test.false, c.count-n.ensures) in
+    (rw e at loop.invariant).each

@@ -12,7 +12,4 @@ abbrev pub Implied : List ℕ → ℕ → ℕ → Type 0
 Implied t j x = x ≡ implied_marks (sheet_of t) j
 
 abbrev pub invariant-loop-j : goal.invariant-loop-j
-invariant-loop-j l = (l.j ≤ l.n) × Filled (Implied l.jobs) l.j l.of
-
-abbrev pub decreases-loop-j : goal.decreases-loop-j
-decreases-loop-j l = l.n - l.j
+invariant-loop-j l = Filled (Implied l.jobs) l.j l.of

@@ -13,7 +13,7 @@ use Rattle.replay.proofs.busy_at.Goals as goal
 
 pub loop-i-init : goal.loop-i-init
 unfolding union
-loop-i-init c = (search rules, refl)
+loop-i-init c = refl
 
 pub overflow_add-slots : goal.overflow_add-slots
 overflow_add-slots c =
@@ -26,11 +26,11 @@ loop-i-preserved c =
     let a = c.args in
     let i = loop.i in
     let f : ℕ → ℕ = λ i. only (ltb a.t (get_or a.slots.end i 0 + a.rest)) (get_or a.slots.modules i 0) in
-    (search rules, c.with_busy-set.ensures ∙ ap (λ (x : ℕ). bit_or x (f i)) loop.invariant.1 ∙ union_more i f)
+    c.with_busy-set.ensures ∙ ap (λ (x : ℕ). bit_or x (f i)) loop.invariant ∙ union_more i f
 
 pub returns : goal.returns
 returns c =
     let loop = c.loop-i in
     let args = c.args in
-    let e : loop.i ≡ args.count = omega (arith, loop.invariant.0, c.loop-i-test.false) in
-    rw e at loop.invariant.1
+    let e : loop.i ≡ args.count = omega (arith, c.loop-i-test.false) in
+    rw e at loop.invariant

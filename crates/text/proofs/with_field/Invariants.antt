@@ -6,7 +6,4 @@ use Rattle.text.specs.Texts.{adding}
 use Rattle.text.proofs.with_field.Given as goal
 
 abbrev pub invariant-loop-i : goal.invariant-loop-i
-invariant-loop-i l = (l.i ≤ length l.field) × (l.next ≡ adding l.initial.next (take l.i l.field))
-
-abbrev pub decreases-loop-i : goal.decreases-loop-i
-decreases-loop-i l = length l.field - l.i
+invariant-loop-i l = l.next ≡ adding l.initial.next (take l.i l.field)
