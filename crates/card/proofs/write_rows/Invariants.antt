@@ -1,7 +1,7 @@
 -- `card::write_rows` meets its contract.
 use mathlib.Core.Path.{◌≡◌}
 use mathlib.Core.List.{◌++◌}
-use Prim.Native.Nat.{◌-◌, ◌*◌, ◌≤◌}
+use Prim.Native.Nat.{◌*◌}
 use lib.ListN.{length, drop}
 use Rattle.counting.specs.Counting.{joined}
 use Rattle.card.specs.Card.{row_size}

@@ -17,7 +17,7 @@ finish-requires c =
 
 pub loop-j-preserved : goal.loop-j-preserved
 unfolding largest
-loop-j-preserved c = rw (add-one) (c.later-last.ensures ∙ rw (c.loop-j.invariant, c.finish.ensures.0) refl)
+loop-j-preserved c = rw (add-one) (c.max-last.ensures ∙ rw (c.loop-j.invariant, c.finish.ensures.0) refl)
 
 pub returns : goal.returns
 returns c =

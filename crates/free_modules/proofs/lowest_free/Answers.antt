@@ -1,5 +1,5 @@
 -- `free_modules::lowest_free` meets its contract.
-use mathlib.Core.Path.{◌≡◌, refl, ap, ◌∙◌}
+use mathlib.Core.Path.{refl, ap, ◌∙◌}
 use mathlib.Core.Bool.{cond, ◌&&◌}
 use Prim.Native.Nat.{ℕ}
 use native.Mathlib.Omega.{arith}
@@ -9,7 +9,6 @@ use Rattle.counting.specs.Counting.{sum}
 use Rattle.bits.specs.Bits.{with_bit, set_of}
 use Rattle.free_modules.specs.Lowest.{outside}
 use Rattle.free_modules.proofs.Laws.{lowest_more}
-use borrow.Author.Rules.{rules}
 use Rattle.free_modules.proofs.lowest_free.Goals as goal
 
 pub loop-m-init : goal.loop-m-init
@@ -21,12 +20,5 @@ loop-m-preserved c =
     let loop = c.loop-m in
     let a = c.args in
     let m = loop.m in c.take_module-set.ensures
-          ∙ ap (λ (x : ℕ). cond (outside a.busy m && ltb (ones x) a.want) (with_bit x m) x) loop.invariant
-          ∙ lowest_more a.modules (outside a.busy) a.want m (omega arith)
-
-pub returns : goal.returns
-returns c =
-    let loop = c.loop-m in
-    let args = c.args in
-    let e : loop.m ≡ args.modules = omega arith in
-    rw e at loop.invariant
+    ∙ ap (λ (x : ℕ). cond (outside a.busy m && ltb (ones x) a.want) (with_bit x m) x) loop.invariant
+    ∙ lowest_more a.modules (outside a.busy) a.want m (omega arith)

@@ -1,6 +1,5 @@
 -- `free_modules::lowest_free` meets its contract.
 use mathlib.Core.Path.{◌≡◌}
-use Prim.Native.Nat.{◌≤◌, ◌-◌}
 use Rattle.bits.specs.Bits.{set_of}
 use Rattle.schedule.specs.ListPlan.{lowest}
 use Rattle.free_modules.specs.Lowest.{outside}

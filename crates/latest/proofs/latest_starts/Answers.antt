@@ -7,13 +7,12 @@ use Rattle.tables.specs.Tables.{count_of}
 use Rattle.latest.proofs.Rounds.{after_none, after_ample, after_more, after_all}
 use Rattle.latest.proofs.latest_starts.Goals as goal
 
-pub own_starts-starts-requires : goal.own_starts-starts-requires
-own_starts-starts-requires c = c.requires
-
 pub loop-k-init : goal.loop-k-init
 loop-k-init c =
-    let a = c.args in (c.count-n.ensures,
-      λ fit. after_none a.jobs.now a.departures.now fit c.own_starts-starts.result.of c.own_starts-starts.ensures)
+    let a = c.args in (
+      c.count-n.ensures,
+      λ fit. after_none a.jobs.now a.departures.now fit c.own_starts-starts.result.of c.own_starts-starts.ensures,
+    )
 
 pub next_starts-starts-requires : goal.next_starts-starts-requires
 next_starts-starts-requires c =
@@ -27,9 +26,11 @@ pub loop-k-preserved : goal.loop-k-preserved
 loop-k-preserved c =
     let loop = c.loop-k in
     let a = c.args in
-    let low : loop.k < most_jobs = omega (arith, loop.invariant.0, c.loop-k-test.true, c.requires.0.few) in (loop.invariant.0,
+    let low : loop.k < most_jobs = omega (arith, loop.invariant.0, c.loop-k-test.true, c.requires.0.few) in (
+      loop.invariant.0,
       λ fit. after_more a.jobs.now a.departures.now fit loop.k loop.starts.of c.next_starts-starts.result.of low (loop.invariant.1 fit)
-          c.next_starts-starts.ensures)
+          c.next_starts-starts.ensures,
+    )
 
 pub returns : goal.returns
 returns c =

@@ -1,6 +1,5 @@
 -- `latest::latest_starts` meets its contract.
 use mathlib.Core.Path.{◌≡◌}
-use Prim.Native.Nat.{◌-◌, ◌≤◌}
 use Rattle.tables.specs.Tables.{count_of, Fit}
 use Rattle.latest.proofs.Rounds.{After}
 use Rattle.latest.proofs.latest_starts.Given as goal

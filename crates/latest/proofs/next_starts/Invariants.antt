@@ -1,7 +1,7 @@
 -- `latest::next_starts` meets its contract.
 use mathlib.Core.Path.{◌≡◌}
 use mathlib.Core.List.{List}
-use Prim.Native.Nat.{ℕ, ◌-◌, ◌≤◌}
+use Prim.Native.Nat.{ℕ}
 use Rattle.tables.specs.Tables.{count_of}
 use Rattle.marks.proofs.Steps.{Filled}
 use Rattle.latest.specs.Counted.{start_by}

@@ -1,6 +1,5 @@
 -- `latest::start_by` meets its contract.
 use mathlib.Core.Path.{◌≡◌}
-use Prim.Native.Nat.{◌-◌, ◌≤◌}
 use Rattle.tables.specs.Tables.{minutes_at, count_of}
 use Rattle.latest.specs.Counted.{start_by}
 use Rattle.latest.proofs.start_by.Given as goal

@@ -1,5 +1,4 @@
 -- `marks::all_followed` meets its contract.
-use Prim.Native.Nat.{◌-◌, ◌≤◌}
 use Rattle.marks.specs.Marks.{FollowedBy}
 use Rattle.marks.proofs.Steps.{Filled}
 use Rattle.marks.proofs.all_followed.Given as goal

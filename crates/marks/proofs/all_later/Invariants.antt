@@ -1,5 +1,5 @@
 -- `marks::all_later` meets its contract.
-use Prim.Native.Nat.{ℕ, ◌-◌, ◌≤◌}
+use Prim.Native.Nat.{ℕ}
 use mathlib.Core.List.{List}
 use Rattle.marks.specs.Marks.{LaterThan}
 use Rattle.marks.proofs.Steps.{Filled}

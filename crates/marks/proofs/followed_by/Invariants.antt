@@ -1,5 +1,4 @@
 -- `marks::followed_by` meets its contract.
-use Prim.Native.Nat.{◌-◌, ◌≤◌}
 use Rattle.marks.proofs.Steps.{Within}
 use Rattle.marks.proofs.followed_by.Given as goal
 

@@ -1,7 +1,7 @@
 -- `marks::implied_marks` meets its contract.
 use mathlib.Core.Path.{◌≡◌}
 use mathlib.Core.List.{List}
-use Prim.Native.Nat.{ℕ, ◌-◌, ◌≤◌}
+use Prim.Native.Nat.{ℕ}
 use Rattle.tables.specs.Tables.{sheet_of}
 use Rattle.marks.specs.Implied.{implied_marks}
 use Rattle.marks.proofs.Steps.{Filled}

@@ -1,8 +1,7 @@
 -- `marks::later_than` meets its contract.
-use mathlib.Core.Path.{◌≡◌, ap, ◌∙◌}
+use mathlib.Core.Path.{ap, ◌∙◌}
 use mathlib.Core.Bool.{Bool, cond}
 use Prim.Native.Nat.{ℕ}
-use native.Mathlib.Omega.{arith}
 use lib.ListN.{get_or}
 use Rattle.bits.specs.Bits.{bit, with_bit}
 use Rattle.bits.proofs.Sets.{set_of-none, set_of_more}
@@ -16,10 +15,4 @@ loop-j-preserved c =
     let loop = c.loop-j in
     let a = c.args in
     let in_set : ℕ → Bool = λ j. bit (get_or a.before.now j 0) a.i in rw (c.joined-set.ensures, c.test32.ensures) (ap (λ (x : ℕ). cond (in_set loop.j) (with_bit x loop.j) x) loop.invariant
-          ∙ set_of_more loop.j in_set)
-
-pub returns : goal.returns
-returns c =
-    let loop = c.loop-j in
-    let e : loop.j ≡ c.args.n = omega (arith, c.loop-j-test.false) in
-    rw e at loop.invariant
+    ∙ set_of_more loop.j in_set)

@@ -1,5 +1,4 @@
 -- `marks::later_than` meets its contract.
-use Prim.Native.Nat.{◌-◌, ◌≤◌}
 use Rattle.marks.specs.Marks.{LaterThan}
 use Rattle.marks.proofs.later_than.Given as goal
 

@@ -1,7 +1,4 @@
 -- `marks::reached` meets its contract.
-use mathlib.Core.Path.{◌≡◌}
-use native.Mathlib.Omega.{arith}
-use Rattle.tables.specs.Tables.{count_of}
 use Rattle.marks.proofs.Steps.{reached-none, reached_more}
 use Rattle.marks.proofs.reached.Goals as goal
 
@@ -15,9 +12,3 @@ loop-a-preserved c =
     let loop = c.loop-a in
     let a = c.args in
     rw (c.with_earlier-all.ensures, c.earlier.ensures) (reached_more a.jobs.now a.set loop.a loop.all loop.invariant)
-
-pub returns : goal.returns
-returns c =
-    let loop = c.loop-a in
-    let e : loop.a ≡ count_of c.args.jobs.now = omega (arith, c.loop-a-test.false, c.count-n.ensures) in
-    rw e at loop.invariant

@@ -1,5 +1,4 @@
 -- `marks::reached` meets its contract.
-use Prim.Native.Nat.{◌-◌, ◌≤◌}
 use Rattle.marks.specs.Marks.{Reached}
 use Rattle.marks.proofs.reached.Given as goal
 

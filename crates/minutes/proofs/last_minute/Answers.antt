@@ -21,7 +21,7 @@ overflow_add-due_minute c = record { fits = omega (arith, c.due_minute.ensures.1
 
 pub loop-j-preserved : goal.loop-j-preserved
 unfolding largest
-loop-j-preserved c = rw (add-one) (c.later-last.ensures ∙ rw (c.loop-j.invariant, c.due_minute.ensures.0, add-one) refl)
+loop-j-preserved c = rw (add-one) (c.max-last.ensures ∙ rw (c.loop-j.invariant, c.due_minute.ensures.0, add-one) refl)
 
 pub returns : goal.returns
 unfolding last_minute

@@ -1,10 +1,9 @@
 -- `opening::some_pair_wrong` meets its contract: no pair that was passed is wrong.
 use mathlib.Core.Path.{◌≡◌, refl, sym, ◌∙◌}
 use mathlib.Core.Bool.{true, false}
-use native.Mathlib.Omega.{arith}
 use lib.ListN.{length}
 use Rattle.std.proofs.lemmas.List.{length_push}
-use Rattle.std.proofs.lemmas.Slice.Zip.{zip_turn, zip_end}
+use Rattle.std.proofs.lemmas.Slice.Zip.{zip_turn}
 use Rattle.counting.specs.Counting.{any}
 use Rattle.counting.proofs.Loops.{any_more, any_at}
 use Rattle.opening.proofs.some_pair_wrong.Invariants.{wrong}
@@ -30,11 +29,3 @@ loop-share-preserved c =
     rw (← t.2 0, ← t.3 0) (sym c.wrong_pair.ensures ∙ c.if-wrong_pair.false) in
     rw (length_push c.loop-share.yielded (c.in-Some.share, c.in-Some.ceiling))
     (any_more (wrong a.limit a.assured.now a.ceilings.now) (length c.loop-share.yielded) c.loop-share.invariant e)
-
-pub returns : goal.returns
-returns c =
-    let a = c.args in
-    let n = zip_end a.assured.now a.ceilings.now c.loop-share.yielded c.into_iter-share-iterator.result c.loop-share.share-iterator c.next.new.self _ (cc) (cc) c.loop-share.yielded_by c.in-None.is c.next.ensures.steps in
-    let same = c.requires in
-    let e : length c.loop-share.yielded ≡ length a.assured.now = omega (arith, n) in
-    sym (rw (← e) c.loop-share.invariant)

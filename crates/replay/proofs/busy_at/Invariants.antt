@@ -1,6 +1,5 @@
 -- `replay::busy_at` meets its contract.
 use mathlib.Core.Path.{◌≡◌}
-use Prim.Native.Nat.{◌≤◌, ◌-◌}
 use Rattle.replay.specs.Slots.{busy_at}
 use Rattle.replay.proofs.busy_at.Given as goal
 

@@ -9,11 +9,7 @@ use Rattle.placement.proofs.Parts.{first_is}
 use Rattle.replay.proofs.PlacedSlots.{no_slots, SlotsOf, no_slots_lem}
 use Rattle.replay.proofs.Replays.{Turn, next-job, next_low, next_short, next_placeable, next_part, next_slots, ends_fit}
 use Rattle.replay.proofs.Replays.{all_replayed}
-use borrow.Author.Rules.{rules}
 use Rattle.replay.proofs.replay.Goals as goal
-
-pub first_part-part-requires : goal.first_part-part-requires
-first_part-part-requires c = c.requires.0
 
 pub loop-k-init : goal.loop-k-init
 unfolding no_slots

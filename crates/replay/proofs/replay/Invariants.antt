@@ -1,6 +1,5 @@
 -- `replay::replay` meets its contract.
 use mathlib.Core.Path.{◌≡◌}
-use Prim.Native.Nat.{◌-◌, ◌≤◌}
 use lib.ListN.{take}
 use Rattle.schedule.specs.ListPlan.{part_of}
 use Rattle.tables.specs.Tables.{sheet_of, count_of}

@@ -37,27 +37,6 @@ returns-then-below_ceiling-power c =
     let over : ceiling_of a.self a.controller < holding a.self a.controller + a.power = omega arith in
     rw (passed, ne_eqb _ _ c.if-power-eq0.false, lt-ltb _ _ over) refl
 
-pub holding_at-requires : goal.holding_at-requires
-holding_at-requires c =
-    let at : Here c.args.self c.args.controller = here_says c.not_of_desk.ensures c.if-not_of_desk.false in
-    at.inside
-
-pub overflow_add-holding_at : goal.overflow_add-holding_at
-overflow_add-holding_at c =
-    let at : Here c.args.self c.args.controller = here_says c.not_of_desk.ensures c.if-not_of_desk.false in
-    let under : let a = c.args in
-    holding a.self a.controller + a.power ≤ ceiling_of a.self a.controller =
-    let b = c.below_ceiling.ensures in
-    let t = c.if-below_ceiling-power.false in
-    omega arith in
-    let g = c.holding_at.ensures in
-    omega (arith, under)
-
-pub reserved_for_others-requires : goal.reserved_for_others-requires
-reserved_for_others-requires c =
-    let passed : not_of_desk c.args.self c.args.controller ≡ false = sym c.not_of_desk.ensures ∙ c.if-not_of_desk.false in
-    passed
-
 pub overflow_add-holding_at-2 : goal.overflow_add-holding_at-2
 overflow_add-holding_at-2 c =
     let at : Here c.args.self c.args.controller = here_says c.not_of_desk.ensures c.if-not_of_desk.false in

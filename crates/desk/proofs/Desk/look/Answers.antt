@@ -22,11 +22,6 @@ holding_at-held-requires c =
     let at : Here c.args.self c.args.controller = here_says c.not_of_desk.ensures c.if-not_of_desk.false in
     at.inside
 
-pub reserved_for_others-requires : goal.reserved_for_others-requires
-reserved_for_others-requires c =
-    let passed : not_of_desk c.args.self c.args.controller ≡ false = sym c.not_of_desk.ensures ∙ c.if-not_of_desk.false in
-    passed
-
 pub overflow_add-beside_others : goal.overflow_add-beside_others
 overflow_add-beside_others c =
     let at : Here c.args.self c.args.controller = here_says c.not_of_desk.ensures c.if-not_of_desk.false in

@@ -1,8 +1,6 @@
 -- `desk::Desk::places_ok` meets its contract: each place that was passed is right.
-use mathlib.Core.Path.{◌≡◌, refl, sym, ◌∙◌}
-use native.Mathlib.Omega.{arith}
+use mathlib.Core.Path.{refl, sym, ◌∙◌}
 use Rattle.counting.specs.Counting.{every}
-use Rattle.desk.specs.Desk.{most_controllers}
 use Rattle.desk.specs.Checks.{place_ok_at}
 use Rattle.counting.proofs.Loops.{every_more, every-not}
 use Rattle.desk.proofs.Desk.places_ok.Goals as goal
@@ -20,8 +18,3 @@ pub loop-i-preserved : goal.loop-i-preserved
 loop-i-preserved c =
     every_more (place_ok_at c.args.self) c.loop-i.i c.loop-i.invariant
     (sym c.place_ok_at.ensures ∙ c.if-not-place_ok_at.false)
-
-pub returns : goal.returns
-returns c =
-    let e : c.loop-i.i ≡ most_controllers = omega arith in
-    sym (rw (← e) c.loop-i.invariant)
