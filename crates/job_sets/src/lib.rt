@@ -96,13 +96,14 @@ pub struct SetCount {
 pub fn set_count(sheet: &[u8]) -> SetCount
     ensures { result ≡ sets_answer sheet.now }
 {
-    let checked = planable::front(sheet);
-    let refusal = checked.refusal;
-    if refusal != 0 {
-        return SetCount { refusal, sets: 0 };
-    }
-    SetCount {
-        refusal: 0,
-        sets: sets_of(&checked.jobs),
+    match planable::front(sheet) {
+        Ok(jobs) => SetCount {
+            refusal: 0,
+            sets: sets_of(&jobs),
+        },
+        Err(refusal) => SetCount {
+            refusal: refusal.number(),
+            sets: 0,
+        },
     }
 }

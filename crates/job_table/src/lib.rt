@@ -40,8 +40,7 @@ pub fn table_of(found: Reading) -> Jobs
     table[tables::COUNT] = found.count as u16;
     table[tables::MODULES] = found.modules;
     table[tables::CHANGEOVER] = found.changeover;
-    let mut j: usize = 0;
-    while j < found.count {
+    for j in 0..found.count {
         let job = found.jobs[j];
         put_job(
             &mut table,
@@ -52,7 +51,6 @@ pub fn table_of(found: Reading) -> Jobs
             job.earlier,
             job.minutes + found.changeover,
         );
-        j += 1;
     }
     table
 }
@@ -73,12 +71,10 @@ pub fn over_wide(jobs: &Jobs) -> bool
 {
     let count = tables::count(jobs);
     let modules = tables::modules(jobs);
-    let mut j: usize = 0;
-    while j < count {
+    for j in 0..count {
         if modules < tables::need(jobs, j) {
             return true;
         }
-        j += 1;
     }
     false
 }

@@ -23,10 +23,8 @@ pub fn work_of(jobs: &Jobs) -> u32
 {
     let count = tables::count(jobs);
     let mut total: u32 = 0;
-    let mut i: usize = 0;
-    while i < count {
+    for i in 0..count {
         total += counting::times(tables::need(jobs, i), tables::minutes(jobs, i));
-        i += 1;
     }
     total
 }

@@ -15,7 +15,4 @@ written jobs n = joined n (λ i. record_bytes (jobs_in jobs i))
 
 abbrev pub invariant-loop-i : goal.invariant-loop-i
 invariant-loop-i l =
-    (l.i ≤ l.count) × (l.part ≡ written l.jobs l.i ++ drop (record_size * l.i) l.initial.part) × (length l.part ≡ length l.initial.part)
-
-abbrev pub decreases-loop-i : goal.decreases-loop-i
-decreases-loop-i l = l.count - l.i
+    (l.part ≡ written l.jobs l.i ++ drop (record_size * l.i) l.initial.part) × (length l.part ≡ length l.initial.part)

@@ -3,7 +3,7 @@ use mathlib.Core.Path.{refl, sym}
 use native.Mathlib.Omega.{arith}
 use lib.ListN.{length}
 use lib.Seq.{length-take-le}
-use Rattle.sheet_format.specs.Format.{jobs_in, cabinet}
+use Rattle.sheet_format.specs.Format.{jobs_in}
 use Rattle.sheet.proofs.Writes.{parts_are}
 use Rattle.sheet.proofs.write_parts.Goals as goal
 
@@ -23,6 +23,6 @@ returns c =
     let r = c.write_all in
     let t = c.write in (
       refl,
-      parts_are (jobs_in a.jobs) a.count a.labels.now (cabinet a.modules a.changeover) a.out.now l.new.part r.new.part t.new.part
+      parts_are (jobs_in a.jobs) a.count a.labels.now a.cabinet a.out.now l.new.part r.new.part t.new.part
           l.ensures r.ensures t.ensures,
     )

@@ -1,9 +1,9 @@
--- `sizing::count_refusal` meets its contract.
+-- `sizing::check_count` meets its contract.
 use mathlib.Core.Path.{sym, ◌∙◌}
 use Rattle.schedule.specs.Plan.{Circular}
 use Rattle.tables.specs.Tables.{sheet_of}
 use Rattle.sizing.proofs.Refusals.{number_circular, number_no-count, number_no-room, number-none}
-use Rattle.sizing.proofs.count_refusal.Goals as goal
+use Rattle.sizing.proofs.check_count.Goals as goal
 
 pub circular-requires : goal.circular-requires
 circular-requires c = c.requires.few

@@ -1,10 +1,10 @@
--- `planable::order_refusal` meets its contract.
+-- `planable::check_order` meets its contract.
 use mathlib.Core.Path.{◌≡◌, sym, ◌∙◌}
 use mathlib.Core.Bool.{Bool}
 use Rattle.schedule.specs.Plan.{over_wide}
 use Rattle.tables.specs.Tables.{sheet_of}
 use Rattle.planable.proofs.Circles.{number_wide, number_circular, number-none}
-use Rattle.planable.proofs.order_refusal.Goals as goal
+use Rattle.planable.proofs.check_order.Goals as goal
 
 pub returns-then-over_wide : goal.returns-then-over_wide
 returns-then-over_wide c =
