@@ -12,10 +12,8 @@ use Rattle.counting.proofs.Ranges.{any_none, none_any}
 use Rattle.std.specs.Prelude.{Ok, Err}
 use Rattle.checking.specs.Checking.{first_failing}
 use Rattle.checking.specs.declared.Refusal.{Refusal}
-use Rattle.checking.specs.declared.Refusal.TheVariants.{SheetLength, TooManyJobs, ModuleCount, RecordOffset, WrongRecord, LabelLengths, WrongLabel, OverWide, Circular, ShortBuffer, ControllerCount, WrongShares}
-use Rattle.checking.specs.declared.Refusal.TheVariants.{SharesAboveLimit, NotThere, NoPower, AboveCeiling, AboveLimit, AboveHolding, LongChangeover, NoCountServes}
-use Rattle.checking.specs.declared.Refusal.TheVariants.{HoldingAboveCeiling, HoldingsAboveLimit, NoJobs, ModuleSize, WrongController, WrongCard}
 use Rattle.checking.specs.Refusals.{number_of}
+use Rattle.checking.proofs.Numbers.{number-some}
 use Rattle.checking.proofs.Order.{all_passed, none_failing}
 use Rattle.desk.specs.declared.Desk.{Desk}
 use Rattle.desk.specs.Desk.{most_power, fewest_controllers, most_controllers, holding, ceiling_of, reserved_for_others, no_desk}
@@ -100,39 +98,10 @@ module _ (limit : ℕ) (assured ceilings : List ℕ) where
 
 -- ---- what a call answers
 
--- a refusal's number is not 0
-pub numbered : (r : Refusal) → eqb (number_of r) 0 ≡ false
-numbered SheetLength = refl
-numbered TooManyJobs = refl
-numbered ModuleCount = refl
-numbered RecordOffset = refl
-numbered WrongRecord = refl
-numbered LabelLengths = refl
-numbered WrongLabel = refl
-numbered OverWide = refl
-numbered Circular = refl
-numbered ShortBuffer = refl
-numbered ControllerCount = refl
-numbered WrongShares = refl
-numbered SharesAboveLimit = refl
-numbered NotThere = refl
-numbered NoPower = refl
-numbered AboveCeiling = refl
-numbered AboveLimit = refl
-numbered AboveHolding = refl
-numbered LongChangeover = refl
-numbered NoCountServes = refl
-numbered HoldingAboveCeiling = refl
-numbered HoldingsAboveLimit = refl
-numbered NoJobs = refl
-numbered ModuleSize = refl
-numbered WrongController = refl
-numbered WrongCard = refl
-
 module _ (d e : Desk) (n : ℕ) where
   -- a refusal by the number n, and a desk where n is 0, are answered as a call with that number is
   pub refused_answer : (r : Refusal) → number_of r ≡ n → answered d (Err r) ≡ record { refusal = n; desk = cond (eqb n 0) e d }
-  refused_answer r q = rw (← q, numbered r) refl
+  refused_answer r q = rw (← q, ne_eqb (number_of r) 0 (number-some r)) refl
 
   pub granted_answer : 0 ≡ n → answered d (Ok e) ≡ record { refusal = n; desk = cond (eqb n 0) e d }
   granted_answer q = rw (← q) refl
@@ -140,7 +109,7 @@ module _ (d e : Desk) (n : ℕ) where
 -- opening too
 module _ (e : Desk) (n : ℕ) where
   pub refused_opening : (r : Refusal) → number_of r ≡ n → opened_by (Err r) ≡ record { refusal = n; desk = cond (eqb n 0) e no_desk }
-  refused_opening r q = rw (← q, numbered r) refl
+  refused_opening r q = rw (← q, ne_eqb (number_of r) 0 (number-some r)) refl
 
   pub granted_opening : 0 ≡ n → opened_by (Ok e) ≡ record { refusal = n; desk = cond (eqb n 0) e no_desk }
   granted_opening q = rw (← q) refl

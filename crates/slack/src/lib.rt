@@ -77,8 +77,7 @@ fn departures_of(sheet: &[u8]) -> Minutes
     let found = sheet::read(sheet);
     let mut of = [0u16; MOST_JOBS];
     for j in 0..found.count {
-        let job = found.jobs[j];
-        of[j] = job.departure;
+        of[j] = found.jobs[j].departure;
     }
     Minutes { of }
 }
@@ -121,8 +120,7 @@ fn entries(
     let mut answer = no_slacks(0);
     answer.count = count;
     for j in 0..count {
-        let one = entry(latest[j], starts[j], implied[j]);
-        answer.jobs[j] = one;
+        answer.jobs[j] = entry(latest[j], starts[j], implied[j]);
     }
     answer
 }
@@ -147,12 +145,8 @@ pub fn slack(sheet: &[u8], work: &mut [u8]) -> Slacks
     ensures answer { result ≡ slacks sheet.now }
     ensures work { work.new ≡ work_after (planable_refusal sheet.now) work.old }
 {
-    let checked = planable::front(sheet);
-    let refusal = checked.refusal;
-    if refusal != 0 {
-        return no_slacks(refusal);
+    match planable::front(sheet) {
+        Ok(jobs) => slacks_of(&jobs, &departures_of(sheet).of, work),
+        Err(refusal) => no_slacks(refusal.number()),
     }
-    let departing = departures_of(sheet);
-    let departures = departing.of;
-    slacks_of(&checked.jobs, &departures, work)
 }

@@ -2,11 +2,13 @@
 use mathlib.Core.Path.{◌≡◌, refl}
 use mathlib.Core.List.{List}
 use Prim.Native.Nat.{ℕ}
+use borrow.Author.Tests.{ne_eqb}
+use Rattle.checking.specs.Refusals.{number_of}
 use Rattle.std.specs.Prelude.{Result, Ok, Err}
 use Rattle.checking.specs.declared.Refusal.{Refusal}
 use Rattle.desk.specs.declared.Desk.{Desk}
 use Rattle.desk.specs.Calls.{opened, answered, opened_by}
-use Rattle.desk.proofs.Grants.{numbered}
+use Rattle.checking.proofs.Numbers.{number-some}
 use Rattle.lent.specs.Lent.{opened_over}
 use Rattle.lent.proofs.opened_over.Goals as goal
 
@@ -14,7 +16,7 @@ kept_answer : (d : Desk) (limit : ℕ) (assured ceilings : List ℕ) (o : Result
     → answered d o ≡ opened_over d limit assured ceilings
 unfolding opened_over
 kept_answer d limit assured ceilings (Ok e) q = rw (← q) refl
-kept_answer d limit assured ceilings (Err r) q = rw (← q, numbered r) refl
+kept_answer d limit assured ceilings (Err r) q = rw (← q, ne_eqb (number_of r) 0 (number-some r)) refl
 
 pub returns : goal.returns
 returns c =

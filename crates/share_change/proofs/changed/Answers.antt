@@ -1,8 +1,7 @@
 -- `share_change::changed` meets its contract: test by test it answers what the definition does.
 use mathlib.Core.Path.{◌≡◌, sym, ap, ◌∙◌}
-use borrow.Author.Tests.{eqb-false}
 use Rattle.checking.specs.Refusals.{number_of}
-use Rattle.desk.proofs.Grants.{numbered}
+use Rattle.checking.proofs.Numbers.{number-some}
 use borrow.Author.Rules.{rules}
 use Rattle.std.specs.Prelude.{Err}
 use Rattle.desk.specs.declared.Opened.{Opened}
@@ -28,7 +27,7 @@ returns-in_err-new c =
     ap (answered a.desk) e
     ∙ ap (refused_with a.desk) n
     ∙ figures-refused _ _ _ _ (sym c.ok.ensures ∙ c.if-not-ok.false) (sym c.same_number.ensures ∙ c.if-not-same_number.false)
-    (λ z. eqb-false _ 0 (numbered r) (n ∙ z))
+    (λ z. number-some r (n ∙ z))
 
 pub returns : goal.returns
 unfolding opened

@@ -1,4 +1,4 @@
--- `runner::run_refusal` meets its contract: the checks in turn.
+-- `runner::check_start` meets its contract: the checks in turn.
 use mathlib.Core.Path.{◌≡◌, refl, sym, ap, ◌∙◌}
 use mathlib.Core.Bool.{Bool, true, false}
 use Rattle.checking.specs.Checking.{first_failing}
@@ -7,7 +7,7 @@ use Rattle.desk.specs.Checks.{in_range, not_of_desk}
 use Rattle.desk.proofs.Sound.{range_says, of-desk_says}
 use Rattle.runner.specs.Runner.{largest_size}
 use Rattle.runner.proofs.Passes.{look-refused, look-granted}
-use Rattle.runner.proofs.run_refusal.Goals as goal
+use Rattle.runner.proofs.check_start.Goals as goal
 
 pub returns-then-look-ne0 : goal.returns-then-look-ne0
 unfolding first_failing
