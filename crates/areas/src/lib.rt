@@ -10,6 +10,7 @@ ghost use Rattle.tables.specs.Tables.{modules_of, count_of, changeover_of, Fit};
 ghost use Rattle.placement.specs.Profile.{held_since};
 ghost use Rattle.areas.specs.Areas.{most_left, HeldAfter, HeldLater, late_work, TooLate};
 
+use bits::Set;
 use figures::NO_MINUTE;
 use tables::{Jobs, Part, Prepared};
 
@@ -71,13 +72,10 @@ fn late_work(jobs: &Jobs, prepared: &Prepared, set: u32, l: u16, a: u16) -> u32
         (λ k. only (bit set k) (late_work jobs.now prepared.now l a k)) }
 {
     let mut total: u32 = 0;
-    let mut todo = bits::below32(set, jobs.count());
-    while todo != 0 {
-        let k = bits::lowest32(todo);
+    for k in set.below(jobs.count()).members() {
         let first = heads::first_start(prepared, l, k);
         let behind = late_minutes(jobs.kept(k), first, a);
         total += counting::times(jobs.need(k), behind);
-        todo = bits::without_lowest32(todo);
     }
     total
 }
@@ -129,13 +127,10 @@ pub fn too_late(jobs: &Jobs, prepared: &Prepared, part: &Part, target: u16) -> b
     if close == NO_MINUTE {
         return false;
     }
-    let mut todo = bits::below32(part.unplaced, jobs.count());
-    while todo != 0 {
-        let k = bits::lowest32(todo);
+    for k in part.unplaced.below(jobs.count()).members() {
         if late_job(jobs, prepared, part, target, close, k) {
             return true;
         }
-        todo = bits::without_lowest32(todo);
     }
     false
 }

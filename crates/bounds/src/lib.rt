@@ -10,6 +10,7 @@ ghost use Rattle.values.specs.Values.{Laned};
 ghost use Rattle.fitting.specs.Fitting.{slate_size, release_at, OverfullFrom};
 ghost use Rattle.bounds.specs.Bounds.{SomeTooLong, TooFew, Hopeless, Bounding};
 
+use bits::Set;
 use figures::{MOST_JOBS, NO_MINUTE};
 use fitting::Slate;
 use tables::{Jobs, Part, Prepared};
@@ -37,13 +38,10 @@ fn some_too_long(
     requires { count ≤ most_jobs }
     ensures { result ≡ true → SomeTooLong at.now prepared.now.tails count end }
 {
-    let mut todo = bits::below32(set, count);
-    while todo != 0 {
-        let j = bits::lowest32(todo);
+    for j in set.below(count).members() {
         if too_long(at[j], prepared.tails[j], end) {
             return true;
         }
-        todo = bits::without_lowest32(todo);
     }
     false
 }

@@ -9,6 +9,7 @@ ghost use Rattle.relations.specs.Relations.{row_at};
 ghost use Rattle.branching.specs.Branching.{settled_now, Passing, AlikeTried, Swapped, AllAwaited, AllArrived, EndsInBlock, Blocked, PassedOver};
 ghost use Rattle.branching.specs.Branching.{ToTry, Trying};
 
+use bits::Set;
 use figures::{MOST_JOBS, NO_MINUTE};
 use relations::ROW;
 use starting::{early, first_alone, first_end};
@@ -64,10 +65,10 @@ fn starts_behind(
     if (end as u32) + (rest as u32) != (start as u32) {
         return false;
     }
-    if bits::test32(unplaced, i) {
+    if unplaced.has(i) {
         return false;
     }
-    bits::test32(settled, j)
+    settled.has(j)
 }
 
 // Whether job j would start behind a placed job that may be swapped with it and in whose place it was settled.
@@ -85,9 +86,7 @@ fn swapped(
 {
     let rest = jobs.changeover();
     let unplaced = part.unplaced;
-    let mut todo = bits::below32(to_swap(prepared, part, j), jobs.count());
-    while todo != 0 {
-        let i = bits::lowest32(todo);
+    for i in to_swap(prepared, part, j).below(jobs.count()).members() {
         if starts_behind(
             part.ends[i],
             rest,
@@ -99,7 +98,6 @@ fn swapped(
         ) {
             return true;
         }
-        todo = bits::without_lowest32(todo);
     }
     false
 }
@@ -118,12 +116,9 @@ fn left_behind(jobs: &Jobs, part: &Part) -> Behind
 {
     let mut awaited: u32 = 0;
     let mut arrived: u16 = 0;
-    let mut todo = bits::below32(part.unplaced, jobs.count());
-    while todo != 0 {
-        let x = bits::lowest32(todo);
+    for x in part.unplaced.below(jobs.count()).members() {
         awaited = awaited | jobs.earlier(x);
-        arrived = counting::larger(arrived, jobs.arrival(x));
-        todo = bits::without_lowest32(todo);
+        arrived = arrived.max(jobs.arrival(x));
     }
     Behind { awaited, arrived }
 }
@@ -165,8 +160,8 @@ fn ends_in_block(
     for m in 0..placed {
         let a = part.order[m] as usize;
         let end = part.ends[a];
-        let waited = bits::test32(behind.awaited, a);
-        let j_settled = bits::test32(settled[a], j);
+        let waited = behind.awaited.has(a);
+        let j_settled = settled[a].has(j);
         found = block_with(
             found,
             waited,
@@ -175,7 +170,7 @@ fn ends_in_block(
             end,
             jobs.minutes(a),
         );
-        latest = counting::larger(latest, end + rest);
+        latest = latest.max(end + rest);
     }
     if !found {
         return false;
@@ -217,7 +212,7 @@ pub fn passed_over(
         return true;
     }
     if start == part.last {
-        if bits::test32(same, j) {
+        if same.has(j) {
             return true;
         }
     }
@@ -241,7 +236,7 @@ pub fn to_try(jobs: &Jobs, prepared: &Prepared, at: &[u16; MOST_JOBS], least: u1
     let count = jobs.count();
     let i = first_alone(prepared, at, least, set, count);
     if i < count {
-        return bits::set32(0, i);
+        return 0u32.with(i);
     }
     early(at, first_end(jobs, at, set), set, count)
 }

@@ -7,6 +7,7 @@ ghost use Rattle.bits.specs.Bits.{bit};
 ghost use Rattle.tables.specs.Tables.{count_of};
 ghost use Rattle.candidates.specs.Candidates.{Known, JobStart, JobStarts, LowerRank, ChoiceOf};
 
+use bits::Set;
 use figures::{MOST_JOBS, NO_MINUTE};
 use tables::{Jobs, Part, Prepared};
 
@@ -35,7 +36,7 @@ pub fn start_or_none(jobs: &Jobs, part: &Part, j: usize) -> u16
     requires { (Known jobs.now part.now) × (j < count_of jobs.now) }
     ensures { JobStart jobs.now part.now j result }
 {
-    if bits::test32(part.unplaced, j) {
+    if part.unplaced.has(j) {
         return next_start(jobs, part, j);
     }
     NO_MINUTE
@@ -48,13 +49,10 @@ pub fn starts_of(jobs: &Jobs, part: &Part) -> Starts
 {
     let mut at = [NO_MINUTE; MOST_JOBS];
     let mut least: u16 = NO_MINUTE;
-    let mut todo = bits::below32(part.unplaced, jobs.count());
-    while todo != 0 {
-        let j = bits::lowest32(todo);
+    for j in part.unplaced.below(jobs.count()).members() {
         let s = next_start(jobs, part, j);
         at[j] = s;
-        least = counting::smaller(least, s);
-        todo = bits::without_lowest32(todo);
+        least = least.min(s);
     }
     Starts { at, least }
 }
@@ -104,11 +102,8 @@ pub fn next_choice(prepared: &Prepared, at: &[u16; MOST_JOBS], set: u32, count: 
         job: 0,
         rank: NO_RANK,
     };
-    let mut todo = bits::below32(set, count);
-    while todo != 0 {
-        let j = bits::lowest32(todo);
+    for j in set.below(count).members() {
         c = choose(c, j, rank_of(at[j], prepared.tails[j]));
-        todo = bits::without_lowest32(todo);
     }
     Choice {
         job: c.job,

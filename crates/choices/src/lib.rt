@@ -7,6 +7,7 @@ ghost use Rattle.figures.specs.Figures.{most_jobs};
 ghost use Rattle.tables.specs.Tables.{kept_at, most_kept, count_of, Fit};
 ghost use Rattle.choices.specs.Choices.{SumsOf, Room, Doubled, longest};
 
+use bits::Set;
 use tables::Jobs;
 
 // ---- the sums of all choices from a set
@@ -26,7 +27,7 @@ fn with_job(at: &mut [u16], count: usize, jobs: &Jobs, set: u32, j: usize) -> us
     requires { (SumsOf jobs.now set j at.old count) × ((j < most_jobs) × (kept_at jobs.now j ≤ most_kept)) }
     ensures { SumsOf jobs.now set (j + 1) at.new result }
 {
-    if !bits::test32(set, j) {
+    if !set.has(j) {
         return count;
     }
     if 2 * count > at.len() {
@@ -43,11 +44,8 @@ pub fn subset_sums(at: &mut [u16], jobs: &Jobs, set: u32) -> usize
 {
     at[0] = 0;
     let mut count: usize = 1;
-    let mut todo = bits::below32(set, jobs.count());
-    while todo != 0 {
-        let j = bits::lowest32(todo);
+    for j in set.below(jobs.count()).members() {
         count = with_job(at, count, jobs, set, j);
-        todo = bits::without_lowest32(todo);
     }
     count
 }
@@ -68,7 +66,7 @@ pub fn longest_fit(at: &[u16], count: usize, x: u16) -> u16
 {
     let mut r: u16 = 0;
     for i in 0..count {
-        r = counting::larger(r, fitting(at[i], x));
+        r = r.max(fitting(at[i], x));
     }
     r
 }

@@ -13,6 +13,7 @@ use Rattle.schedule.specs.TieRule.{Best, end_of, best_order}
 use Rattle.schedule.specs.Ends.{EarliestEnd}
 use Rattle.schedule.proofs.Theorems.{best_exists, best_valid, best_earliest}
 use Rattle.schedule.proofs.Same.{same_back, wide_same, end_same, best_same}
+use Rattle.tables.specs.declared.Jobs.{Jobs}
 use Rattle.tables.specs.Tables.{sheet_of, Fit}
 use Rattle.std.specs.Prelude.{Ok, Err}
 use Rattle.checking.specs.Refusals.{number_of}
@@ -44,7 +45,7 @@ unfolding earliest_end
 earliest_end_is S o e = rw (earliest_end, e) refl
 
 -- the table of a sheet has the same
-pub table_end : (s t : List ℕ) → Ready s t → planable_refusal s ≡ 0 → (r : ℕ) → EarliestEnd (sheet_of t) r → r ≡ earliest_end (sheet_in s)
+pub table_end : (s : List ℕ) (t : Jobs) → Ready s t → planable_refusal s ≡ 0 → (r : ℕ) → EarliestEnd (sheet_of t) r → r ≡ earliest_end (sheet_in s)
 table_end s t h e r x =
     let p = passes s e in
     let S = sheet_in s in
@@ -69,7 +70,7 @@ module _ (s work : List ℕ) where
       let n = ne_eqb (planable_refusal s) 0 (λ z. number-some e (f.refusal ∙ z)) in
       (rw (n, is ∙ f.refusal) refl, rw n refl)
 
-  module _ (t : List ℕ) (f : CheckedOf s (Ok t)) where
+  module _ (t : Jobs) (f : CheckedOf s (Ok t)) where
     passed : planable_refusal s ≡ 0
     passed = sym f.refusal
 

@@ -1,6 +1,7 @@
 // The edges of slack.
 ghost use Rattle.std.specs.Prelude.{◌≤◌};
 
+use bits::Set;
 use super::lines::print_case;
 use super::plans::first;
 use sheet_format::Job;
@@ -66,7 +67,7 @@ fn ask(rt: &impl Print, name: &str, s: &[u8]) -> io::Result<()> {
     let last = answer.jobs[19];
     print_case(rt, name, answer.refusal)?;
     print_case(rt, "  jobs too late", late_jobs(answer))?;
-    print_case(rt, "  marks implied", bits::ones32(last.implied))?;
+    print_case(rt, "  marks implied", last.implied.size())?;
     print_case(rt, "  first byte of the memory", first(&work))?;
     Ok(())
 }

@@ -6,6 +6,7 @@ ghost use Rattle.figures.specs.Figures.{most_jobs};
 ghost use Rattle.entries.specs.Entry.{ways, group_bytes, entry_in, EntryAhead};
 
 use tables::Part;
+use words::Number;
 
 // The entries of a group.
 pub const WAYS: usize = 16;
@@ -50,14 +51,14 @@ pub fn entry_ahead(
     requires { (length group.now ≡ group_bytes) × (way < ways) × (jobs ≤ most_jobs) }
     ensures { result ≡ true → EntryAhead (entry_in group.now way) jobs part.now.ends unplaced l rested }
 {
-    if words::read32(group, way * SET) != unplaced {
+    if u32::read(group, way * SET) != unplaced {
         return false;
     }
     let at = SETS + way * FIGURES;
-    let mut late = after_both(words::read16(group, at), l, l);
+    let mut late = after_both(u16::read(group, at), l, l);
     for i in 0..jobs {
         late += after_both(
-            words::read16(group, at + ENDS + 2 * i),
+            u16::read(group, at + ENDS + 2 * i),
             part.ends[i],
             rested,
         );

@@ -22,7 +22,7 @@ fn lift_cells(slate: &mut Slate, from: usize, at: usize, n: usize, least: u16)
     ensures { Put (λ x. at + x) slate.old slate.new n (λ x. max (row_at slate.old from x) least) }
 {
     for i in 0..n {
-        slate[at + i] = counting::larger(slate[from + i], least);
+        slate[at + i] = slate[from + i].max(least);
     }
 }
 
@@ -34,7 +34,7 @@ fn raise_cells(slate: &mut Slate, lower: usize, upper: usize, at: usize, n: usiz
         (λ x. max (row_at slate.old upper x) (v + row_at slate.old lower x)) }
 {
     for i in 0..n {
-        slate[at + i] = counting::larger(slate[upper + i], v + slate[lower + i]);
+        slate[at + i] = slate[upper + i].max(v + slate[lower + i]);
     }
 }
 

@@ -43,7 +43,7 @@ fn frame_of(count: usize, least: u16, close: u16) -> Frame
     ensures { ((Framed result) × (HasRoom result count)) × ((result.least ≡ least) × (result.close ≡ close)) }
 {
     let most = (CELLS / (count + 1) - 1) as u16;
-    let cols = (counting::smaller(most, close - least) as usize) + 1;
+    let cols = (most.min(close - least) as usize) + 1;
     let step = (close - least) / (cols as u16) + 1;
     Frame {
         cols,

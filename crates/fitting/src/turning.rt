@@ -248,7 +248,7 @@ fn largest_share(slate: &Slate, order: &[usize; MOST_JOBS], count: usize) -> u16
     let mut largest: u16 = 0;
     for i in 0..count {
         let j = job_at(order, count, i);
-        largest = counting::larger(largest, slate[CELLS + j]);
+        largest = largest.max(slate[CELLS + j]);
     }
     largest
 }

@@ -4,6 +4,7 @@ ghost use Rattle.counting.specs.Counting.{sum};
 ghost use Rattle.tables.specs.Tables.{need_at, count_of, Fit};
 ghost use Rattle.fitting.specs.Fitting.{top_value, Valued, NoneBeside};
 
+use bits::Set;
 use super::{CELLS, Slate};
 use figures::MOST_JOBS;
 use tables::Jobs;
@@ -24,7 +25,7 @@ fn value_of(share: u16, kept: u16, step: u16, left: bool) -> u16
     if kept < step {
         return 0;
     }
-    counting::smaller(share / SHARES, MOST_VALUE)
+    (share / SHARES).min(MOST_VALUE)
 }
 
 // The values of the jobs of a set.
@@ -35,7 +36,7 @@ pub fn values_of(slate: &Slate, jobs: &Jobs, set: u32, step: u16) -> Figures
     let count = jobs.count();
     let mut next = [0u16; MOST_JOBS];
     for k in 0..count {
-        let left = bits::test32(set, k);
+        let left = set.has(k);
         next[k] = value_of(slate[CELLS + k], jobs.kept(k), step, left);
     }
     Figures { of: next }
@@ -65,7 +66,7 @@ fn longest_of(jobs: &Jobs) -> u16
     let count = jobs.count();
     let mut longest: u16 = 1;
     for k in 0..count {
-        longest = counting::larger(longest, jobs.kept(k));
+        longest = longest.max(jobs.kept(k));
     }
     longest
 }

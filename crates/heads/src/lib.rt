@@ -8,6 +8,7 @@ ghost use Rattle.bits.specs.Bits.{bit};
 ghost use Rattle.tables.specs.Tables.{minutes_at, earlier_at, count_of, Fit};
 ghost use Rattle.heads.specs.Heads.{HeadsOf, AllShort};
 
+use bits::Set;
 use figures::MOST_JOBS;
 use tables::{Jobs, Prepared};
 
@@ -16,7 +17,7 @@ fn end_of(heads: &[u16; MOST_JOBS], jobs: &Jobs, set: u32, i: usize) -> u16
     requires { (i < most_jobs) × (get_or heads.now i 0 + minutes_at jobs.now i ≤ last_end) }
     ensures { result ≡ only (bit set i) (get_or heads.now i 0 + minutes_at jobs.now i) }
 {
-    if bits::test32(set, i) {
+    if set.has(i) {
         return heads[i] + jobs.minutes(i);
     }
     0
@@ -32,7 +33,7 @@ fn latest_end(heads: &[u16; MOST_JOBS], jobs: &Jobs, j: usize) -> u16
     let earlier = jobs.earlier(j);
     let mut r: u16 = 0;
     for i in 0..n {
-        r = counting::larger(r, end_of(heads, jobs, earlier, i));
+        r = r.max(end_of(heads, jobs, earlier, i));
     }
     r
 }
@@ -51,7 +52,7 @@ fn advance(jobs: &Jobs, heads: Heads, k: usize) -> Heads
     let n = jobs.count();
     let mut next = [0u16; MOST_JOBS];
     for j in 0..n {
-        next[j] = counting::larger(jobs.arrival(j), latest_end(&heads.at, jobs, j));
+        next[j] = jobs.arrival(j).max(latest_end(&heads.at, jobs, j));
     }
     Heads { at: next }
 }
@@ -76,5 +77,5 @@ pub fn first_start(prepared: &Prepared, l: u16, k: usize) -> u16
     requires { k < most_jobs }
     ensures { result ≡ max l (get_or prepared.now.heads k 0) }
 {
-    counting::larger(l, prepared.heads[k])
+    l.max(prepared.heads[k])
 }

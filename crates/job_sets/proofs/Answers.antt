@@ -5,6 +5,7 @@ use Prim.Native.Nat.{ℕ, ◌≤◌}
 use borrow.Author.Tests.{eq-eqb, ne_eqb}
 use Rattle.schedule.specs.Plan.{Circular}
 use Rattle.figures.specs.Figures.{most_jobs}
+use Rattle.tables.specs.declared.Jobs.{Jobs}
 use Rattle.tables.specs.Tables.{sheet_of, count_of}
 use Rattle.std.specs.Prelude.{Ok, Err}
 use Rattle.checking.specs.Refusals.{number_of}
@@ -28,7 +29,7 @@ module _ (s : List ℕ) where
   unfolding sets_answer
   refused e h k is = rw (ne_eqb (planable_refusal s) 0 (λ z. number-some e (h.refusal ∙ z)), is ∙ h.refusal) refl
 
-  module _ (t : List ℕ) (h : CheckedOf s (Ok t)) where
+  module _ (t : Jobs) (h : CheckedOf s (Ok t)) where
     passed : planable_refusal s ≡ 0
     passed = sym h.refusal
 

@@ -12,11 +12,12 @@ use Rattle.schedule.specs.Plan.{Narrow, over_wide}
 use Rattle.schedule.specs.Cabinets.{with_modules}
 use Rattle.schedule.proofs.Existence.{narrow_says}
 use Rattle.schedule.proofs.Same.{SameJobs}
+use Rattle.tables.specs.declared.Jobs.{Jobs}
 use Rattle.tables.specs.Tables.{sheet_of, earlier_at, count_of, modules_of, Fit}
 use Rattle.job_table.specs.Table.{for_cabinet, FitJobs}
 
 -- jobs that fit, in a cabinet of 1 to 64 modules that no job is too wide for
-pub fit_of : (t : List ℕ) → FitJobs t → 0 < modules_of t → modules_of t ≤ most_modules → Narrow (sheet_of t) → Fit t
+pub fit_of : (t : Jobs) → FitJobs t → 0 < modules_of t → modules_of t ≤ most_modules → Narrow (sheet_of t) → Fit t
 fit_of t h some most narrow = record {
   few = h.few;
   some = some;
@@ -29,7 +30,7 @@ fit_of t h some most narrow = record {
   keeps = h.keeps;
 }
 
-module _ (t : List ℕ) (h : FitJobs t) (k : ℕ) where
+module _ (t : Jobs) (h : FitJobs t) (k : ℕ) where
   abbrev u : List ℕ
   u = for_cabinet t k
 

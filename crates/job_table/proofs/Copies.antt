@@ -10,6 +10,7 @@ use lib.ListN.{length, get_or, set, replicate, length-set}
 use lib.Seq.{get_or-set_same, get_or-set_other}
 use Rattle.counting.proofs.Tests.{last-or_below}
 use Rattle.figures.specs.Figures.{most_jobs}
+use Rattle.tables.specs.declared.Jobs.{Jobs}
 use Rattle.tables.specs.Tables.{need_at, minutes_at, arrival_at, earlier_at, kept_at, count_of, modules_of, changeover_of}
 use Rattle.sheet_format.specs.Format.{jobs_in}
 use Rattle.sheet.specs.declared.Reading.{Reading}
@@ -17,7 +18,7 @@ use Rattle.job_table.specs.Table.{with_job, TableOf}
 
 -- ---- one job
 
-module _ (t : List ℕ) (s : length t ≡ 123) (j : ℕ) (l : j < most_jobs) (modules minutes arrival earlier kept : ℕ) where
+module _ (t : Jobs) (s : length t ≡ 123) (j : ℕ) (l : j < most_jobs) (modules minutes arrival earlier kept : ℕ) where
   abbrev a : List ℕ
   a = set t j modules
 
@@ -106,7 +107,7 @@ module _ (t : List ℕ) (s : length t ≡ 123) (j : ℕ) (l : j < most_jobs) (mo
 -- ---- the first k jobs
 
 -- the table says of the first k jobs what the reading says
-pub record Copied (r : Reading) (k : ℕ) (t : List ℕ) : Type 0 where
+pub record Copied (r : Reading) (k : ℕ) (t : Jobs) : Type 0 where
   pub size : length t ≡ 123
   pub count : count_of t ≡ r.count
   pub modules : modules_of t ≡ r.modules
@@ -117,7 +118,7 @@ pub record Copied (r : Reading) (k : ℕ) (t : List ℕ) : Type 0 where
   pub earlier : (j : ℕ) → j < k → earlier_at t j ≡ (jobs_in r.jobs j).earlier
   pub kept : (j : ℕ) → j < k → kept_at t j ≡ (jobs_in r.jobs j).minutes + r.changeover
 
-pub none_copied : (r : Reading) (t : List ℕ) → length t ≡ 123 → count_of t ≡ r.count → modules_of t ≡ r.modules
+pub none_copied : (r : Reading) (t : Jobs) → length t ≡ 123 → count_of t ≡ r.count → modules_of t ≡ r.modules
     → changeover_of t ≡ r.changeover → Copied r 0 t
 none_copied r t s n m c = record {
   size = s;
@@ -131,7 +132,7 @@ none_copied r t s n m c = record {
   kept = λ j l. absurd (not-suc-le-zero l);
 }
 
-module _ (r : Reading) (k : ℕ) (l : k < most_jobs) (t : List ℕ) (h : Copied r k t) where
+module _ (r : Reading) (k : ℕ) (l : k < most_jobs) (t : Jobs) (h : Copied r k t) where
   abbrev u : List ℕ
   u =
       let x = jobs_in r.jobs k in
@@ -181,7 +182,7 @@ module _ (r : Reading) (k : ℕ) (l : k < most_jobs) (t : List ℕ) (h : Copied 
             (λ j b. other (103 + j) (λ e. omega arith) (λ e. omega arith) (λ e. omega arith) (λ e. omega arith) (λ e. omega arith) (λ e. omega arith)) h.kept;
       }
 
-pub all_copied : (r : Reading) (t : List ℕ) → Copied r r.count t → TableOf r t
+pub all_copied : (r : Reading) (t : Jobs) → Copied r r.count t → TableOf r t
 all_copied r t h = record {
   size = h.size;
   count = h.count;
@@ -196,7 +197,7 @@ all_copied r t h = record {
 
 -- ---- every reading has a table
 
-made : (r : Reading) (k : ℕ) → k ≤ most_jobs → (t : List ℕ) × Copied r k t
+made : (r : Reading) (k : ℕ) → k ≤ most_jobs → (t : Jobs) × Copied r k t
 made r zero l =
     (set (set (set (replicate 123 0) 100 r.count) 101 r.modules) 102 r.changeover, none_copied r _ refl refl refl refl)
 made r (suc k) l =
@@ -205,5 +206,5 @@ made r (suc k) l =
     let u : List ℕ = with_job m.0 k x.modules x.minutes x.arrival x.earlier (x.minutes + r.changeover) in
     (u, subst (λ (n : ℕ). Copied r n u) (add-one k) (copied_more r k (omega arith) m.0 m.1))
 
-pub has-table : (r : Reading) → r.count ≤ most_jobs → (t : List ℕ) × TableOf r t
+pub has-table : (r : Reading) → r.count ≤ most_jobs → (t : Jobs) × TableOf r t
 has-table r few = let m = made r r.count few in (m.0, all_copied r m.0 m.1)

@@ -69,10 +69,10 @@ pub fn over_wide(jobs: &Jobs) -> bool
     requires { count_of jobs.now ≤ most_jobs }
     ensures { result ≡ over_wide (sheet_of jobs.now) }
 {
-    let count = tables::count(jobs);
-    let modules = tables::modules(jobs);
+    let count = jobs.count();
+    let modules = jobs.modules();
     for j in 0..count {
-        if modules < tables::need(jobs, j) {
+        if modules < jobs.need(j) {
             return true;
         }
     }

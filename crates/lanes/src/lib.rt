@@ -10,6 +10,7 @@ ghost use Rattle.placement.specs.Profile.{ProfileOf};
 ghost use Rattle.values.specs.Values.{most_lane_worth, most_at, worth_at, step_of, Laned};
 ghost use Rattle.lanes.specs.Lanes.{reach_in, served_on, ReachesTo, Serving, Overfull};
 
+use bits::Set;
 use tables::{Jobs, Part, Prepared};
 
 // The minutes of a step.
@@ -83,11 +84,8 @@ fn set_worth(jobs: &Jobs, prepared: &Prepared, part: &Part) -> u32
         (λ k. only (bit part.now.unplaced k) (worth_at prepared.now.lanes k)) }
 {
     let mut total: u32 = 0;
-    let mut todo = bits::below32(part.unplaced, jobs.count());
-    while todo != 0 {
-        let k = bits::lowest32(todo);
+    for k in part.unplaced.below(jobs.count()).members() {
         total += worth_of(prepared, k);
-        todo = bits::without_lowest32(todo);
     }
     total
 }

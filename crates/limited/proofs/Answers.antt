@@ -8,6 +8,7 @@ use lib.Dec.{ltb}
 use lib.ListN.{length, drop, take, replicate}
 use Rattle.schedule.specs.Plan.{Sheet}
 use Rattle.schedule.proofs.Same.{SameJobs, same_back, order_same, end_same, best_same}
+use Rattle.tables.specs.declared.Jobs.{Jobs}
 use Rattle.tables.specs.Tables.{sheet_of, count_of}
 use Rattle.card.specs.Card.{card_size, card_of}
 use Rattle.std.specs.Prelude.{Ok}
@@ -85,7 +86,7 @@ written_same {S} {T} h {card} (o, w) = (
 
 -- ---- answered
 
-module _ (s card work : List ℕ) (t : List ℕ) (f : CheckedOf s (Ok t))
+module _ (s card work : List ℕ) (t : Jobs) (f : CheckedOf s (Ok t))
     (l : ltb (length card) (card_size (count_of t)) ≡ false) where
   pub answered-gives : {card' : List ℕ} (work' : List ℕ) {limit : ℕ} {answer : Limited}
       → LimitedCard (sheet_of t) card card' limit answer → work' ≡ replicate (length work) 0

@@ -9,6 +9,7 @@ ghost use Rattle.memory.specs.Entries.{ways, figure_bytes, group_bytes, group_of
 
 use entries::{ENDS, FIGURES, GROUP, SET, SETS, WAYS};
 use tables::Part;
+use words::Number;
 
 // 1 for the same set, else 0.
 fn same(set: u32, unplaced: u32) -> u32
@@ -24,7 +25,7 @@ fn ways_with(group: &[u8], unplaced: u32) -> u32
 {
     let mut ways: u32 = 0;
     for n in 0..WAYS {
-        ways = ways * 2 + same(words::read32(group, (WAYS - 1 - n) * SET), unplaced);
+        ways = ways * 2 + same(u32::read(group, (WAYS - 1 - n) * SET), unplaced);
     }
     ways
 }
@@ -34,9 +35,9 @@ fn write_figures(figures: &mut [u8], part: &Part, jobs: usize)
     requires { (length figures.old ≡ figure_bytes) × (jobs ≤ most_jobs) }
     ensures { FiguresOf figures.new jobs part.now.ends part.now.last }
 {
-    words::write16(figures, 0, part.last);
+    u16::write(figures, 0, part.last);
     for i in 0..jobs {
-        words::write16(figures, ENDS + 2 * i, part.ends[i]);
+        u16::write(figures, ENDS + 2 * i, part.ends[i]);
     }
 }
 
@@ -49,7 +50,7 @@ fn store(group: &mut [u8], way: usize, part: &Part, jobs: usize)
     let unplaced = part.unplaced;
     let from = way * SET;
     let to = from + SET;
-    words::write32(&mut group[from..to], 0, unplaced);
+    u32::write(&mut group[from..to], 0, unplaced);
     let at = SETS + way * FIGURES;
     let end = at + FIGURES;
     write_figures(&mut group[at..end], part, jobs);

@@ -10,6 +10,7 @@ ghost use Rattle.tables.specs.Tables.{count_of, modules_of, Fit};
 ghost use Rattle.placement.specs.Profile.{ProfileOf};
 ghost use Rattle.overlaps.specs.Overlaps.{must_hold, Overlapping};
 
+use bits::Set;
 use tables::{Jobs, Part, Prepared};
 
 // The modules of a job that must have them at minute m, as it starts from minute `first` on and keeps them for so long, and starts so early
@@ -32,9 +33,7 @@ fn all_hold(jobs: &Jobs, prepared: &Prepared, set: u32, l: u16, target: u16, m: 
         (λ k. only (bit set k) (must_hold jobs.now prepared.now l target m k)) }
 {
     let mut total: u16 = 0;
-    let mut todo = bits::below32(set, jobs.count());
-    while todo != 0 {
-        let k = bits::lowest32(todo);
+    for k in set.below(jobs.count()).members() {
         total += must_hold(
             jobs.need(k),
             jobs.kept(k),
@@ -43,7 +42,6 @@ fn all_hold(jobs: &Jobs, prepared: &Prepared, set: u32, l: u16, target: u16, m: 
             target,
             m,
         );
-        todo = bits::without_lowest32(todo);
     }
     total
 }
@@ -109,13 +107,10 @@ pub fn overlapping(
     requires { (Fit jobs.now) × (ProfileOf part.now gone free (modules_of jobs.now) l) }
     ensures { result ≡ true → Overlapping jobs.now prepared.now part.now l target }
 {
-    let mut todo = bits::below32(part.unplaced, jobs.count());
-    while todo != 0 {
-        let k = bits::lowest32(todo);
+    for k in part.unplaced.below(jobs.count()).members() {
         if no_room_for(jobs, prepared, part, gone, free, l, target, k) {
             return true;
         }
-        todo = bits::without_lowest32(todo);
     }
     false
 }

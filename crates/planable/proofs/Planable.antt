@@ -9,6 +9,7 @@ use lib.Dec.{eqb}
 use borrow.Author.Tests.{eqb-true}
 use Rattle.schedule.specs.Plan.{Plan, Valid, over_wide, Circular}
 use Rattle.schedule.proofs.Existence.{has_plan}
+use Rattle.tables.specs.declared.Jobs.{Jobs}
 use Rattle.tables.specs.Tables.{sheet_of, Fit}
 use Rattle.checking.specs.Checking.{first_failing, FirstFails, NoneFails}
 use Rattle.checking.proofs.Order.{all_passed, none_failing, both_passed, first_in_front, first-behind, refused_exactly, answered_exactly}
@@ -75,13 +76,13 @@ planable_when s = (there, back)
 -- ---- the table
 
 -- what is known of the table of a sheet that passes
-pub record Ready (s t : List ℕ) : Type 0 where
+pub record Ready (s : List ℕ) (t : Jobs) : Type 0 where
   pub reads : read_refusal s ≡ 0
   pub fit : Fit t
   pub free : ¬ Circular (sheet_of t)
   pub same : SameJobs (sheet_of t) (sheet_in s)
 
-pub ready-table : (s t : List ℕ) → planable_refusal s ≡ 0 → TableOf (reading s) t → Ready s t
+pub ready-table : (s : List ℕ) (t : Jobs) → planable_refusal s ≡ 0 → TableOf (reading s) t → Ready s t
 ready-table s t e h =
     let p = passes s e in
     let same = same_jobs s p.reads t h in
@@ -101,7 +102,7 @@ module _ (s : List ℕ) where
   turned_away k e h = e ∙ sym (first_in_front (read_checks s) (order_checks (sheet_in s)) (λ z. h (e ∙ z)))
 
   -- one that does
-  module _ (t : List ℕ) (f : ReadOf s (Ok t)) where
+  module _ (t : Jobs) (f : ReadOf s (Ok t)) where
     pub was_read : read_refusal s ≡ 0
     was_read = sym f.refusal
 

@@ -9,6 +9,7 @@ use Rattle.figures.specs.Figures.{most_jobs, most_modules, longest_changeover}
 use Rattle.bits.specs.Bits.{bit}
 use Rattle.schedule.specs.Plan.{over_wide, Lasting, Needing}
 use Rattle.schedule.proofs.Existence.{narrow_says}
+use Rattle.tables.specs.declared.Jobs.{Jobs}
 use Rattle.tables.specs.Tables as tables
 use Rattle.tables.specs.Tables.{sheet_of, Fit}
 use Rattle.sheet_format.specs.Format.{jobs_in, count_of, job_of}
@@ -22,7 +23,7 @@ use Rattle.job_table.proofs.Cabinets.{fit_of}
 use Rattle.planable.specs.Planable.{sheet_in}
 use Rattle.schedule.proofs.Same.{SameJobs, wide_same}
 
-module _ (s : List ℕ) (e : read_refusal s ≡ 0) where
+module _ (s : Jobs) (e : read_refusal s ≡ 0) where
   abbrev r : Reading
   r = reading s
 
@@ -58,7 +59,7 @@ module _ (s : List ℕ) (e : read_refusal s ≡ 0) where
 
   -- ---- in a table
 
-  module _ (t : List ℕ) (h : TableOf r t) where
+  module _ (t : Jobs) (h : TableOf r t) where
     pub same_jobs : SameJobs (sheet_of t) (sheet_in s)
     same_jobs = record {
       jobs = h.count;

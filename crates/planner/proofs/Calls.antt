@@ -9,6 +9,7 @@ use lib.ListN.{length, drop, replicate}
 use borrow.Author.Tests.{ltb-false, ne_eqb}
 use Rattle.figures.specs.Figures.{most_jobs}
 use Rattle.schedule.specs.Plan.{Circular}
+use Rattle.tables.specs.declared.Jobs.{Jobs}
 use Rattle.tables.specs.Tables.{sheet_of, count_of, Fit}
 use Rattle.card.specs.Card.{card_size}
 use Rattle.checking.specs.Checking.{first_failing}
@@ -45,7 +46,7 @@ module _ (s card work : List ℕ) where
       (f.refusal ∙ sym (first_in_front (planable_checks s) (room_checks (sheet_in s) (length card)) (λ z. number-some e (f.refusal ∙ z))))
       (number-some e)
 
-  module _ (t : List ℕ) (f : CheckedOf s (Ok t)) where
+  module _ (t : Jobs) (f : CheckedOf s (Ok t)) where
     passed : planable_refusal s ≡ 0
     passed = sym f.refusal
 

@@ -19,7 +19,7 @@ pub fn too_short(jobs: &Jobs, room: usize) -> bool
     requires { count_of jobs.now ≤ most_jobs }
     ensures { result ≡ ltb room (card_size (count_of jobs.now)) }
 {
-    room < (ROW_SIZE + 1) * tables::count(jobs) + TRAILER_SIZE
+    room < (ROW_SIZE + 1) * jobs.count() + TRAILER_SIZE
 }
 
 // Writes the card of the tie rule's plan at the front of the lent bytes, and leaves the working memory all zero.

@@ -16,7 +16,7 @@ use label_check::wrong_labels;
 use sheet_format::checks::faulty;
 use sheet_format::layout::RECORD_SIZE;
 use sheet_format::{Job, label_length};
-use words::{read16, read32, write16, write32};
+use words::Number;
 
 // What the writer's pass over its jobs finds.
 #[derive(Drop)]
@@ -40,10 +40,10 @@ pub fn read_one(s: &[u8], at: usize) -> Job
     Job {
         label_len: s[at],
         modules: s[at + 1],
-        minutes: read16(s, at + 2),
-        earlier: read32(s, at + 4),
-        departure: read16(s, at + 8),
-        arrival: read16(s, at + 10),
+        minutes: u16::read(s, at + 2),
+        earlier: u32::read(s, at + 4),
+        departure: u16::read(s, at + 8),
+        arrival: u16::read(s, at + 10),
     }
 }
 
@@ -107,10 +107,10 @@ fn write_one(part: &mut [u8], job: Job)
 {
     part[0] = job.label_len;
     part[1] = job.modules;
-    write16(part, 2, job.minutes);
-    write32(part, 4, job.earlier);
-    write16(part, 8, job.departure);
-    write16(part, 10, job.arrival);
+    u16::write(part, 2, job.minutes);
+    u32::write(part, 4, job.earlier);
+    u16::write(part, 8, job.departure);
+    u16::write(part, 10, job.arrival);
 }
 
 // The records of the first `count` jobs, one behind another.

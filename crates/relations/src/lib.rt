@@ -9,6 +9,7 @@ ghost use Rattle.bits.specs.Bits.{bit, with_bit};
 ghost use Rattle.tables.specs.Tables.{earlier_at, count_of, Fit};
 ghost use Rattle.relations.specs.Relations.{ChainsOf, Laters, LaterOf, all_places, PairPut, RowOf, with_row, Related};
 
+use bits::Set;
 use figures::MOST_JOBS;
 use tables::Jobs;
 
@@ -19,7 +20,7 @@ fn behind(tail: u16, set: u32, j: usize) -> u16
     requires { j < most_jobs }
     ensures { result ≡ only (bit set j) tail }
 {
-    if bits::test32(set, j) {
+    if set.has(j) {
         return tail;
     }
     0
@@ -34,7 +35,7 @@ fn longest_behind(tails: &[u16; MOST_JOBS], jobs: &Jobs, j: usize) -> u16
     let n = jobs.count();
     let mut r: u16 = 0;
     for i in 0..n {
-        r = counting::larger(r, behind(tails[i], jobs.earlier(i), j));
+        r = r.max(behind(tails[i], jobs.earlier(i), j));
     }
     r
 }
@@ -80,8 +81,8 @@ fn with_later(set: u32, earlier: u32, i: usize, k: usize) -> u32
     requires { (i < most_jobs) × (k < most_jobs) }
     ensures { result ≡ cond (bit earlier i) (with_bit set k) set }
 {
-    if bits::test32(earlier, i) {
-        return bits::set32(set, k);
+    if earlier.has(i) {
+        return set.with(k);
     }
     set
 }

@@ -8,6 +8,7 @@ ghost use Rattle.tables.specs.Tables.{minutes_at, earlier_at, count_of, Fit};
 ghost use Rattle.weights.specs.Weights.{Put};
 ghost use Rattle.releases.specs.Releases.{first_at, Releases};
 
+use bits::Set;
 use figures::{MOST_JOBS, NO_MINUTE};
 use tables::Jobs;
 use values::Figures;
@@ -59,11 +60,8 @@ fn ended(release: &[u16; MOST_JOBS], jobs: &Jobs, set: u32) -> u16
     ensures { (x : ℕ) → ((i : ℕ) → bit set i ≡ true → get_or release.now i 0 + minutes_at jobs.now i ≤ x) → result ≤ x }
 {
     let mut latest: u16 = 0;
-    let mut todo = set;
-    while todo != 0 {
-        let i = bits::lowest32(todo);
-        latest = counting::larger(latest, end_of(release[i], jobs.minutes(i)));
-        todo = bits::without_lowest32(todo);
+    for i in set.members() {
+        latest = latest.max(end_of(release[i], jobs.minutes(i)));
     }
     latest
 }
@@ -76,9 +74,9 @@ fn raised(release: &[u16; MOST_JOBS], jobs: &Jobs, set: u32, k: usize) -> u16
         → get_or release.now i 0 + minutes_at jobs.now i ≤ x) → result ≤ x) }
 {
     let count = jobs.count();
-    let before = bits::below32(jobs.earlier(k) & set, count);
+    let before = (jobs.earlier(k) & set).below(count);
     let least = ended(release, jobs, before);
-    counting::larger(release[k], least)
+    release[k].max(least)
 }
 
 // The releases of the jobs of a set, none of which starts before its start in `at`, or minute `least` where it may not come next. Waits for jobs

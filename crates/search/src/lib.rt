@@ -16,6 +16,7 @@ ghost use Rattle.fitting.specs.Fitting.{slate_size};
 ghost use Rattle.search.specs.Search.{Unlimited, Outcome, Fails, none_found, SettledSo, Going, Searching, Choosing, Remembered};
 ghost use Rattle.search.specs.Search.{no_limit, kept_as, Lowering, Lowered, Lowest, LowestIf, Placing, TieRuled, NoneBefore, WithinLimit};
 
+use bits::Set;
 use figures::{MOST_JOBS, NO_MINUTE};
 use fitting::{SLATE_PLACES, Slate};
 use listing::Found;
@@ -153,8 +154,8 @@ fn visit(
         if found.hit || *left == 0 {
             return found;
         }
-        untried = bits::clear32(untried, c.job);
-        tried = bits::set32(tried, c.job);
+        untried = untried.without(c.job);
+        tried = tried.with(c.job);
         c = candidates::next_choice(prepared, &at, untried, count);
     }
     memory::remember(memory, part, count);
@@ -347,7 +348,7 @@ fn settle_place(
     ensures limit { Unlimited left.old left.new }
 {
     let k = part.placed;
-    let stop = counting::index(best.order[k]);
+    let stop = usize::from(best.order[k]);
     for j in 0..stop {
         let found = try_place(memory, left, part, j, best.end, jobs, prepared);
         if found.hit {
@@ -393,7 +394,7 @@ fn first_order(
         if *left == 0 {
             return best;
         }
-        go_on(&mut part, counting::index(best.order[k]), jobs);
+        go_on(&mut part, usize::from(best.order[k]), jobs);
     }
     best
 }

@@ -11,6 +11,7 @@ use Rattle.schedule.specs.Plan.{Sheet, Circular}
 use Rattle.schedule.specs.Cabinets.{with_modules, ends_by}
 use Rattle.schedule.proofs.Same.{SameJobs, circular_same}
 use Rattle.schedule.proofs.Larger.{same_with, marks_with}
+use Rattle.tables.specs.declared.Jobs.{Jobs}
 use Rattle.tables.specs.Tables.{sheet_of, count_of, Fit}
 use Rattle.job_table.specs.Table.{for_cabinet, FitJobs}
 use Rattle.card.specs.Card.{card_size}
@@ -34,8 +35,8 @@ use Rattle.sizing.proofs.Refusals.{behind-reading, number_same, Enough, enough}
 
 -- ---- the card of the least count
 
-module _ (t : List ℕ) (a : Askable t) (by : ℕ) (y : least_count (sheet_of t) by ≤ most_modules) (k : ℕ)
-    (q : k ≡ least_count (sheet_of t) by) (u : List ℕ) (e : u ≡ for_cabinet t k) where
+module _ (t : Jobs) (a : Askable t) (by : ℕ) (y : least_count (sheet_of t) by ≤ most_modules) (k : ℕ)
+    (q : k ≡ least_count (sheet_of t) by) (u : Jobs) (e : u ≡ for_cabinet t k) where
   same : SameJobs (sheet_of u) (with_modules (sheet_of t) k)
   same = same-table t a k by u e
 
@@ -76,7 +77,7 @@ module _ (s : List ℕ) (by : ℕ) (card work : List ℕ) where
       (f.refusal ∙ sym (first_in_front (read_checks s) (count_checks (sheet_in s) by (length card)) (λ z. number-some e (f.refusal ∙ z))))
       (number-some e)
 
-  module _ (t : List ℕ) (f : ReadOf s (Ok t)) (k : ℕ) (e : k ≡ count_refusal (sheet_of t) by (length card)) where
+  module _ (t : Jobs) (f : ReadOf s (Ok t)) (k : ℕ) (e : k ≡ count_refusal (sheet_of t) by (length card)) where
     fit : FitJobs t
     fit = jobs_read s t f
 

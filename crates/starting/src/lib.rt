@@ -8,6 +8,7 @@ ghost use Rattle.bits.specs.Bits.{with_bit};
 ghost use Rattle.tables.specs.Tables.{kept_at, count_of};
 ghost use Rattle.starting.specs.Starting.{Alone, EndOfOne, AllEarly};
 
+use bits::Set;
 use figures::MOST_JOBS;
 use relations::ROW;
 use tables::{Jobs, Prepared};
@@ -34,13 +35,10 @@ pub fn first_alone(
     requires { count ≤ most_jobs }
     ensures { result < count → (get_or at.now result 0 ≡ least) × Alone prepared.now.related set result }
 {
-    let mut todo = bits::below32(set, count);
-    while todo != 0 {
-        let i = bits::lowest32(todo);
+    for i in set.below(count).members() {
         if alone_at(prepared, at[i], least, set, i) {
             return i;
         }
-        todo = bits::without_lowest32(todo);
     }
     count
 }
@@ -63,11 +61,8 @@ pub fn first_end(jobs: &Jobs, at: &[u16; MOST_JOBS], set: u32) -> u32
     ensures { EndOfOne jobs.now at.now result }
 {
     let mut r: u32 = NO_END;
-    let mut todo = bits::below32(set, jobs.count());
-    while todo != 0 {
-        let j = bits::lowest32(todo);
+    for j in set.below(jobs.count()).members() {
         r = or_ends(jobs, r, at[j], j);
-        todo = bits::without_lowest32(todo);
     }
     r
 }
@@ -78,7 +73,7 @@ fn with_early(r: u32, start: u16, end: u32, j: usize) -> u32
     ensures { result ≡ cond (ltb start end) (with_bit r j) r }
 {
     if (start as u32) < end {
-        return bits::set32(r, j);
+        return r.with(j);
     }
     r
 }
@@ -89,11 +84,8 @@ pub fn early(at: &[u16; MOST_JOBS], end: u32, set: u32, count: usize) -> u32
     ensures { AllEarly at.now end set count result }
 {
     let mut r: u32 = 0;
-    let mut todo = bits::below32(set, count);
-    while todo != 0 {
-        let j = bits::lowest32(todo);
+    for j in set.below(count).members() {
         r = with_early(r, at[j], end, j);
-        todo = bits::without_lowest32(todo);
     }
     r
 }

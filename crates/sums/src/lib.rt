@@ -10,6 +10,7 @@ ghost use Rattle.choices.specs.Choices.{longest};
 ghost use Rattle.sums.specs.Sums.{longest_pair, Rounded, AllHere, Step, RoundedToSum};
 ghost use Rattle.sums.specs.Serving.{Running, Narrow, served_from, most_served, Unserved};
 
+use bits::Set;
 use choices::{longest_fit, subset_sums};
 use tables::{Jobs, Part};
 
@@ -33,7 +34,7 @@ fn longest_pair(low: &[u16], lows: usize, high: &[u16], highs: usize, x: u16) ->
 {
     let mut r: u16 = 0;
     for i in 0..lows {
-        r = counting::larger(r, paired(high, highs, low[i], x));
+        r = r.max(paired(high, highs, low[i], x));
     }
     r
 }
@@ -175,7 +176,7 @@ pub fn unserved(jobs: &Jobs, part: &Part, gone: usize, free: u16, least: u16, cl
     ensures { result ≡ true → Unserved jobs.now part.now least close }
 {
     let set = part.unplaced;
-    if bits::ones32(set) > SERVED_JOBS {
+    if set.size() > SERVED_JOBS {
         return false;
     }
     let mut at = [0u16; SERVED_SUMS];

@@ -12,14 +12,14 @@ use checking::Refusal;
 use sheet_format::Cabinet;
 use sheet_format::checks::{check_figures, outside};
 use sheet_format::layout::{LONGEST_SHEET, RECORD_SIZE, TRAILER_SIZE};
-use words::{read16, read32, write16, write32};
+use words::Number;
 
 // The offset of the first record.
 pub fn offset(sheet: &[u8]) -> u32
     requires { trailer_size ≤ length sheet.now }
     ensures { result ≡ offset_of sheet.now }
 {
-    read32(sheet, sheet.len() - TRAILER_SIZE)
+    u32::read(sheet, sheet.len() - TRAILER_SIZE)
 }
 
 // n.
@@ -27,7 +27,7 @@ pub fn count(sheet: &[u8]) -> u16
     requires { trailer_size ≤ length sheet.now }
     ensures { result ≡ count_of sheet.now }
 {
-    read16(sheet, sheet.len() - TRAILER_SIZE + 4)
+    u16::read(sheet, sheet.len() - TRAILER_SIZE + 4)
 }
 
 // N and the changeover.
@@ -36,8 +36,8 @@ pub fn cabinet(sheet: &[u8]) -> Cabinet
     ensures { result ≡ cabinet_of sheet.now }
 {
     Cabinet {
-        modules: read16(sheet, sheet.len() - TRAILER_SIZE + 6),
-        changeover: read16(sheet, sheet.len() - TRAILER_SIZE + 8),
+        modules: u16::read(sheet, sheet.len() - TRAILER_SIZE + 6),
+        changeover: u16::read(sheet, sheet.len() - TRAILER_SIZE + 8),
     }
 }
 
@@ -61,8 +61,8 @@ pub fn write(part: &mut [u8], offset: u32, count: u16, cabinet: Cabinet)
     requires { length part.old ≡ trailer_size }
     ensures { part.new ≡ trailer_bytes offset count cabinet }
 {
-    write32(part, 0, offset);
-    write16(part, 4, count);
-    write16(part, 6, cabinet.modules);
-    write16(part, 8, cabinet.changeover);
+    u32::write(part, 0, offset);
+    u16::write(part, 4, count);
+    u16::write(part, 6, cabinet.modules);
+    u16::write(part, 8, cabinet.changeover);
 }

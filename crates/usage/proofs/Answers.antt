@@ -13,6 +13,7 @@ use Rattle.schedule.specs.Plan.{Circular}
 use Rattle.schedule.specs.TieRule.{end_of}
 use Rattle.schedule.specs.Ends.{EarliestEnd}
 use Rattle.schedule.proofs.Theorems.{best_exists, best_valid}
+use Rattle.tables.specs.declared.Jobs.{Jobs}
 use Rattle.tables.specs.Tables.{sheet_of, count_of, modules_of, Fit}
 use Rattle.std.specs.Prelude.{Ok, Err}
 use Rattle.checking.specs.Refusals.{number_of}
@@ -63,7 +64,7 @@ module _ (s work : List ℕ) where
       refused_leaves (number_of e)
       (f.refusal ∙ sym (first_in_front (planable_checks s) (job_checks (sheet_in s)) (λ z. number-some e (f.refusal ∙ z)))) (number-some e)
 
-  module _ (t : List ℕ) (f : CheckedOf s (Ok t)) where
+  module _ (t : Jobs) (f : CheckedOf s (Ok t)) where
     passed : planable_refusal s ≡ 0
     passed = sym f.refusal
 

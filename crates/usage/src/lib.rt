@@ -30,10 +30,10 @@ pub fn used(sheet: &[u8], work: &mut [u8]) -> Usage
         Ok(jobs) => jobs,
         Err(refusal) => return refused(refusal),
     };
-    if tables::count(&jobs) == 0 {
+    if jobs.count() == 0 {
         return refused(Refusal::NoJobs);
     }
     let end = search::earliest(work, &jobs);
     let occupied = occupancy::work_of(&jobs);
-    occupancy::share(occupied, counting::times(tables::modules(&jobs), end))
+    occupancy::share(occupied, counting::times(jobs.modules(), end))
 }

@@ -34,7 +34,7 @@ fn with_value(old: &[u16; STEPS], width: usize, value: u16) -> Reach
 {
     let mut next = *old;
     for x in width..STEPS {
-        next[x] = counting::larger(old[x], value + old[x - width]);
+        next[x] = old[x].max(value + old[x - width]);
     }
     Reach { at: next }
 }

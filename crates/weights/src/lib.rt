@@ -10,6 +10,7 @@ ghost use Rattle.placement.specs.Profile.{ProfileOf};
 ghost use Rattle.weights.specs.Weights.{weightings, widths, most_size, heaviest, few_weight, all_worth, most_room, weight_in, most_with, Put};
 ghost use Rattle.weights.specs.Weights.{MostOf, WeightedTo, Weighted, WorthSmall, MostSmall, room_for, Outweighed};
 
+use bits::Set;
 use figures::{MOST_JOBS, MOST_MODULES};
 use tables::{Jobs, Part, Prepared};
 
@@ -165,11 +166,8 @@ fn set_worth(jobs: &Jobs, prepared: &Prepared, part: &Part) -> Totals
     let mut weight = Totals {
         of: [0u32; WEIGHTINGS],
     };
-    let mut todo = bits::below32(part.unplaced, jobs.count());
-    while todo != 0 {
-        let k = bits::lowest32(todo);
+    for k in part.unplaced.below(jobs.count()).members() {
         weight = with_worth(weight, prepared, k);
-        todo = bits::without_lowest32(todo);
     }
     weight
 }
@@ -178,7 +176,7 @@ fn set_worth(jobs: &Jobs, prepared: &Prepared, part: &Part) -> Totals
 pub fn next_end(at: u16, until: u16, close: u16) -> u16
     ensures { result ≡ max at (min until close) }
 {
-    counting::larger(at, counting::smaller(until, close))
+    at.max(until.min(close))
 }
 
 // The room in each weighting, with what can stand on x modules for so many minutes more.

@@ -12,8 +12,8 @@ use Rattle.branching.proofs.ends_in_block.Goals as goal
 pub loop-m-init : goal.loop-m-init
 loop-m-init c = (refl, (zero-le, growing-none _ _ _ _ _))
 
-pub test32-waited-requires : goal.test32-waited-requires
-test32-waited-requires c =
+pub has-waited-requires : goal.has-waited-requires
+has-waited-requires c =
     let tested = c in
     let low = placed-job tested.requires tested.loop-m.invariant.0 tested.loop-m-test.true refl in
     omega arith
@@ -29,8 +29,8 @@ bounds-settled-a c =
     let tested = c in
     placed-job tested.requires tested.loop-m.invariant.0 tested.loop-m-test.true refl
 
-pub test32-j_settled-requires : goal.test32-j_settled-requires
-test32-j_settled-requires c = omega (arith, c.requires.job)
+pub has-j_settled-requires : goal.has-j_settled-requires
+has-j_settled-requires c = omega (arith, c.requires.job)
 
 pub minutes-requires : goal.minutes-requires
 minutes-requires c =
@@ -49,13 +49,13 @@ loop-m-preserved c =
     let tested = c in
     let a = tested.args in
     let loop = tested.loop-m in
-    let waited = c.test32-waited in
-    let settled = c.test32-j_settled in
+    let waited = c.has-waited in
+    let settled = c.has-j_settled in
     let more = c.block_with-found in (
       loop.invariant.0,
       (
         omega (arith, tested.loop-m-test.true),
-        rw c.larger-latest.ensures
+        rw c.max-latest.ensures
             (growing-step a.jobs.now a.part.now a.settled.now a.behind a.j loop.found loop.latest loop.m
             _ _ tested.changeover-rest.result more.result refl refl tested.changeover-rest.ensures loop.invariant.1.1 (λ e.
             let s = more.ensures e in (

@@ -8,7 +8,7 @@ use Rattle.card_check.proofs.last_end.Goals as goal
 
 pub loop-j-init : goal.loop-j-init
 unfolding largest
-loop-j-init c = (omega arith, refl)
+loop-j-init c = refl
 
 pub finish-requires : goal.finish-requires
 finish-requires c =
@@ -17,10 +17,10 @@ finish-requires c =
 
 pub loop-j-preserved : goal.loop-j-preserved
 unfolding largest
-loop-j-preserved c = (omega arith, rw (add-one) (c.later-last.ensures ∙ rw (c.loop-j.invariant.1, c.finish.ensures.0) refl))
+loop-j-preserved c = rw (add-one) (c.max-last.ensures ∙ rw (c.loop-j.invariant, c.finish.ensures.0) refl)
 
 pub returns : goal.returns
 returns c =
     let a = c.args in
     let e : c.loop-j.j ≡ count_of a.jobs.now = omega arith in
-    rw (← e) c.loop-j.invariant.1
+    rw (← e) c.loop-j.invariant

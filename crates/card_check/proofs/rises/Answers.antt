@@ -14,7 +14,7 @@ use Rattle.card_check.proofs.rises.Goals as goal
 
 pub loop-k-init : goal.loop-k-init
 unfolding every
-loop-k-init c = (omega arith, (refl, refl))
+loop-k-init c = (refl, refl)
 
 pub job_at-job-requires : goal.job_at-job-requires
 job_at-job-requires c =
@@ -42,7 +42,7 @@ returns-then-begins-last c =
     let begins = rw named at c.start-begins.ensures.0 in
     let inside : job_at S a.card.now c.loop-k.k < count_of a.jobs.now = omega (arith, named, c.count-n.ensures, c.if-n-job.false) in
     let falls : start_on a.card.now (job_at S a.card.now c.loop-k.k) < start_before S a.card.now c.loop-k.k =
-    omega (arith, begins, c.loop-k.invariant.1.1, c.if-begins-last.true) in
+    omega (arith, begins, c.loop-k.invariant.1, c.if-begins-last.true) in
     sym (every-not _ (rises S a.card.now) c.loop-k.k (omega arith) (rw (lt-ltb _ _ inside, lt-leb _ _ falls) refl))
 
 pub loop-k-preserved : goal.loop-k-preserved
@@ -53,16 +53,13 @@ loop-k-preserved c =
     let begins = rw named at c.start-begins.ensures.0 in
     let inside : job_at S a.card.now c.loop-k.k < count_of a.jobs.now = omega (arith, named, c.count-n.ensures, c.if-n-job.false) in
     let steady : start_before S a.card.now c.loop-k.k ≤ start_on a.card.now (job_at S a.card.now c.loop-k.k) =
-    omega (arith, begins, c.loop-k.invariant.1.1, c.if-begins-last.false) in (
-      omega arith,
-      (
-        every_more (rises S a.card.now) c.loop-k.k c.loop-k.invariant.1.0 (rw (lt-ltb _ _ inside, le-leb _ _ steady) refl),
+    omega (arith, begins, c.loop-k.invariant.1, c.if-begins-last.false) in (
+        every_more (rises S a.card.now) c.loop-k.k c.loop-k.invariant.0 (rw (lt-ltb _ _ inside, le-leb _ _ steady) refl),
         rw (add-one) begins,
-      ),
-    )
+      )
 
 pub returns : goal.returns
 returns c =
     let a = c.args in
     let e : c.loop-k.k ≡ count_of a.jobs.now = omega arith in
-    sym (subst (λ (n : ℕ). every n (rises (sheet_of a.jobs.now) a.card.now) ≡ true) e c.loop-k.invariant.1.0)
+    sym (subst (λ (n : ℕ). every n (rises (sheet_of a.jobs.now) a.card.now) ≡ true) e c.loop-k.invariant.0)

@@ -11,7 +11,7 @@ use Rattle.card_check.proofs.times_named.Goals as goal
 
 pub loop-k-init : goal.loop-k-init
 unfolding sum
-loop-k-init c = (omega arith, refl)
+loop-k-init c = refl
 
 pub named-times-requires : goal.named-times-requires
 named-times-requires c = (omega arith, omega arith)
@@ -20,17 +20,14 @@ pub overflow_add-times : goal.overflow_add-times
 overflow_add-times c =
     let a = c.args in
     let p = names a.card.now a.n a.j in
-    record { fits = omega (arith, c.named-times.ensures, only-le (p c.loop-k.k) 1, c.loop-k.invariant.1, count-le c.loop-k.k p) }
+    record { fits = omega (arith, c.named-times.ensures, only-le (p c.loop-k.k) 1, c.loop-k.invariant, count-le c.loop-k.k p) }
 
 pub loop-k-preserved : goal.loop-k-preserved
 loop-k-preserved c =
     let a = c.args in
-    let p = names a.card.now a.n a.j in (
-      omega arith,
-      ap (λ (x : ℕ). c.loop-k.times + x) c.named-times.ensures ∙ sum_more (λ k. only (p k) 1) c.loop-k.k c.loop-k.times c.loop-k.invariant.1,
-    )
+    let p = names a.card.now a.n a.j in ap (λ (x : ℕ). c.loop-k.times + x) c.named-times.ensures ∙ sum_more (λ k. only (p k) 1) c.loop-k.k c.loop-k.times c.loop-k.invariant
 
 pub returns : goal.returns
 returns c =
     let a = c.args in
-    c.loop-k.invariant.1 ∙ ap (λ k. count k (names a.card.now a.n a.j)) (let e : c.loop-k.k ≡ a.n = omega arith in e)
+    c.loop-k.invariant ∙ ap (λ k. count k (names a.card.now a.n a.j)) (let e : c.loop-k.k ≡ a.n = omega arith in e)

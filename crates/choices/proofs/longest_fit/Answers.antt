@@ -17,7 +17,7 @@ unfolding longest largest
 loop-i-preserved c =
     let loop = c.loop-i in
     let fitting = c.fitting in
-    rw (add-one, c.larger-r.ensures, loop.invariant, fitting.ensures)
+    rw (add-one, c.max-r.ensures, loop.invariant, fitting.ensures)
 
 pub returns : goal.returns
 returns c =

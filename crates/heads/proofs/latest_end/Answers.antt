@@ -20,7 +20,7 @@ end_of-requires c =
 pub loop-i-preserved : goal.loop-i-preserved
 unfolding largest
 loop-i-preserved c =
-    rw (add-one, c.larger-r.ensures, c.end_of.ensures, c.loop-i.invariant)
+    rw (add-one, c.max-r.ensures, c.end_of.ensures, c.loop-i.invariant)
 
 pub returns : goal.returns
 returns c =

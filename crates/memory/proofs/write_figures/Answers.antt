@@ -8,13 +8,13 @@ pub loop-i-init : goal.loop-i-init
 loop-i-init c =
     let wrote = c in
     let start = wrote in
-    storing_first start.args.figures.now start.requires.1 start.requires.0 refl wrote.write16.ensures (search rules)
+    storing_first start.args.figures.now start.requires.1 start.requires.0 refl wrote.write.ensures (search rules)
 
 pub loop-i-preserved : goal.loop-i-preserved
 loop-i-preserved c =
     let wrote = c in
     let tested = wrote in
-    storing-step tested.loop-i.invariant tested.loop-i-test.true refl wrote.write16-in-loop-i.ensures (search rules)
+    storing-step tested.loop-i.invariant tested.loop-i-test.true refl wrote.write-in-loop-i.ensures (search rules)
 
 pub returns : goal.returns
 returns c = storing_all c.loop-i.invariant c.loop-i-test.false

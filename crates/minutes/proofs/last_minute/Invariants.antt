@@ -8,7 +8,4 @@ use Rattle.assurance.specs.Following.{end, minute}
 use Rattle.minutes.proofs.last_minute.Given as goal
 
 abbrev pub invariant-loop-j : goal.invariant-loop-j
-invariant-loop-j l = (l.j ≤ count_of l.jobs) × (l.last ≡ largest l.j (λ i. minute (sheet_of l.jobs) (plan_on l.card) (end i) + 1))
-
-abbrev pub decreases-loop-j : goal.decreases-loop-j
-decreases-loop-j l = l.count - l.j
+invariant-loop-j l = l.last ≡ largest l.j (λ i. minute (sheet_of l.jobs) (plan_on l.card) (end i) + 1)

@@ -8,8 +8,4 @@ use Rattle.plan_text.specs.Rows.{row_line}
 use Rattle.plan_text.proofs.with_rows.Given as goal
 
 abbrev pub invariant-loop-j : goal.invariant-loop-j
-invariant-loop-j l =
-    (l.j ≤ l.jobs) × (l.next ≡ adding l.initial.next (joined l.j (λ i. row_line l.sheet l.card (departure_of l.sheet i) i)))
-
-abbrev pub decreases-loop-j : goal.decreases-loop-j
-decreases-loop-j l = l.jobs - l.j
+invariant-loop-j l = l.next ≡ adding l.initial.next (joined l.j (λ i. row_line l.sheet l.card (departure_of l.sheet i) i))

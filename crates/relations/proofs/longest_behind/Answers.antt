@@ -15,7 +15,7 @@ pub loop-i-preserved : goal.loop-i-preserved
 unfolding largest
 loop-i-preserved c =
     let tested = c in
-    rw (add-one, c.larger-r.ensures, c.behind.ensures, c.earlier.ensures, tested.loop-i.invariant)
+    rw (add-one, c.max-r.ensures, c.behind.ensures, c.earlier.ensures, tested.loop-i.invariant)
 
 pub returns : goal.returns
 returns c =

@@ -21,4 +21,4 @@ placed s card c size x y = record {
 pub returns : goal.returns
 returns c =
     let a = c.args in
-    ap₂ (placed a.sheet.now a.card.now a.controller a.size) c.sheet_places-kept_sheet.ensures c.card_places-kept_card.ensures
+    ap₂ (placed a.sheet.now a.card.now a.controller a.size) c.in_places-kept_sheet.ensures c.in_places-kept_card.ensures

@@ -196,8 +196,8 @@ visit-returns-then-found t c =
     ] in
     record { outcome = found_below (word_of front.args.part.now) past.loop-c.c.job try.outcome over; settled = try.settled; remembered = try.remembered; size = try.size ∙ inv.1.0 ∙ far.cut_off.ensures.size; limit = λ e. try.limit (inv.1.1 (front.used_up.ensures.limit e)) }
 
-pub visit-clear32-untried-requires : goal.visit-clear32-untried-requires
-visit-clear32-untried-requires t c =
+pub visit-without-untried-requires : goal.visit-without-untried-requires
+visit-without-untried-requires t c =
     let past = c in
     let far = past in
     let front = far in
@@ -205,8 +205,8 @@ visit-clear32-untried-requires t c =
     let chosen = choice.some (chosen_low choice past.loop-c-test.true) in
     omega (arith, chosen.0, front.requires.going.known.fit.few)
 
-pub visit-set32-tried-requires : goal.visit-set32-tried-requires
-visit-set32-tried-requires t c =
+pub visit-with-tried-requires : goal.visit-with-tried-requires
+visit-with-tried-requires t c =
     let past = c in
     let far = past in
     let front = far in
@@ -229,7 +229,7 @@ visit-loop-c-smaller t c =
     let far = past in
     let choice = far.loop-c.invariant.0.choice in
     let fewer = chosen_in choice (chosen_low choice past.loop-c-test.true) in
-    rw c.clear32-untried.ensures (omega (arith, fewer))
+    rw c.without-untried.ensures (omega (arith, fewer))
 
 pub visit-loop-c-preserved : goal.visit-loop-c-preserved
 visit-loop-c-preserved t c =
@@ -237,14 +237,14 @@ visit-loop-c-preserved t c =
     let far = past in
     let front = far in
     let edge = front in
-    let clear32 = c.clear32-untried in
+    let without = c.without-untried in
     let p = edge.requires in
     let loop = far.loop-c in
     let sweep = loop.invariant.0 in
     let low = chosen_low sweep.choice past.loop-c-test.true in
     let try = past.try_children-found in
-    let next = rw (clear32.ensures, front.count-count.ensures) at c.next_choice-c-in-loop-c.ensures in (
-      rw (clear32.ensures, c.set32-tried.ensures)
+    let next = rw (without.ensures, front.count-count.ensures) at c.next_choice-c-in-loop-c.ensures in (
+      rw (without.ensures, c.with-tried.ensures)
           (sweep_next p.going.known front.starts_of-starts.ensures sweep low (try.ensures.outcome.miss c.if-found.false c.if-left-eq0.false) next),
       (try.ensures.settled, (try.ensures.remembered, (try.auto.memory ∙ loop.invariant.1.1.1.0, (try.ensures.size ∙ loop.invariant.1.1.1.1.0, λ e. try.ensures.limit (loop.invariant.1.1.1.1.1 e))))),
     )

@@ -28,7 +28,7 @@ try_place-found-requires c =
     let g = pre.0 in
     let p = a.part.now in
     let lower = job_below pre.1.0 p.placed (word-length g.known) pre.1.1 in
-    let below : loop.j < count_of a.jobs.now = omega (arith, c.loop-j-test.true, c.index-stop.ensures) in
+    let below : loop.j < count_of a.jobs.now = omega (arith, c.loop-j-test.true, c.from-stop.ensures) in
     (record { low = g.low; known = g.known; tabled = g.tabled; remembered = loop.invariant.1.0 }, below)
 
 pub shape_of-memory-then-found : goal.shape_of-memory-then-found
@@ -80,5 +80,5 @@ returns c =
     let k = a.part.now.placed in
     let order = a.best.order in
     let some = placed_at h k (word-length g.known) pre.1.1 in
-    let at : c.loop-j.j ≡ get_or order k 0 = omega (arith, c.loop-j.auto.j-end, c.loop-j-test.false, c.index-stop.ensures) in
+    let at : c.loop-j.j ≡ get_or order k 0 = omega (arith, c.loop-j.auto.j-end, c.loop-j-test.false, c.from-stop.ensures) in
     record { lowest = h.lowest; placed = λ s. place_miss h (get_or order k 0) some.0 some.1 (rw at at c.loop-j.invariant.0); remembered = c.loop-j.invariant.1.0; limit = c.loop-j.invariant.1.1.1 }

@@ -13,7 +13,4 @@ abbrev pub Departure : List ℕ → ℕ → ℕ → Type 0
 Departure s j x = x ≡ departure_on s j
 
 abbrev pub invariant-loop-j : goal.invariant-loop-j
-invariant-loop-j l = (l.j ≤ l.found.count) × (l.found ≡ reading l.sheet) × (l.found.count ≤ most_jobs) × Filled (Departure l.sheet) l.j l.of
-
-abbrev pub decreases-loop-j : goal.decreases-loop-j
-decreases-loop-j l = l.found.count - l.j
+invariant-loop-j l = (l.found ≡ reading l.sheet) × (l.found.count ≤ most_jobs) × Filled (Departure l.sheet) l.j l.of

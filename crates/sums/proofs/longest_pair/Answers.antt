@@ -17,7 +17,7 @@ unfolding longest_pair largest
 loop-i-preserved c =
     let loop = c.loop-i in
     let paired = c.paired in
-    rw (add-one, c.larger-r.ensures, loop.invariant, paired.ensures)
+    rw (add-one, c.max-r.ensures, loop.invariant, paired.ensures)
 
 pub returns : goal.returns
 returns c =

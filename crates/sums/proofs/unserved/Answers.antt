@@ -8,8 +8,8 @@ use Rattle.counting.proofs.Tests.{clash}
 use Rattle.sums.proofs.Serving.{few_modules, running_narrow, too_little}
 use Rattle.sums.proofs.unserved.Goals as goal
 
-pub returns-then-ones32-gt-SERVED_JOBS : goal.returns-then-ones32-gt-SERVED_JOBS
-returns-then-ones32-gt-SERVED_JOBS c = λ e. clash false e refl
+pub returns-then-size-gt-SERVED_JOBS : goal.returns-then-size-gt-SERVED_JOBS
+returns-then-size-gt-SERVED_JOBS c = λ e. clash false e refl
 
 pub returns-then-count-eq0 : goal.returns-then-count-eq0
 returns-then-count-eq0 c = λ e. clash false e refl

@@ -16,7 +16,7 @@ loop-i-preserved c =
     let args = c.args in
     let taken = c.loop-i-test.true in
     let old = loop.invariant.kept (args.from + loop.i) (λ k m e. omega (arith, pre.0.0)) in
-    let value = c.larger.ensures ∙ ap (λ (x : ℕ). max x args.least) old in
+    let value = c.max.ensures ∙ ap (λ (x : ℕ). max x args.least) old in
     put_more loop.invariant _ (λ k m e. omega arith) (omega (arith, pre.0.1, pre.1)) value
 
 pub returns : goal.returns

@@ -28,7 +28,7 @@ loop-i-preserved c =
     let taken = c.loop-i-test.true in
     let high = loop.invariant.kept (args.upper + loop.i) (λ k m e. omega (arith, pre.0.0)) in
     let low = loop.invariant.kept (args.lower + loop.i) (λ k m e. omega (arith, pre.0.0)) in
-    let value = c.larger.ensures ∙ ap (λ (x : ℕ). max x (args.v + get_or loop.slate (args.lower + loop.i) 0)) high
+    let value = c.max.ensures ∙ ap (λ (x : ℕ). max x (args.v + get_or loop.slate (args.lower + loop.i) 0)) high
     ∙ ap (λ (x : ℕ). max (row_at args.slate.now args.upper loop.i) (args.v + x)) low in
     put_more loop.invariant _ (λ k m e. omega arith) (omega (arith, pre.0.1, pre.1)) value
 
