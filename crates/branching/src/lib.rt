@@ -87,15 +87,7 @@ fn swapped(
     let rest = jobs.changeover();
     let unplaced = part.unplaced;
     for i in to_swap(prepared, part, j).below(jobs.count()).members() {
-        if starts_behind(
-            part.ends[i],
-            rest,
-            settled[i],
-            unplaced,
-            start,
-            i,
-            j,
-        ) {
+        if starts_behind(part.ends[i], rest, settled[i], unplaced, start, i, j) {
             return true;
         }
     }
@@ -162,14 +154,7 @@ fn ends_in_block(
         let end = part.ends[a];
         let waited = behind.awaited.has(a);
         let j_settled = settled[a].has(j);
-        found = block_with(
-            found,
-            waited,
-            j_settled,
-            latest,
-            end,
-            jobs.minutes(a),
-        );
+        found = block_with(found, waited, j_settled, latest, end, jobs.minutes(a));
         latest = latest.max(end + rest);
     }
     if !found {

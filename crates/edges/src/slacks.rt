@@ -1,9 +1,9 @@
 // The edges of slack.
 ghost use Rattle.std.specs.Prelude.{◌≤◌};
 
-use bits::Set;
 use super::lines::print_case;
 use super::plans::first;
+use bits::Set;
 use sheet_format::Job;
 use slack::Slacks;
 use std::io;

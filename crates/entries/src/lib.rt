@@ -57,11 +57,7 @@ pub fn entry_ahead(
     let at = SETS + way * FIGURES;
     let mut late = after_both(u16::read(group, at), l, l);
     for i in 0..jobs {
-        late += after_both(
-            u16::read(group, at + ENDS + 2 * i),
-            part.ends[i],
-            rested,
-        );
+        late += after_both(u16::read(group, at + ENDS + 2 * i), part.ends[i], rested);
     }
     late == 0
 }

@@ -4,8 +4,8 @@
 ghost use Rattle.std.specs.Prelude.{◌≡◌, ◌+◌, ◌≤◌, length};
 ghost use Rattle.figures.specs.Figures.{most_jobs};
 
-use bits::Set;
 use super::{CELLS, Slate};
+use bits::Set;
 use figures::MOST_JOBS;
 
 // One account for each number of jobs, and one more, to which the part-plan of all jobs is charged.

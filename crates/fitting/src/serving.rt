@@ -53,14 +53,7 @@ pub fn fill_rows(
     let mut from: usize = 0;
     for i in 0..count {
         let j = order[i];
-        add_job(
-            slate,
-            from,
-            frame,
-            jobs.kept(j),
-            release[j],
-            value[j],
-        );
+        add_job(slate, from, frame, jobs.kept(j), release[j], value[j]);
         from += frame.cols;
     }
     from

@@ -4,8 +4,8 @@ ghost use Rattle.counting.specs.Counting.{sum};
 ghost use Rattle.tables.specs.Tables.{need_at, count_of, Fit};
 ghost use Rattle.fitting.specs.Fitting.{top_value, Valued, NoneBeside};
 
-use bits::Set;
 use super::{CELLS, Slate};
+use bits::Set;
 use figures::MOST_JOBS;
 use tables::Jobs;
 use values::Figures;

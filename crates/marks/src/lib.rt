@@ -18,11 +18,7 @@ fn with_earlier(set: u32, from: u32, a: usize, earlier: u32) -> u32
     requires { a < most_jobs }
     ensures { result ≡ cond (bit from a) (bit_or set earlier) set }
 {
-    if from.has(a) {
-        set | earlier
-    } else {
-        set
-    }
+    if from.has(a) { set | earlier } else { set }
 }
 
 // The earlier jobs of each job of the set.

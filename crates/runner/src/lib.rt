@@ -91,7 +91,13 @@ fn not_ready(jobs: &Jobs, desk: Desk, controller: u32, size: u32) -> bool
 }
 
 // Checks 14, 24, 25 and 26.
-fn check_start(jobs: &Jobs, card: &[u8], desk: Desk, controller: u32, size: u32) -> Result<(), Refusal>
+fn check_start(
+    jobs: &Jobs,
+    card: &[u8],
+    desk: Desk,
+    controller: u32,
+    size: u32,
+) -> Result<(), Refusal>
     requires { Fit jobs.now }
     ensures { refusal_number result ≡ first_failing (run_checks (sheet_of jobs.now) card.now desk controller size) }
 {
@@ -154,7 +160,13 @@ fn no_runner() -> Runner
 }
 
 // The runner behind an accepted start, or the first check that fails.
-fn first_runner(sheet: &[u8], card: &[u8], desk: Desk, controller: u32, size: u32) -> Result<Runner, Refusal>
+fn first_runner(
+    sheet: &[u8],
+    card: &[u8],
+    desk: Desk,
+    controller: u32,
+    size: u32,
+) -> Result<Runner, Refusal>
     ensures { started_by result ≡ started sheet.now card.now desk controller size }
 {
     let jobs = planable::front(sheet)?;

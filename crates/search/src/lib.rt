@@ -75,13 +75,7 @@ fn cut_off(
     if bounds::hopeless(jobs, prepared, part, at, least, target) {
         return true;
     }
-    if memory::recall(
-        memory,
-        part,
-        jobs.count(),
-        least,
-        jobs.changeover(),
-    ) {
+    if memory::recall(memory, part, jobs.count(), least, jobs.changeover()) {
         return true;
     }
     bounds::overfilled(slate, jobs, part, at, least, target)

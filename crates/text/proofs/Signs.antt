@@ -46,4 +46,3 @@ module _ (x : ℤ) (f : SFits w32 x) where
     pub without_sign : signed x ≡ decimal (nat_abs read)
     unfolding signed
     without_sign = ap signed positive.1 ∙ ap (λ (z : ℤ). decimal (nat_abs z)) (sym (read_is ∙ positive.1))
-

@@ -54,9 +54,9 @@ loop-k-preserved c =
     let inside : job_at S a.card.now c.loop-k.k < count_of a.jobs.now = omega (arith, named, c.count-n.ensures, c.if-n-job.false) in
     let steady : start_before S a.card.now c.loop-k.k ≤ start_on a.card.now (job_at S a.card.now c.loop-k.k) =
     omega (arith, begins, c.loop-k.invariant.1, c.if-begins-last.false) in (
-        every_more (rises S a.card.now) c.loop-k.k c.loop-k.invariant.0 (rw (lt-ltb _ _ inside, le-leb _ _ steady) refl),
-        rw (add-one) begins,
-      )
+      every_more (rises S a.card.now) c.loop-k.k c.loop-k.invariant.0 (rw (lt-ltb _ _ inside, le-leb _ _ steady) refl),
+      rw (add-one) begins,
+    )
 
 pub returns : goal.returns
 returns c =

@@ -23,13 +23,15 @@ loop-i-preserved c =
     let read = c in
     let loop = read.loop-i in
     let a = read.args in
-    let at = 64 + a.way * 42 in (omega (arith, loop.invariant, one.0),
+    let at = 64 + a.way * 42 in (
+      omega (arith, loop.invariant, one.0),
       λ e.
           let so = loop.invariant.1 (omega arith) in
           let zero : c.after_both-late-in-loop-i.result ≡ 0 = omega arith in
           let here : u16_at a.group.now (at + 2 + 2 * loop.i) ≤ max (get_or a.part.now.ends loop.i 0) a.rested =
           rw (read.read-in-loop-i.ensures) at (one.1 zero) in
-          (so.0, below_more _ _ so.1 here))
+          (so.0, below_more _ _ so.1 here),
+    )
 
 pub returns : goal.returns
 returns c =

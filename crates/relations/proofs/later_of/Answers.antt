@@ -17,7 +17,7 @@ loop-k-preserved c =
     let loop = tested.loop-k in
     let a = tested.args in
     let in_set : ℕ → Bool = λ k. bit (earlier_at a.jobs.now k) a.i in rw (c.with_later-set.ensures, c.earlier.ensures) (ap (λ (x : ℕ). cond (in_set loop.k) (with_bit x loop.k) x) loop.invariant
-          ∙ set_of_more loop.k in_set)
+    ∙ set_of_more loop.k in_set)
 
 pub returns : goal.returns
 returns c =

@@ -13,7 +13,7 @@ loop-j-preserved c =
     let tested = c in
     let loop = tested.loop-j in
     let start = tested in rw c.with_row-all.ensures (related_more loop.all.of loop.j c.row_of-row.result loop.invariant.size
-          (omega (arith, tested.loop-j-test.true, tested.count-n.ensures, start.requires)) loop.invariant c.row_of-row.ensures)
+    (omega (arith, tested.loop-j-test.true, tested.count-n.ensures, start.requires)) loop.invariant c.row_of-row.ensures)
 
 pub returns : goal.returns
 returns c =

@@ -16,8 +16,8 @@ loop-i-preserved c =
     let loop = tested.loop-i in
     let start = tested in
     let a = start.args in row_more a.jobs.now a.later.now a.j start.requires.1.1 start.requires.0
-          loop.i loop.row c.with_pair-row.result (omega (arith, tested.loop-i-test.true, tested.count-n.ensures))
-          loop.invariant c.with_pair-row.ensures
+    loop.i loop.row c.with_pair-row.result (omega (arith, tested.loop-i-test.true, tested.count-n.ensures))
+    loop.invariant c.with_pair-row.ensures
 
 pub returns : goal.returns
 returns c =

@@ -34,9 +34,11 @@ loop-k-preserved c =
     let test = c in
     let inv = test.loop-k.invariant in
     let count = test in
-    let raised = c.raised-r.ensures in (length-set test.loop-k.next test.loop-k.k c.raised-r.result ∙ inv.0,
+    let raised = c.raised-r.ensures in (
+      length-set test.loop-k.next test.loop-k.k c.raised-r.result ∙ inv.0,
       raised_more inv.1 _ _ (omega (arith, test.loop-k-test.true, count.count-count.ensures))
-          (omega (arith, inv.0, test.loop-k-test.true, count.count-count.ensures, count.requires.0.few)) raised.0 raised.1)
+          (omega (arith, inv.0, test.loop-k-test.true, count.count-count.ensures, count.requires.0.few)) raised.0 raised.1,
+    )
 
 pub returns : goal.returns
 returns c = c.loop-k.invariant.1

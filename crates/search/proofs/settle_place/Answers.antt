@@ -64,9 +64,9 @@ loop-j-preserved c =
     let loop = past.loop-j in
     let p = a.part.now in
     let try = c.try_place-found in ((
-        upto_more _ a.best.end (word_of p) loop.j loop.invariant.0 (try.ensures.outcome.miss c.if-found.false (λ e. omega (arith, c.if-left-eq0.false, e))),
-        (try.ensures.remembered, (try.auto.memory ∙ loop.invariant.1.1.0, λ e. try.ensures.limit (loop.invariant.1.1.1 e))),
-      ))
+      upto_more _ a.best.end (word_of p) loop.j loop.invariant.0 (try.ensures.outcome.miss c.if-found.false (λ e. omega (arith, c.if-left-eq0.false, e))),
+      (try.ensures.remembered, (try.auto.memory ∙ loop.invariant.1.1.0, λ e. try.ensures.limit (loop.invariant.1.1.1 e))),
+    ))
 
 pub shape_of-memory : goal.shape_of-memory
 shape_of-memory c = c.loop-j.invariant.1.1.0

@@ -18,7 +18,7 @@ pub loop-b-preserved : goal.loop-b-preserved
 loop-b-preserved c =
     let a = c.args in
     let loop = c.loop-b in c.with_byte-next.ensures ∙ ap (λ (t : Text). adding t (get_or a.field.now loop.b-index 0 ∷ [])) loop.invariant
-          ∙ adding_next a.text a.field.now loop.b-index c.loop-b-test.true
+    ∙ adding_next a.text a.field.now loop.b-index c.loop-b-test.true
 
 pub returns : goal.returns
 returns c =

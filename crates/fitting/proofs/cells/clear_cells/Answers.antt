@@ -16,7 +16,7 @@ loop-i-preserved c =
     let loop = c.loop-i in
     let pre = c.requires in
     let e : 0 + loop.i ≡ loop.i = omega arith in subst (λ (p : ℕ). Put (λ x. 0 + x) c.args.slate.now (set loop.slate p 0) (loop.i + 1) (λ x. 0)) e
-          (put_more loop.invariant 0 (λ k m x. omega arith) (omega (arith, pre.0, pre.1, c.loop-i-test.true)) refl)
+    (put_more loop.invariant 0 (λ k m x. omega arith) (omega (arith, pre.0, pre.1, c.loop-i-test.true)) refl)
 
 pub returns : goal.returns
 returns c =
