@@ -120,9 +120,7 @@ fn traced(
     }
     let mut next = lanes.of;
     let mut x = values::steps(minutes_from(t, frame.close), frame.step as u32);
-    let mut i = count;
-    while 0 < i {
-        i -= 1;
+    for i in (0..count).rev() {
         let j = job_at(order, count, i);
         let step = step_back(slate, frame, i, x, jobs.kept(j), release[j]);
         next[j] = more_lanes(next[j], more, step.taken);
