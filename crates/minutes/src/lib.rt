@@ -35,7 +35,7 @@ fn due_minute(jobs: &Jobs, card: &[u8], j: usize, claiming: bool) -> u32
     }
 }
 
-// Claims power, or hands it back.
+// Claims power, or hands it back. The desk's calls answer numbers, and so do these.
 fn book(desk: Desk, controller: u32, power: u32, claiming: bool) -> Booked
     ensures { result ≡ answer_to desk (cond claiming (claim controller power) (hand_back controller power)) }
 {

@@ -10,7 +10,7 @@ ghost use Rattle.replay.specs.Slots.{with_slot, busy_at, Ending, with_job, Repla
 use figures::MOST_JOBS;
 use tables::Jobs;
 
-// Each job's start, end and module set, at the job's place.
+// Each job's start, end and module set, at the job's place: three lists, as the laws of the card and of the slacks read them.
 #[derive(Clone, Copy)]
 pub struct Slots {
     pub start: [u16; MOST_JOBS],

@@ -27,7 +27,7 @@ use Rattle.desk.specs.declared.Desk.{Desk}
 use Rattle.desk.specs.Desk.{holding, assured_share}
 use Rattle.desk.specs.Checks.{not_of_desk}
 use Rattle.runner.specs.declared.Runner.{Runner}
-use Rattle.runner.specs.Runner.{longest_card, new_runner, no_runner, wrong_size, run_checks, start_refusal, started}
+use Rattle.runner.specs.Runner.{longest_card, new_runner, wrong_size, run_checks, start_refusal, started}
 use Rattle.runner.proofs.Passes.{start_says, sheet-room, card-room}
 
 -- the checks of the desk, the size and the card are the same for sheets that say the same

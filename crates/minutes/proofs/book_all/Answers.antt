@@ -24,11 +24,6 @@ pub loop-j-init : goal.loop-j-init
 unfolding joined
 loop-j-init c = (refl, refl)
 
-pub book_if_due-booked-requires : goal.book_if_due-booked-requires
-book_if_due-booked-requires c =
-    let p = c.requires in
-    (p.0, (omega arith, p.1))
-
 pub returns-then-refusal-ne0 : goal.returns-then-refusal-ne0
 unfolding together
 returns-then-refusal-ne0 c =

@@ -1,7 +1,6 @@
 -- `minutes::book_all` meets its contract: the calls of the jobs that were passed were made.
 use mathlib.Core.Path.{◌≡◌}
-use Prim.Native.Nat.{◌≤◌, ◌-◌}
-use Rattle.tables.specs.Tables.{sheet_of, count_of}
+use Rattle.tables.specs.Tables.{sheet_of}
 use Rattle.card.specs.Decoding.{plan_on}
 use Rattle.desk.specs.Calls.{desk_after_all}
 use Rattle.assurance.specs.Minutes.{first_refusal}

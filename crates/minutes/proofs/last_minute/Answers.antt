@@ -11,14 +11,6 @@ pub loop-j-init : goal.loop-j-init
 unfolding largest
 loop-j-init c = refl
 
-pub due_minute-requires : goal.due_minute-requires
-due_minute-requires c =
-    let s = c.requires in
-    (omega (arith, s.fit.few), omega (arith, s.size))
-
-pub overflow_add-due_minute : goal.overflow_add-due_minute
-overflow_add-due_minute c = record { fits = omega (arith, c.due_minute.ensures.1) }
-
 pub loop-j-preserved : goal.loop-j-preserved
 unfolding largest
 loop-j-preserved c = rw (add-one) (c.max-last.ensures ∙ rw (c.loop-j.invariant, c.due_minute.ensures.0, add-one) refl)

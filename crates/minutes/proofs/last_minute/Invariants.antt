@@ -1,8 +1,8 @@
 -- `minutes::last_minute` meets its contract.
 use mathlib.Core.Path.{◌≡◌}
-use Prim.Native.Nat.{◌+◌, ◌≤◌, ◌-◌}
+use Prim.Native.Nat.{◌+◌}
 use Rattle.counting.specs.Counting.{largest}
-use Rattle.tables.specs.Tables.{sheet_of, count_of}
+use Rattle.tables.specs.Tables.{sheet_of}
 use Rattle.card.specs.Decoding.{plan_on}
 use Rattle.assurance.specs.Following.{end, minute}
 use Rattle.minutes.proofs.last_minute.Given as goal

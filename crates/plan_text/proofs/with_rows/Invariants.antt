@@ -1,6 +1,5 @@
 -- `plan_text::with_rows` meets its contract.
 use mathlib.Core.Path.{◌≡◌}
-use Prim.Native.Nat.{◌-◌, ◌≤◌}
 use Rattle.counting.specs.Counting.{joined}
 use Rattle.text.specs.Texts.{adding}
 use Rattle.plan_text.specs.Printed.{departure_of}

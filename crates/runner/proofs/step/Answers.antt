@@ -22,4 +22,4 @@ step_kept-requires c =
 pub returns-in-None : goal.returns-in-None
 returns-in-None c =
     let of-desk : not_of_desk c.args.desk c.args.runner.controller ≡ false = look-granted _ _ (ap (λ (r : Looked). r.refusal) (sym c.look.ensures) ∙ c.if-look-ne0.false) in
-    rw c.number.ensures (not-kept c.args.desk c.args.runner of-desk c.in-None.ensures)
+    rw c.number-in-None.ensures (not-kept c.args.desk c.args.runner of-desk c.in-None.ensures)

@@ -1,7 +1,7 @@
 -- `slack::departures_of` meets its contract.
 use mathlib.Core.Path.{◌≡◌}
 use mathlib.Core.List.{List}
-use Prim.Native.Nat.{ℕ, ◌-◌, ◌≤◌}
+use Prim.Native.Nat.{ℕ, ◌≤◌}
 use Rattle.figures.specs.Figures.{most_jobs}
 use Rattle.sheet.specs.Read.{reading}
 use Rattle.marks.proofs.Steps.{Filled}

@@ -1,7 +1,7 @@
 -- `slack::entries` meets its contract.
 use mathlib.Core.Path.{◌≡◌}
 use mathlib.Core.List.{List}
-use Prim.Native.Nat.{ℕ, ◌-◌, ◌≤◌}
+use Prim.Native.Nat.{ℕ}
 use lib.ListN.{get_or}
 use Rattle.slack.specs.declared.JobSlack.{JobSlack}
 use Rattle.slack.specs.Slack.{slack_places}

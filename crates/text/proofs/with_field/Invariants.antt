@@ -1,7 +1,6 @@
 -- `text::with_field` meets its contract.
 use mathlib.Core.Path.{◌≡◌}
-use Prim.Native.Nat.{◌-◌, ◌≤◌}
-use lib.ListN.{length, take}
+use lib.ListN.{take}
 use Rattle.text.specs.Texts.{adding}
 use Rattle.text.proofs.with_field.Given as goal
 

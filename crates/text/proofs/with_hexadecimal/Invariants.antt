@@ -1,6 +1,5 @@
 -- `text::with_hexadecimal` meets its contract.
 use mathlib.Core.Path.{◌≡◌}
-use Prim.Native.Nat.{◌-◌, ◌≤◌}
 use Rattle.counting.specs.Counting.{joined}
 use Rattle.text.specs.Numbers.{hex_digit}
 use Rattle.text.specs.Texts.{adding}
