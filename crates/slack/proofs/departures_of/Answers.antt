@@ -12,16 +12,20 @@ use Rattle.slack.proofs.departures_of.Goals as goal
 
 pub loop-j-init : goal.loop-j-init
 loop-j-init c =
-    let s = c.args.sheet.now in (c.read-found.ensures,
+    let s = c.args.sheet.now in (
+      c.read-found.ensures,
       rw c.read-found.ensures (few_read s (passes s c.requires).reads),
-      filled_none (Departure s) _ refl)
+      filled_none (Departure s) _ refl,
+    )
 
 pub loop-j-preserved : goal.loop-j-preserved
 loop-j-preserved c =
     let loop = c.loop-j in
-    let inv = loop.invariant in (inv.0,
+    let inv = loop.invariant in (
+      inv.0,
       inv.1,
-      filled_more _ inv.2 (omega arith) (ap (λ (r : Reading). (jobs_in r.jobs loop.j).departure) inv.0))
+      filled_more _ inv.2 (omega arith) (ap (λ (r : Reading). (jobs_in r.jobs loop.j).departure) inv.0),
+    )
 
 pub returns : goal.returns
 returns c =

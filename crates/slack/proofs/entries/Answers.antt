@@ -16,8 +16,8 @@ pub loop-j-init : goal.loop-j-init
 loop-j-init c =
     let a = c.args in
     let none = c.no_slacks-answer.ensures in ap (λ (r : Slacks). record { refusal = r.refusal; jobs = r.jobs; count = a.count }) none
-          ∙ ap (λ (xs : List JobSlack). record { refusal = 0; jobs = xs; count = a.count })
-          (places-none (entry_at a.latest.now a.starts.now a.implied.now))
+    ∙ ap (λ (xs : List JobSlack). record { refusal = 0; jobs = xs; count = a.count })
+    (places-none (entry_at a.latest.now a.starts.now a.implied.now))
 
 pub entry-requires : goal.entry-requires
 entry-requires c =
@@ -29,7 +29,7 @@ loop-j-preserved c =
     let a = c.args in
     let at = entry_at a.latest.now a.starts.now a.implied.now in
     let low : loop.j < most_jobs = omega (arith, c.requires.0, c.loop-j-test.true) in (λ i. record { refusal = (loop.invariant i).refusal; jobs = set (loop.invariant i).jobs loop.j (c.entry.ensures i); count = (loop.invariant i).count })
-          ∙ ap (λ (xs : List JobSlack). record { refusal = 0; jobs = xs; count = a.count }) (places_more at loop.j low)
+    ∙ ap (λ (xs : List JobSlack). record { refusal = 0; jobs = xs; count = a.count }) (places_more at loop.j low)
 
 pub returns : goal.returns
 returns c =
