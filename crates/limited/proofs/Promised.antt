@@ -44,7 +44,7 @@ module _ (s card after o : List ℕ) (limit : ℕ) (r : Limited) (e : plan_refus
   abbrev table : (t : Jobs) × TableOf (reading s) t
   table = has-table (reading s) (few_read s p.reads)
 
-  abbrev t : List ℕ
+  abbrev t : Jobs
   t = table.0
 
   abbrev ready : Ready s t

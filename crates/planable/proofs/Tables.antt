@@ -23,7 +23,7 @@ use Rattle.job_table.proofs.Cabinets.{fit_of}
 use Rattle.planable.specs.Planable.{sheet_in}
 use Rattle.schedule.proofs.Same.{SameJobs, wide_same}
 
-module _ (s : Jobs) (e : read_refusal s ≡ 0) where
+module _ (s : List ℕ) (e : read_refusal s ≡ 0) where
   abbrev r : Reading
   r = reading s
 
@@ -73,7 +73,6 @@ module _ (s : Jobs) (e : read_refusal s ≡ 0) where
 
     pub jobs_fit : FitJobs t
     jobs_fit = record {
-      size = h.size;
       few = omega (arith, few_read, h.count);
       lasting = λ j l. omega (arith, same_jobs.minutes j l, (job_read j (low l)).minutes-some);
       short = λ j l. omega (arith, same_jobs.minutes j l, (job_read j (low l)).minutes_most);

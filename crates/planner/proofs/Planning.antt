@@ -138,7 +138,7 @@ module _ (s card : List ℕ) (e : plan_refusal s (length card) ≡ 0) where
   abbrev table : (t : Jobs) × TableOf (reading s) t
   table = has-table (reading s) (few_read s p.reads)
 
-  abbrev t : List ℕ
+  abbrev t : Jobs
   t = table.0
 
   abbrev ready : Ready s t

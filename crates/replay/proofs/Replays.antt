@@ -20,7 +20,7 @@ use Rattle.schedule.proofs.Sound.{completes_all, order_completes}
 use Rattle.schedule.proofs.Prefixes.{order_split, part_more}
 use Rattle.tables.specs.declared.Jobs.{Jobs}
 use Rattle.tables.specs.Tables.{sheet_of, minutes_at, count_of, changeover_of, Fit}
-use Rattle.tables.specs.Part.{Part}
+use Rattle.tables.specs.declared.Part.{Part}
 use Rattle.tables.proofs.Ends.{ends_short}
 use Rattle.placement.specs.Part.{StartFor, IsPart, Placeable, Placed}
 use Rattle.placement.proofs.Parts.{start_is, start_short, placeable, placed_part}

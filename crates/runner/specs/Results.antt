@@ -12,7 +12,7 @@ use Rattle.checking.specs.declared.Refusal.{Refusal}
 use Rattle.checking.specs.Refusals.{number_of}
 
 -- the table of the sheet that the runner keeps, where what it keeps would start on some desk
-abbrev pub KeptOf : Runner → Option (List ℕ) → Type 0
+abbrev pub KeptOf : Runner → Option Jobs → Type 0
 KeptOf r None = kept_ok r ≡ false
 KeptOf r (Some t) = (kept_ok r ≡ true) × TableOf (reading (kept_sheet r)) t
 
