@@ -7,10 +7,10 @@ ghost use Rattle.counting.specs.Counting.{only, sum};
 ghost use Rattle.bits.specs.Bits.{bit};
 ghost use Rattle.schedule.specs.Bounds.{minutes_behind};
 ghost use Rattle.tables.specs.Tables.{modules_of, count_of, changeover_of, Fit};
-ghost use Rattle.tables.specs.Part.{part_in};
 ghost use Rattle.placement.specs.Profile.{held_since};
 ghost use Rattle.areas.specs.Areas.{most_left, HeldAfter, HeldLater, late_work, TooLate};
 
+use bits::Set;
 use figures::NO_MINUTE;
 use tables::{Jobs, Part, Prepared};
 
@@ -28,39 +28,37 @@ fn stretch(until: u16, held: u16, l: u16) -> u32
 
 // The module-minutes that are held from minute l on.
 fn held_after(part: &Part, l: u16) -> u32
-    requires { HeldAfter (part_in part.now) l }
-    ensures { result ≡ held_since (part_in part.now) l }
+    requires { HeldAfter part.now l }
+    ensures { result ≡ held_since part.now l }
 {
-    let count = tables::placed(part);
+    let count = part.placed;
     let mut total: u32 = 0;
-    let mut i = tables::gone(part);
-    while i < count {
-        total += stretch(tables::until(part, i), tables::held(part, i), l);
-        i += 1;
+    for i in part.gone..count {
+        total += stretch(part.until[i], part.held[i], l);
     }
     total
 }
 
 // Whether the modules cannot do by minute `close`, when all are given back, what is gone at minute l, what is still held and what is left.
 pub fn crowded(part: &Part, modules: u16, l: u16, close: u16) -> bool
-    requires { (HeldAfter (part_in part.now) l) × (((part_in part.now).left ≤ most_left) × (modules ≤ most_modules)) }
+    requires { (HeldAfter part.now l) × ((part.now.left ≤ most_left) × (modules ≤ most_modules)) }
     ensures { result ≡ true → modules * close
-        < modules * l + (held_since (part_in part.now) l + (part_in part.now).left) }
+        < modules * l + (held_since part.now l + part.now.left) }
 {
     let m = modules as u32;
-    m * (close as u32) < m * (l as u32) + (held_after(part, l) + tables::left(part))
+    m * (close as u32) < m * (l as u32) + (held_after(part, l) + part.left)
 }
 
 // ---- from a job's head on
 
 // For how long a job that starts from minute `first` on keeps its modules behind minute a, at least.
-fn late_minutes(kept: u16, first: u32, a: u16) -> u16
+fn late_minutes(kept: u16, first: u16, a: u16) -> u16
     ensures { result ≡ minutes_behind first a kept }
 {
-    if (a as u32) <= first {
+    if a <= first {
         return kept;
     }
-    let before = a - (first as u16);
+    let before = a - first;
     if kept <= before {
         return 0;
     }
@@ -74,27 +72,24 @@ fn late_work(jobs: &Jobs, prepared: &Prepared, set: u32, l: u16, a: u16) -> u32
         (λ k. only (bit set k) (late_work jobs.now prepared.now l a k)) }
 {
     let mut total: u32 = 0;
-    let mut todo = bits::below32(set, tables::count(jobs));
-    while todo != 0 {
-        let k = bits::lowest32(todo);
+    for k in set.below(jobs.count()).members() {
         let first = heads::first_start(prepared, l, k);
-        let behind = late_minutes(tables::kept(jobs, k), first, a);
-        total += counting::times(tables::need(jobs, k), behind);
-        todo = bits::without_lowest32(todo);
+        let behind = late_minutes(jobs.kept(k), first, a);
+        total += counting::times(jobs.need(k), behind);
     }
     total
 }
 
 // Whether the modules cannot do from minute a up to minute `close` what is held and what is left behind minute a.
 fn late_from(jobs: &Jobs, prepared: &Prepared, part: &Part, l: u16, a: u16, close: u16) -> bool
-    requires { (Fit jobs.now) × ((HeldAfter (part_in part.now) a) × (a ≤ close)) }
+    requires { (Fit jobs.now) × ((HeldAfter part.now a) × (a ≤ close)) }
     ensures { result ≡ true → modules_of jobs.now * (close - a)
         < sum (count_of jobs.now)
-        (λ k. only (bit (part_in part.now).unplaced k) (late_work jobs.now prepared.now l a k))
-        + held_since (part_in part.now) a }
+        (λ k. only (bit part.now.unplaced k) (late_work jobs.now prepared.now l a k))
+        + held_since part.now a }
 {
-    let room = counting::times(tables::modules(jobs), close - a);
-    let work = late_work(jobs, prepared, tables::unplaced(part), l, a);
+    let room = counting::times(jobs.modules(), close - a);
+    let work = late_work(jobs, prepared, part.unplaced, l, a);
     room < work + held_after(part, a)
 }
 
@@ -108,15 +103,14 @@ fn late_job(
     close: u16,
     k: usize,
 ) -> bool
-    requires { ((Fit jobs.now) × (HeldLater (part_in part.now))) × ((k < count_of jobs.now) × (target ≤ close)) }
-    ensures { result ≡ true → TooLate jobs.now prepared.now (part_in part.now) target close }
+    requires { ((Fit jobs.now) × (HeldLater part.now)) × ((k < count_of jobs.now) × (target ≤ close)) }
+    ensures { result ≡ true → TooLate jobs.now prepared.now part.now target close }
 {
-    let head = tables::head(prepared, k);
-    if (target as u64) < (head as u64) + (tables::tail(prepared, k) as u64) {
+    let a = prepared.heads[k];
+    if (target as u32) < (a as u32) + (prepared.tails[k] as u32) {
         return true;
     }
-    let a = head as u16;
-    let last = tables::last(part);
+    let last = part.last;
     if a <= last {
         return false;
     }
@@ -125,21 +119,18 @@ fn late_job(
 
 // Whether that is so of some unplaced job.
 pub fn too_late(jobs: &Jobs, prepared: &Prepared, part: &Part, target: u16) -> bool
-    requires { (Fit jobs.now) × (HeldLater (part_in part.now)) }
-    ensures { result ≡ true → TooLate jobs.now prepared.now (part_in part.now) target
+    requires { (Fit jobs.now) × (HeldLater part.now) }
+    ensures { result ≡ true → TooLate jobs.now prepared.now part.now target
         (target + changeover_of jobs.now) }
 {
-    let close = tables::closing(jobs, target);
+    let close = jobs.closing(target);
     if close == NO_MINUTE {
         return false;
     }
-    let mut todo = bits::below32(tables::unplaced(part), tables::count(jobs));
-    while todo != 0 {
-        let k = bits::lowest32(todo);
+    for k in part.unplaced.below(jobs.count()).members() {
         if late_job(jobs, prepared, part, target, close, k) {
             return true;
         }
-        todo = bits::without_lowest32(todo);
     }
     false
 }

@@ -109,3 +109,7 @@ and_pow x i e =
 -- 1 shifted left within w digits
 pub one_shl : (w i : ℕ) → i < w → (1 * 2 ^ i) % 2 ^ w ≡ 2 ^ i
 one_shl w i h = shl_exact 1 i w (lit< tt) (omega arith) ∙ one-mul (2 ^ i)
+
+-- a word that is 1, moved up
+pub one_up : {x r : ℕ} (w i : ℕ) → x ≡ 1 → r ≡ x * 2 ^ i % 2 ^ w → i < w → r ≡ 2 ^ i
+one_up w i e f h = f ∙ ap (λ (y : ℕ). y * 2 ^ i % 2 ^ w) e ∙ one_shl w i h

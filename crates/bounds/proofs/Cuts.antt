@@ -7,6 +7,8 @@ use Prim.Native.Nat.{ℕ, suc, ◌+◌, ◌-◌, ◌*◌, ◌≤◌, ◌<◌}
 use native.Mathlib.Omega.{arith}
 use native.Mathlib.Numerals.{add-one}
 use lib.Count.{ones}
+use Rattle.tables.specs.declared.Jobs.{Jobs}
+use Rattle.tables.specs.declared.Prepared.{Prepared}
 use Rattle.counting.specs.Counting.{only}
 use Rattle.counting.proofs.Tests.{true-or-false}
 use Rattle.counting.proofs.Sums.{sum_same, sum-add}
@@ -16,8 +18,8 @@ use Rattle.schedule.specs.Bounds.{kept, work, todo}
 use Rattle.schedule.specs.Beginnings.{CannotBeat}
 use Rattle.schedule.proofs.Cuts.{area_cut, chain_cut}
 use Rattle.tables.specs.Tables.{sheet_of, count_of, modules_of, changeover_of}
-use Rattle.tables.specs.Part.{Part, word_of}
-use Rattle.tables.specs.Prepared.{tails_in, heads_in}
+use Rattle.tables.specs.declared.Part.{Part}
+use Rattle.tables.specs.Part.{word_of}
 use Rattle.placement.specs.Profile.{held_since}
 use Rattle.placement.proofs.Profiles.{profile_later}
 use Rattle.placement.proofs.Parts.{after_is, after_small, left_small, left-count}
@@ -30,7 +32,7 @@ use Rattle.bounds.specs.Bounds.{SomeTooLong, Hopeless, Bounding}
 use Rattle.bounds.proofs.Shortages.{short_cut}
 
 -- from the last start on, what is held is a small number
-pub held_later : {t : List ℕ} {part : Part} → Known t part → HeldLater part
+pub held_later : {t : Jobs} {part : Part} → Known t part → HeldLater part
 held_later {t} {part} known a from =
     let q = known.is.figures.profile in
     record {
@@ -40,7 +42,7 @@ held_later {t} {part} known a from =
       small = after_small t known.fit part (word_of part) known.is a;
     }
 
-module _ {t : List ℕ} {part : Part} (known : Known t part)
+module _ {t : Jobs} {part : Part} (known : Known t part)
     {at : List ℕ} {least : ℕ} (starts : JobStarts t part at least) where
   abbrev S : Sheet
   S = sheet_of t
@@ -92,9 +94,9 @@ module _ {t : List ℕ} {part : Part} (known : Known t part)
       let r = started (starts.each j l) k in
       chain_cut S known.fit.narrow w known.is.follows jobs j e r (omega (arith, chains.each j l, (starts.each j l).here r))
 
-  pub hopeless_cut : (prepared : List ℕ) (T : ℕ) → ChainsOf t (tails_in prepared) jobs → HeadsOf t (heads_in prepared) jobs
+  pub hopeless_cut : (prepared : Prepared) (T : ℕ) → ChainsOf t prepared.tails jobs → HeadsOf t prepared.heads jobs
       → 0 < ones part.unplaced → Hopeless t prepared part at least T (T + changeover_of t)
       → CannotBeat S (suc T) w
   hopeless_cut prepared T chains heads pos (inl h) = crowded_cut T pos h
-  hopeless_cut prepared T chains heads pos (inr (inl h)) = long_cut (tails_in prepared) (suc T) chains (rw add-one at h)
+  hopeless_cut prepared T chains heads pos (inr (inl h)) = long_cut prepared.tails (suc T) chains (rw add-one at h)
   hopeless_cut prepared T chains heads pos (inr (inr h)) = short_cut known starts T prepared chains heads h

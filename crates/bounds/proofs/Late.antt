@@ -6,6 +6,8 @@ use mathlib.Core.List.{List}
 use Prim.Native.Nat.{ℕ, suc, ◌+◌, ◌-◌, ◌*◌, ◌<◌, max}
 use native.Mathlib.Omega.{arith}
 use native.Mathlib.Nat.{le_of_eq}
+use Rattle.tables.specs.declared.Jobs.{Jobs}
+use Rattle.tables.specs.declared.Prepared.{Prepared}
 use Rattle.counting.specs.Counting.{only}
 use Rattle.counting.proofs.Tests.{true-or-false}
 use Rattle.counting.proofs.Sums.{sum_same, sum-add}
@@ -18,8 +20,8 @@ use Rattle.schedule.specs.Beginnings.{CannotBeat}
 use Rattle.schedule.proofs.Starts.{ready_says, start_may}
 use Rattle.schedule.proofs.Bounds.{head_cut, late_cut}
 use Rattle.tables.specs.Tables.{sheet_of, count_of, changeover_of}
-use Rattle.tables.specs.Part.{Part, word_of}
-use Rattle.tables.specs.Prepared.{tails_in, heads_in}
+use Rattle.tables.specs.declared.Part.{Part}
+use Rattle.tables.specs.Part.{word_of}
 use Rattle.placement.specs.Part.{Figures}
 use Rattle.placement.proofs.Parts.{after_is}
 use Rattle.relations.specs.Relations.{ChainsOf}
@@ -27,8 +29,8 @@ use Rattle.heads.specs.Heads.{HeadsOf}
 use Rattle.areas.specs.Areas.{late_work, LateChain, LateArea, TooLate}
 use Rattle.candidates.specs.Candidates.{Known, theory_part}
 
-module _ {t : List ℕ} {part : Part} (known : Known t part) (T : ℕ) (prepared : List ℕ)
-    (chains : ChainsOf t (tails_in prepared) (count_of t)) (heads : HeadsOf t (heads_in prepared) (count_of t)) where
+module _ {t : Jobs} {part : Part} (known : Known t part) (T : ℕ) (prepared : Prepared)
+    (chains : ChainsOf t prepared.tails (count_of t)) (heads : HeadsOf t prepared.heads (count_of t)) where
   abbrev S : Sheet
   S = sheet_of t
 

@@ -8,6 +8,8 @@ use native.Mathlib.Omega.{arith}
 use lib.Dec.{ltb, leb, eqb}
 use lib.ListN.{get_or}
 use borrow.Author.Tests.{ltb-true, lt-ltb, eqb-false}
+use Rattle.tables.specs.declared.Jobs.{Jobs}
+use Rattle.tables.specs.declared.Prepared.{Prepared}
 use Rattle.counting.specs.Counting.{only, sum}
 use Rattle.counting.proofs.Tests.{true-or-false, and_left, and_right, mul-only}
 use Rattle.counting.proofs.Sums.{sum_same}
@@ -21,8 +23,8 @@ use Rattle.schedule.proofs.Bounds.{overlap_cut, weights_cut, reach_cut, release_
 use Rattle.schedule.proofs.Chains.{start-waits}
 use Rattle.schedule.proofs.Starts.{ready_says}
 use Rattle.tables.specs.Tables.{sheet_of, need_at, kept_at, count_of, modules_of, changeover_of}
-use Rattle.tables.specs.Part.{Part, word_of}
-use Rattle.tables.specs.Prepared.{tails_in, heads_in}
+use Rattle.tables.specs.declared.Part.{Part}
+use Rattle.tables.specs.Part.{word_of}
 use Rattle.placement.specs.Profile.{held_of}
 use Rattle.placement.specs.Part.{Figures}
 use Rattle.placement.proofs.Parts.{occupied_is}
@@ -38,7 +40,7 @@ use Rattle.candidates.specs.Candidates.{Known, theory_part, JobStarts}
 use Rattle.candidates.proofs.Starting.{none_before}
 use Rattle.bounds.specs.Bounds.{TooFew}
 
-module _ {t : List ℕ} {part : Part} (known : Known t part)
+module _ {t : Jobs} {part : Part} (known : Known t part)
     {at : List ℕ} {least : ℕ} (starts : JobStarts t part at least) (T : ℕ) where
   abbrev S : Sheet
   S = sheet_of t
@@ -70,7 +72,7 @@ module _ {t : List ℕ} {part : Part} (known : Known t part)
   as-kept : (X : ℕ → Bool) (f : ℕ → ℕ → ℕ) → sum jobs (λ k. only (X k) (f k (kept_at t k))) ≡ sum jobs (λ k. only (X k) (f k (kept S k)))
   as-kept X f = sum_same jobs _ _ (λ k l. ap (λ (m : ℕ). only (X k) (f k m)) (known.fit.keeps k l))
 
-  overlapping_cut : (prepared : List ℕ) → ChainsOf t (tails_in prepared) jobs → HeadsOf t (heads_in prepared) jobs
+  overlapping_cut : (prepared : Prepared) → ChainsOf t prepared.tails jobs → HeadsOf t prepared.heads jobs
       → Overlapping t prepared part least T
       → CannotBeat S (suc T) w
   overlapping_cut prepared chains heads o =
@@ -189,7 +191,7 @@ module _ {t : List ℕ} {part : Part} (known : Known t part)
         (none_before known starts) T (kept S) u.reach lasts u.rises
         (omega (arith, behind, free, F.left, u.short))
 
-  pub short_cut : (prepared : List ℕ) → ChainsOf t (tails_in prepared) jobs → HeadsOf t (heads_in prepared) jobs
+  pub short_cut : (prepared : Prepared) → ChainsOf t prepared.tails jobs → HeadsOf t prepared.heads jobs
       → TooFew t prepared part least T C
       → CannotBeat S (suc T) w
   short_cut prepared chains heads (inl o) = overlapping_cut prepared chains heads o

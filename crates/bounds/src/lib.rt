@@ -4,14 +4,13 @@
 ghost use Rattle.std.specs.Prelude.{◌≡◌, true, ℕ, ◌+◌, ◌<◌, ◌≤◌, length, get_or};
 ghost use Rattle.figures.specs.Figures.{most_jobs, no_minute};
 ghost use Rattle.tables.specs.Tables.{modules_of, count_of, changeover_of, Fit};
-ghost use Rattle.tables.specs.Part.{part_in};
-ghost use Rattle.tables.specs.Prepared.{tails_in, worth_in, most_in, lanes_in};
 ghost use Rattle.placement.specs.Profile.{ProfileOf};
 ghost use Rattle.weights.specs.Weights.{Weighted};
 ghost use Rattle.values.specs.Values.{Laned};
 ghost use Rattle.fitting.specs.Fitting.{slate_size, release_at, OverfullFrom};
 ghost use Rattle.bounds.specs.Bounds.{SomeTooLong, TooFew, Hopeless, Bounding};
 
+use bits::Set;
 use figures::{MOST_JOBS, NO_MINUTE};
 use fitting::Slate;
 use tables::{Jobs, Part, Prepared};
@@ -19,13 +18,13 @@ use tables::{Jobs, Part, Prepared};
 // ---- chains
 
 // Whether a job that starts at `start` (NO_MINUTE: it may not come next), and the chain behind it, last until `end`.
-fn too_long(start: u16, tail: u32, end: u16) -> bool
+fn too_long(start: u16, tail: u16, end: u16) -> bool
     ensures { result ≡ true → (start < no_minute) × (end ≤ start + tail) }
 {
     if start == NO_MINUTE {
         return false;
     }
-    end as u64 <= (start as u64) + (tail as u64)
+    end as u32 <= (start as u32) + (tail as u32)
 }
 
 // Whether that is so of some job of the set.
@@ -37,15 +36,12 @@ fn some_too_long(
     end: u16,
 ) -> bool
     requires { count ≤ most_jobs }
-    ensures { result ≡ true → SomeTooLong at.now (tails_in prepared.now) count end }
+    ensures { result ≡ true → SomeTooLong at.now prepared.now.tails count end }
 {
-    let mut todo = bits::below32(set, count);
-    while todo != 0 {
-        let j = bits::lowest32(todo);
-        if too_long(at[j], tables::tail(prepared, j), end) {
+    for j in set.below(count).members() {
+        if too_long(at[j], prepared.tails[j], end) {
             return true;
         }
-        todo = bits::without_lowest32(todo);
     }
     false
 }
@@ -55,9 +51,9 @@ fn some_too_long(
 // Whether the modules that come free from minute l on are too few for the unplaced jobs to end by the target and to give them all back by
 // minute `close`: where jobs must overlap, by weights, by lanes or one by one.
 fn too_few(jobs: &Jobs, prepared: &Prepared, part: &Part, l: u16, target: u16, close: u16) -> bool
-    requires { ((Fit jobs.now) × ((Weighted jobs.now (worth_in prepared.now) (most_in prepared.now)) × (Laned jobs.now (lanes_in prepared.now))))
-        × (ProfileOf (part_in part.now) (part_in part.now).gone (part_in part.now).free (modules_of jobs.now) l) }
-    ensures { result ≡ true → TooFew jobs.now prepared.now (part_in part.now) l target close }
+    requires { ((Fit jobs.now) × ((Weighted jobs.now prepared.now.worth prepared.now.most) × (Laned jobs.now prepared.now.lanes)))
+        × (ProfileOf part.now part.now.gone part.now.free (modules_of jobs.now) l) }
+    ensures { result ≡ true → TooFew jobs.now prepared.now part.now l target close }
 {
     let ended = placement::ended_by(jobs, part, l);
     let gone = ended.gone;
@@ -85,21 +81,21 @@ pub fn hopeless(
     least: u16,
     target: u16,
 ) -> bool
-    requires { ((Fit jobs.now) × ((Weighted jobs.now (worth_in prepared.now) (most_in prepared.now)) × (Laned jobs.now (lanes_in prepared.now))))
-        × (Bounding jobs.now (part_in part.now) least) }
+    requires { ((Fit jobs.now) × ((Weighted jobs.now prepared.now.worth prepared.now.most) × (Laned jobs.now prepared.now.lanes)))
+        × (Bounding jobs.now part.now least) }
     ensures { result ≡ true
-        → Hopeless jobs.now prepared.now (part_in part.now) at.now least target
+        → Hopeless jobs.now prepared.now part.now at.now least target
         (target + changeover_of jobs.now) }
 {
-    let close = tables::closing(jobs, target);
+    let close = jobs.closing(target);
     if close == NO_MINUTE {
         return false;
     }
-    if areas::crowded(part, tables::modules(jobs), least, close) {
+    if areas::crowded(part, jobs.modules(), least, close) {
         return true;
     }
-    let unplaced = tables::unplaced(part);
-    if some_too_long(prepared, at, unplaced, tables::count(jobs), target + 1) {
+    let unplaced = part.unplaced;
+    if some_too_long(prepared, at, unplaced, jobs.count(), target + 1) {
         return true;
     }
     too_few(jobs, prepared, part, least, target, close)
@@ -118,12 +114,12 @@ pub fn overfilled(
     target: u16,
 ) -> bool
     requires { ((Fit jobs.now) × (length slate.old ≡ slate_size))
-        × (((k : ℕ) → k < count_of jobs.now → least ≤ get_or at.now k 0) × (Bounding jobs.now (part_in part.now) least)) }
+        × (((k : ℕ) → k < count_of jobs.now → least ≤ get_or at.now k 0) × (Bounding jobs.now part.now least)) }
     ensures over { result ≡ true
-        → OverfullFrom jobs.now (part_in part.now) (release_at at.now least) least (target + changeover_of jobs.now) }
+        → OverfullFrom jobs.now part.now (release_at at.now least) least (target + changeover_of jobs.now) }
     ensures size { length slate.new ≡ length slate.old }
 {
-    let close = tables::closing(jobs, target);
+    let close = jobs.closing(target);
     if close == NO_MINUTE {
         return false;
     }

@@ -12,8 +12,9 @@ use Rattle.counting.proofs.Tests.{clash, last-or_below}
 use Rattle.bits.specs.Bits.{bit, without_bit, set_of}
 use Rattle.bits.proofs.Digits.{bit-none, bit-or}
 use Rattle.bits.proofs.Walks.{Walk, walk_first, walk_none, walk_next, walk_gone}
+use Rattle.tables.specs.declared.Jobs.{Jobs}
 use Rattle.tables.specs.Tables.{minutes_at, arrival_at, earlier_at, count_of, changeover_of}
-use Rattle.tables.specs.Part.{Part}
+use Rattle.tables.specs.declared.Part.{Part}
 use Rattle.branching.specs.declared.Behind.{Behind}
 use Rattle.branching.specs.Branching.{Passing, AllAwaited, AllArrived, BlockFrom, EndsInBlock}
 use Rattle.starting.proofs.Sifting.{or-true}
@@ -21,19 +22,19 @@ use Rattle.starting.proofs.Sifting.{or-true}
 -- ---- the awaited jobs, and the last arrival
 
 -- r has those of the jobs that are not still to come, and all of them have arrived by `last`
-pub record Awaiting (t : List ℕ) (set r last todo : ℕ) : Type 0 where
+pub record Awaiting (t : Jobs) (set r last todo : ℕ) : Type 0 where
   pub walk : Walk set (count_of t) todo
   pub each : (x : ℕ) → x < count_of t → bit set x ≡ true → bit todo x ≡ false → (k : ℕ) → bit (earlier_at t x) k ≡ true → bit r k ≡ true
   pub arrived : (x : ℕ) → x < count_of t → bit set x ≡ true → bit todo x ≡ false → arrival_at t x ≤ last
 
-pub awaiting-none : (t : List ℕ) (set : ℕ) → Awaiting t set 0 0 (set_of (count_of t) (bit set))
+pub awaiting-none : (t : Jobs) (set : ℕ) → Awaiting t set 0 0 (set_of (count_of t) (bit set))
 awaiting-none t set =
     record { walk = walk_first (count_of t) set; each = λ x l b g. none x l b g; arrived = λ x l b g. none x l b g }
   where
     none : {A : Type 0} (x : ℕ) → x < count_of t → bit set x ≡ true → bit (set_of (count_of t) (bit set)) x ≡ false → A
     none x l b g = clash (bit set x) b (walk_none (count_of t) set x l g)
 
-pub awaiting-step : {t : List ℕ} {set r last todo : ℕ} (j : ℕ) → Awaiting t set r last todo
+pub awaiting-step : {t : Jobs} {set r last todo : ℕ} (j : ℕ) → Awaiting t set r last todo
     → Awaiting t set (bit_or r (earlier_at t j)) (max last (arrival_at t j)) (without_bit todo j)
 awaiting-step {t} {set} {r} {last} {todo} j h = record {
   walk = walk_next j h.walk;
@@ -50,23 +51,23 @@ awaiting-step {t} {set} {r} {last} {todo} j h = record {
     go x l b k e (inl z) = or-true (bit r k) (ap (λ (y : ℕ). bit (earlier_at t y) k) (sym z) ∙ e)
     go x l b k e (inr z) = rw (h.each x l b z k e) refl
 
-pub awaiting_all : {t : List ℕ} {set r last todo : ℕ} → Awaiting t set r last todo → todo ≡ 0 → AllAwaited t set r × AllArrived t set last
+pub awaiting_all : {t : Jobs} {set r last todo : ℕ} → Awaiting t set r last todo → todo ≡ 0 → AllAwaited t set r × AllArrived t set last
 awaiting_all h e = ((λ x l b. h.each x l b (rw e (bit-none x))), (λ x l b. h.arrived x l b (rw e (bit-none x))))
 
 -- ---- the block
 
 -- the m-th placed job is the number of a job
-pub placed-job : {t : List ℕ} {p : Part} {j placed m a : ℕ} → Passing t p j → placed ≡ p.placed → m < placed → a ≡ get_or p.order m 0
+pub placed-job : {t : Jobs} {p : Part} {j placed m a : ℕ} → Passing t p j → placed ≡ p.placed → m < placed → a ≡ get_or p.order m 0
     → a < most_jobs
 placed-job {m = m} h e l z = omega (arith, h.jobs m (omega arith))
 
 -- all of the first m placed jobs have ended and rested and all unplaced jobs have arrived by `latest`, and where a block was found, it reaches up to them
-pub record Growing (t : List ℕ) (p : Part) (settled : List ℕ) (behind : Behind) (j : ℕ) (found : Bool) (latest m : ℕ) : Type 0 where
+pub record Growing (t : Jobs) (p : Part) (settled : List ℕ) (behind : Behind) (j : ℕ) (found : Bool) (latest m : ℕ) : Type 0 where
   pub here : behind.arrived ≤ latest
   pub ended : (k : ℕ) → k < m → get_or p.ends (get_or p.order k 0) 0 + changeover_of t ≤ latest
   pub block : found ≡ true → (at : ℕ) × BlockFrom t p settled behind m j at
 
-module _ (t : List ℕ) (p : Part) (settled : List ℕ) (behind : Behind) (j : ℕ) where
+module _ (t : Jobs) (p : Part) (settled : List ℕ) (behind : Behind) (j : ℕ) where
   pub growing-none : Growing t p settled behind j false behind.arrived 0
   growing-none = record { here = omega arith; ended = λ k l. absurd (omega arith); block = λ e. clash false e refl }
 

@@ -11,13 +11,14 @@ use Rattle.figures.specs.Figures.{no_minute}
 use Rattle.counting.proofs.Tests.{less-or-not}
 use Rattle.bits.specs.Bits.{bit, with_bit}
 use Rattle.bits.proofs.Members.{bit_with}
+use Rattle.tables.specs.declared.Jobs.{Jobs}
 use Rattle.tables.specs.Tables.{count_of}
 use Rattle.starting.specs.Starting.{Alone, EndOfOne, AllEarly}
 use Rattle.branching.specs.Branching.{ComesBefore, ToTry, Trying}
 
 -- ---- the jobs to be tried
 
-module _ (t related at : List ℕ) (least set : ℕ) (h : Trying t at least set) where
+module _ (t : Jobs) (related at : List ℕ) (least set : ℕ) (h : Trying t at least set) where
   -- one that starts first and can run beside no other
   pub try_alone : (i : ℕ) → i < count_of t → get_or at i 0 ≡ least → least < no_minute → Alone related set i
       → ToTry t related at set (with_bit 0 i)

@@ -5,12 +5,11 @@ ghost use Rattle.std.specs.Prelude.{◌≡◌, ◌⊎◌, true, false, cond, ℕ
 ghost use Rattle.figures.specs.Figures.{most_jobs};
 ghost use Rattle.bits.specs.Bits.{bit, with_bit};
 ghost use Rattle.tables.specs.Tables.{kept_at, count_of};
-ghost use Rattle.tables.specs.Part.{part_in};
-ghost use Rattle.tables.specs.Prepared.{related_in};
 ghost use Rattle.relations.specs.Relations.{row_at};
 ghost use Rattle.branching.specs.Branching.{settled_now, Passing, AlikeTried, Swapped, AllAwaited, AllArrived, EndsInBlock, Blocked, PassedOver};
 ghost use Rattle.branching.specs.Branching.{ToTry, Trying};
 
+use bits::Set;
 use figures::{MOST_JOBS, NO_MINUTE};
 use relations::ROW;
 use starting::{early, first_alone, first_end};
@@ -33,9 +32,9 @@ pub fn settled_now(same: u32, tried: u32, start: u16, last: u16) -> u32
 // Whether a job that is alike was tried.
 fn alike_tried(prepared: &Prepared, tried: u32, j: usize) -> bool
     requires { j < most_jobs }
-    ensures { result ≡ true → AlikeTried (related_in prepared.now) tried j }
+    ensures { result ≡ true → AlikeTried prepared.now.related tried j }
 {
-    tried & tables::related(prepared, j * ROW) != 0
+    tried & prepared.related[j * ROW] != 0
 }
 
 // All numbers below 32 as a set.
@@ -44,9 +43,9 @@ const ALL: u32 = 4294967295;
 // The jobs that may be swapped with job j and are placed.
 fn to_swap(prepared: &Prepared, part: &Part, j: usize) -> u32
     requires { j < most_jobs }
-    ensures { (i : ℕ) → bit result i ≡ true → bit (row_at (related_in prepared.now) j).swapping i ≡ true }
+    ensures { (i : ℕ) → bit result i ≡ true → bit (row_at prepared.now.related j).swapping i ≡ true }
 {
-    tables::related(prepared, j * ROW + 1) & (ALL - tables::unplaced(part))
+    prepared.related[j * ROW + 1] & (ALL - part.unplaced)
 }
 
 // Whether job i, which ends at `end`, is placed, and job j, which would start at `start`, was settled when i was chosen and starts as the
@@ -66,10 +65,10 @@ fn starts_behind(
     if (end as u32) + (rest as u32) != (start as u32) {
         return false;
     }
-    if bits::test32(unplaced, i) {
+    if unplaced.has(i) {
         return false;
     }
-    bits::test32(settled, j)
+    settled.has(j)
 }
 
 // Whether job j would start behind a placed job that may be swapped with it and in whose place it was settled.
@@ -82,26 +81,15 @@ fn swapped(
     j: usize,
 ) -> bool
     requires { (count_of jobs.now ≤ most_jobs) × (j < most_jobs) }
-    ensures { result ≡ true → Swapped jobs.now (related_in prepared.now) (part_in part.now)
+    ensures { result ≡ true → Swapped jobs.now prepared.now.related part.now
         settled.now start j }
 {
-    let rest = tables::changeover(jobs);
-    let unplaced = tables::unplaced(part);
-    let mut todo = bits::below32(to_swap(prepared, part, j), tables::count(jobs));
-    while todo != 0 {
-        let i = bits::lowest32(todo);
-        if starts_behind(
-            tables::end(part, i),
-            rest,
-            settled[i],
-            unplaced,
-            start,
-            i,
-            j,
-        ) {
+    let rest = jobs.changeover();
+    let unplaced = part.unplaced;
+    for i in to_swap(prepared, part, j).below(jobs.count()).members() {
+        if starts_behind(part.ends[i], rest, settled[i], unplaced, start, i, j) {
             return true;
         }
-        todo = bits::without_lowest32(todo);
     }
     false
 }
@@ -115,17 +103,14 @@ pub struct Behind {
 
 fn left_behind(jobs: &Jobs, part: &Part) -> Behind
     requires { count_of jobs.now ≤ most_jobs }
-    ensures { (AllAwaited jobs.now (part_in part.now).unplaced result.awaited)
-        × (AllArrived jobs.now (part_in part.now).unplaced result.arrived) }
+    ensures { (AllAwaited jobs.now part.now.unplaced result.awaited)
+        × (AllArrived jobs.now part.now.unplaced result.arrived) }
 {
     let mut awaited: u32 = 0;
     let mut arrived: u16 = 0;
-    let mut todo = bits::below32(tables::unplaced(part), tables::count(jobs));
-    while todo != 0 {
-        let x = bits::lowest32(todo);
-        awaited = awaited | tables::earlier(jobs, x);
-        arrived = counting::larger(arrived, tables::arrival(jobs, x));
-        todo = bits::without_lowest32(todo);
+    for x in part.unplaced.below(jobs.count()).members() {
+        awaited = awaited | jobs.earlier(x);
+        arrived = arrived.max(jobs.arrival(x));
     }
     Behind { awaited, arrived }
 }
@@ -157,29 +142,20 @@ fn ends_in_block(
     start: u16,
     j: usize,
 ) -> bool
-    requires { Passing jobs.now (part_in part.now) j }
-    ensures { result ≡ true → EndsInBlock jobs.now (part_in part.now) settled.now behind start j }
+    requires { Passing jobs.now part.now j }
+    ensures { result ≡ true → EndsInBlock jobs.now part.now settled.now behind start j }
 {
-    let placed = tables::placed(part);
-    let rest = tables::changeover(jobs);
+    let placed = part.placed;
+    let rest = jobs.changeover();
     let mut found = false;
     let mut latest = behind.arrived;
-    let mut m: usize = 0;
-    while m < placed {
-        let a = tables::job_at(part, m);
-        let end = tables::end(part, a);
-        let waited = bits::test32(behind.awaited, a);
-        let j_settled = bits::test32(settled[a], j);
-        found = block_with(
-            found,
-            waited,
-            j_settled,
-            latest,
-            end,
-            tables::minutes(jobs, a),
-        );
-        latest = counting::larger(latest, end + rest);
-        m += 1;
+    for m in 0..placed {
+        let a = part.order[m] as usize;
+        let end = part.ends[a];
+        let waited = behind.awaited.has(a);
+        let j_settled = settled[a].has(j);
+        found = block_with(found, waited, j_settled, latest, end, jobs.minutes(a));
+        latest = latest.max(end + rest);
     }
     if !found {
         return false;
@@ -189,14 +165,14 @@ fn ends_in_block(
 
 // Whether job j, which would start at `start`, would come behind a block at whose beginning it was settled.
 fn blocked(jobs: &Jobs, part: &Part, settled: &[u32; MOST_JOBS], start: u16, j: usize) -> bool
-    requires { Passing jobs.now (part_in part.now) j }
-    ensures { result ≡ true → Blocked jobs.now (part_in part.now) settled.now start j }
+    requires { Passing jobs.now part.now j }
+    ensures { result ≡ true → Blocked jobs.now part.now settled.now start j }
 {
-    let placed = tables::placed(part);
+    let placed = part.placed;
     if placed == 0 {
         return false;
     }
-    if start < tables::until(part, placed - 1) {
+    if start < part.until[placed - 1] {
         return false;
     }
     ends_in_block(jobs, part, settled, left_behind(jobs, part), start, j)
@@ -213,15 +189,15 @@ pub fn passed_over(
     start: u16,
     j: usize,
 ) -> bool
-    requires { Passing jobs.now (part_in part.now) j }
-    ensures { result ≡ true → PassedOver jobs.now (related_in prepared.now) (part_in part.now)
+    requires { Passing jobs.now part.now j }
+    ensures { result ≡ true → PassedOver jobs.now prepared.now.related part.now
         settled.now same tried start j }
 {
     if alike_tried(prepared, tried, j) {
         return true;
     }
-    if start == tables::last(part) {
-        if bits::test32(same, j) {
+    if start == part.last {
+        if same.has(j) {
             return true;
         }
     }
@@ -237,15 +213,15 @@ pub fn passed_over(
 // which one can have ended and rested.
 pub fn to_try(jobs: &Jobs, prepared: &Prepared, at: &[u16; MOST_JOBS], least: u16, set: u32) -> u32
     requires { Trying jobs.now at.now least set }
-    ensures { ToTry jobs.now (related_in prepared.now) at.now set result }
+    ensures { ToTry jobs.now prepared.now.related at.now set result }
 {
     if least == NO_MINUTE {
         return set;
     }
-    let count = tables::count(jobs);
+    let count = jobs.count();
     let i = first_alone(prepared, at, least, set, count);
     if i < count {
-        return bits::set32(0, i);
+        return 0u32.with(i);
     }
     early(at, first_end(jobs, at, set), set, count)
 }

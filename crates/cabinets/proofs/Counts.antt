@@ -16,6 +16,7 @@ use Rattle.schedule.specs.Cabinets.{with_modules, ends_by}
 use Rattle.schedule.proofs.Starts.{first-minute_ge, first-minute-le, first-minute_passes}
 use Rattle.schedule.proofs.Same.{SameJobs, same_back, marks_of, circular_same, wide_same}
 use Rattle.schedule.proofs.Larger.{ends_by_when, ends_by_larger, wide_ends_by-none, ends_by_same, ends_by_test_same, same_with, marks_with}
+use Rattle.tables.specs.declared.Jobs.{Jobs}
 use Rattle.tables.specs.Tables.{sheet_of, count_of, Fit}
 use Rattle.job_table.specs.Table.{for_cabinet}
 use Rattle.job_table.proofs.Cabinets.{same_for, fit_for}
@@ -147,12 +148,12 @@ least_same h w t = λ i. first_minute (λ k. ends_by_test_same (same_with h k) w
 
 -- ---- asked of a table
 
-module _ (t : List ℕ) (a : Askable t) (k by : ℕ) (u : List ℕ) (e : u ≡ for_cabinet t k) where
+module _ (t : Jobs) (a : Askable t) (k by : ℕ) (u : Jobs) (e : u ≡ for_cabinet t k) where
   abbrev S : Sheet
   S = with_modules (sheet_of t) k
 
   pub same-table : SameJobs (sheet_of u) S
-  same-table = subst (λ (v : List ℕ). SameJobs (sheet_of v) S) (sym e) (same_for t a.jobs k)
+  same-table = subst (λ (v : Jobs). SameJobs (sheet_of v) S) (sym e) (same_for t a.jobs k)
 
   pub few_jobs : count_of u ≤ most_jobs
   few_jobs = omega (arith, same-table.jobs, a.jobs.few)
@@ -163,7 +164,7 @@ module _ (t : List ℕ) (a : Askable t) (k by : ℕ) (u : List ℕ) (e : u ≡ f
 
     pub can_ask : 0 < k → k ≤ most_modules → b ≡ false → Fit u × (¬ Circular (sheet_of u))
     can_ask some most n = (
-      subst (λ (v : List ℕ). over_wide (sheet_of v) ≡ false → Fit v) (sym e) (fit_for t a.jobs k some most) (sym w ∙ n),
+      subst (λ (v : Jobs). over_wide (sheet_of v) ≡ false → Fit v) (sym e) (fit_for t a.jobs k some most) (sym w ∙ n),
       λ c. a.free (circular_same (marks_with (sheet_of t) k) (circular_same (marks_of same-table) c)),
     )
 

@@ -4,6 +4,7 @@ use Rattle.figures.specs.Figures.{most_modules}
 use Rattle.schedule.specs.Plan.{Sheet, Circular}
 use Rattle.schedule.specs.ListPlan.{first_minute}
 use Rattle.schedule.specs.Cabinets.{with_modules, ends_by}
+use Rattle.tables.specs.declared.Jobs.{Jobs}
 use Rattle.tables.specs.Tables.{sheet_of}
 use Rattle.job_table.specs.Table.{FitJobs}
 use Rattle.cabinets.specs.declared.Between.{Between}
@@ -13,7 +14,7 @@ unfoldable pub least_count : Sheet → ℕ → ℕ
 least_count S t = first_minute (λ k. ends_by (with_modules S k) t) most_modules 1
 
 -- what can be asked of a table: its jobs fit, and they can come in some order
-pub record Askable (t : List ℕ) : Type 0 where
+pub record Askable (t : Jobs) : Type 0 where
   pub jobs : FitJobs t
   pub free : ¬ Circular (sheet_of t)
 

@@ -12,25 +12,27 @@ use Rattle.counting.proofs.Tests.{true-or-false}
 use Rattle.schedule.specs.Plan.{Sheet}
 use Rattle.schedule.specs.ListPlan.{PartPlan, no_jobs, ready}
 use Rattle.schedule.proofs.Branch.{place_within}
+use Rattle.tables.specs.declared.Jobs.{Jobs}
 use Rattle.tables.specs.Tables.{sheet_of, count_of, Fit}
-use Rattle.tables.specs.Part.{Part, word_of}
+use Rattle.tables.specs.declared.Part.{Part}
+use Rattle.tables.specs.Part.{word_of}
 use Rattle.placement.specs.Part.{FirstPart, IsPart, Placeable, Placed}
 use Rattle.placement.proofs.Parts.{first_is, left-count, start_short, placeable, fewer, placed_part}
 use Rattle.candidates.specs.Candidates.{Known, theory_part, JobStart}
 use Rattle.candidates.proofs.Starting.{started}
 
 -- before the first job
-pub first_known : (t : List ℕ) (p : Part) → Fit t → FirstPart t p → Known t p
+pub first_known : (t : Jobs) (p : Part) → Fit t → FirstPart t p → Known t p
 first_known t p fit h =
     let is = first_is t fit p h in
     record { fit = fit; is = rw is.word is }
 
-pub first_word : (t : List ℕ) (p : Part) → Fit t → FirstPart t p → word_of p ≡ []
+pub first_word : (t : Jobs) (p : Part) → Fit t → FirstPart t p → word_of p ≡ []
 first_word t p fit h = (first_is t fit p h).word
 
 -- ---- the jobs placed
 
-module _ {t : List ℕ} {p : Part} (known : Known t p) where
+module _ {t : Jobs} {p : Part} (known : Known t p) where
   pub word-length : length (word_of p) ≡ p.placed
   word-length = omega (arith, left-count t known.fit p (word_of p) known.is, known.is.figures.sizes)
 
@@ -44,14 +46,14 @@ module _ {t : List ℕ} {p : Part} (known : Known t p) where
 -- ---- the next job
 
 -- a job that may come next has a start
-pub starts_short : {t : List ℕ} {part : Part} {j s : ℕ} → Known t part
+pub starts_short : {t : Jobs} {part : Part} {j s : ℕ} → Known t part
     → ready (sheet_of t) (theory_part t part).placed j ≡ true
     → JobStart t part j s → s < 65535
 starts_short {t} {part} {j} k r h =
     omega (arith, start_short t k.fit part (word_of part) k.is j r, h.here r)
 
 -- and a job with a start may come next
-pub start_low : {t : List ℕ} {part : Part} {j s : ℕ} → Known t part
+pub start_low : {t : Jobs} {part : Part} {j s : ℕ} → Known t part
     → JobStart t part j s → ¬ (s ≡ 65535) → s < 65535
 start_low {t} {part} {j} {s} k h n =
     go (true-or-false (ready (sheet_of t) (theory_part t part).placed j))
@@ -62,7 +64,7 @@ start_low {t} {part} {j} {s} k h n =
     go (inl r) = starts_short k r h
     go (inr r) = absurd (n (h.none r))
 
-module _ {t : List ℕ} {part : Part} (known : Known t part)
+module _ {t : Jobs} {part : Part} (known : Known t part)
     {job s : ℕ} (l : job < count_of t) (start : JobStart t part job s) (low : s < 65535) where
   abbrev S : Sheet
   S = sheet_of t

@@ -16,8 +16,10 @@ use Rattle.bits.proofs.Walks.{Walk, walk_first, walk_none, walk_next, walk_gone}
 use Rattle.schedule.specs.Plan.{Sheet}
 use Rattle.schedule.specs.ListPlan.{PartPlan, ready, part_of}
 use Rattle.schedule.specs.PartPlans.{NoneBefore}
+use Rattle.tables.specs.declared.Jobs.{Jobs}
 use Rattle.tables.specs.Tables.{sheet_of, earlier_at, count_of}
-use Rattle.tables.specs.Part.{Part, word_of}
+use Rattle.tables.specs.declared.Part.{Part}
+use Rattle.tables.specs.Part.{word_of}
 use Rattle.schedule.proofs.Starts.{ready_says, start_may}
 use Rattle.placement.specs.Part.{StartFor, is_ready}
 use Rattle.placement.proofs.Parts.{ready_is, start_is, last_short}
@@ -31,7 +33,7 @@ started {S} {P} {j} h l = go (true-or-false (ready S P.placed j))
     go (inl e) = e
     go (inr e) = absurd (omega (arith, h.none e))
 
-module _ {t : List ℕ} {p : Part} (known : Known t p) where
+module _ {t : Jobs} {p : Part} (known : Known t p) where
   abbrev S : Sheet
   S = sheet_of t
 

@@ -4,8 +4,10 @@ use Rattle.figures.specs.Figures.{no_minute}
 use Rattle.bits.specs.Bits.{bit}
 use Rattle.schedule.specs.Plan.{Sheet}
 use Rattle.schedule.specs.ListPlan.{PartPlan, ready, start_of, part_of}
+use Rattle.tables.specs.declared.Jobs.{Jobs}
 use Rattle.tables.specs.Tables.{sheet_of, Fit}
-use Rattle.tables.specs.Part.{Part, word_of}
+use Rattle.tables.specs.declared.Part.{Part}
+use Rattle.tables.specs.Part.{word_of}
 use Rattle.placement.specs.Part.{IsPart}
 use Rattle.candidates.specs.declared.Choice.{Choice}
 
@@ -25,17 +27,17 @@ pub record StartsOf (S : Sheet) (P : PartPlan) (at : List ℕ) (least : ℕ) : T
 -- ---- the same, of the job table and a part-plan in code
 
 -- the job table fits, and p is a part-plan of its jobs
-pub record Known (t : List ℕ) (p : Part) : Type 0 where
+pub record Known (t : Jobs) (p : Part) : Type 0 where
   pub fit : Fit t
   pub is : IsPart (sheet_of t) (word_of p) p
 
-abbrev pub theory_part : List ℕ → Part → PartPlan
+abbrev pub theory_part : Jobs → Part → PartPlan
 theory_part t p = part_of (sheet_of t) (word_of p)
 
-abbrev pub JobStart : List ℕ → Part → ℕ → ℕ → Type 0
+abbrev pub JobStart : Jobs → Part → ℕ → ℕ → Type 0
 JobStart t p = StartOr (sheet_of t) (theory_part t p)
 
-abbrev pub JobStarts : List ℕ → Part → List ℕ → ℕ → Type 0
+abbrev pub JobStarts : Jobs → Part → List ℕ → ℕ → Type 0
 JobStarts t p = StartsOf (sheet_of t) (theory_part t p)
 
 -- ---- the next job

@@ -5,9 +5,9 @@ ghost use Rattle.std.specs.Prelude.{◌≡◌, true, ◌+◌, ◌-◌, ◌*◌, 
 ghost use Rattle.figures.specs.Figures.{most_jobs};
 ghost use Rattle.bits.specs.Bits.{bit};
 ghost use Rattle.tables.specs.Tables.{count_of};
-ghost use Rattle.tables.specs.Part.{part_in};
 ghost use Rattle.candidates.specs.Candidates.{Known, JobStart, JobStarts, LowerRank, ChoiceOf};
 
+use bits::Set;
 use figures::{MOST_JOBS, NO_MINUTE};
 use tables::{Jobs, Part, Prepared};
 
@@ -22,8 +22,8 @@ pub struct Starts {
 
 // The start of the unplaced job j, or NO_MINUTE where it may not come next.
 fn next_start(jobs: &Jobs, part: &Part, j: usize) -> u16
-    requires { (Known jobs.now (part_in part.now)) × ((j < count_of jobs.now) × (bit (part_in part.now).unplaced j ≡ true)) }
-    ensures { JobStart jobs.now (part_in part.now) j result }
+    requires { (Known jobs.now part.now) × ((j < count_of jobs.now) × (bit part.now.unplaced j ≡ true)) }
+    ensures { JobStart jobs.now part.now j result }
 {
     if placement::may_follow(jobs, part, j) {
         return placement::start_of(jobs, part, j);
@@ -33,10 +33,10 @@ fn next_start(jobs: &Jobs, part: &Part, j: usize) -> u16
 
 // The start of job j, or NO_MINUTE where it may not come next.
 pub fn start_or_none(jobs: &Jobs, part: &Part, j: usize) -> u16
-    requires { (Known jobs.now (part_in part.now)) × (j < count_of jobs.now) }
-    ensures { JobStart jobs.now (part_in part.now) j result }
+    requires { (Known jobs.now part.now) × (j < count_of jobs.now) }
+    ensures { JobStart jobs.now part.now j result }
 {
-    if bits::test32(tables::unplaced(part), j) {
+    if part.unplaced.has(j) {
         return next_start(jobs, part, j);
     }
     NO_MINUTE
@@ -44,18 +44,15 @@ pub fn start_or_none(jobs: &Jobs, part: &Part, j: usize) -> u16
 
 // The starts of all jobs that may come next.
 pub fn starts_of(jobs: &Jobs, part: &Part) -> Starts
-    requires { Known jobs.now (part_in part.now) }
-    ensures { JobStarts jobs.now (part_in part.now) result.at result.least }
+    requires { Known jobs.now part.now }
+    ensures { JobStarts jobs.now part.now result.at result.least }
 {
     let mut at = [NO_MINUTE; MOST_JOBS];
     let mut least: u16 = NO_MINUTE;
-    let mut todo = bits::below32(tables::unplaced(part), tables::count(jobs));
-    while todo != 0 {
-        let j = bits::lowest32(todo);
+    for j in part.unplaced.below(jobs.count()).members() {
         let s = next_start(jobs, part, j);
         at[j] = s;
-        least = counting::smaller(least, s);
-        todo = bits::without_lowest32(todo);
+        least = least.min(s);
     }
     Starts { at, least }
 }
@@ -80,10 +77,10 @@ struct Ranked {
 const NO_RANK: u32 = 4294901760;
 
 // The rank of a job.
-fn rank_of(start: u16, chain: u32) -> u32
-    ensures { (result ≡ start * 65536 + (65535 - chain % 65536)) × (start ≤ 65535) }
+fn rank_of(start: u16, chain: u16) -> u32
+    ensures { (result ≡ start * 65536 + (65535 - chain)) × (start ≤ 65535) }
 {
-    (start as u32) * 65536 + (65535 - chain % 65536)
+    (start as u32) * 65536 + (65535 - chain as u32)
 }
 
 // The choice so far, or job j where its rank is less.
@@ -105,11 +102,8 @@ pub fn next_choice(prepared: &Prepared, at: &[u16; MOST_JOBS], set: u32, count: 
         job: 0,
         rank: NO_RANK,
     };
-    let mut todo = bits::below32(set, count);
-    while todo != 0 {
-        let j = bits::lowest32(todo);
-        c = choose(c, j, rank_of(at[j], tables::tail(prepared, j)));
-        todo = bits::without_lowest32(todo);
+    for j in set.below(count).members() {
+        c = choose(c, j, rank_of(at[j], prepared.tails[j]));
     }
     Choice {
         job: c.job,

@@ -17,6 +17,7 @@ use Rattle.schedule.specs.Plan.{Sheet, finish}
 use Rattle.schedule.specs.ListPlan.{Order, empty_part, list_plan}
 use Rattle.schedule.specs.TieRule.{end_of}
 use Rattle.schedule.proofs.Sound.{completes_all, order_completes}
+use Rattle.tables.specs.declared.Jobs.{Jobs}
 use Rattle.tables.proofs.Ends.{ends_short}
 use Rattle.tables.specs.Tables.{sheet_of, count_of, modules_of, Fit}
 use Rattle.card.specs.Card.{row_size, row_end, row_modules, trailer_size, trailer_end, trailer_count, order_at, trailer_at, card_size}
@@ -70,7 +71,7 @@ card-length S o h =
     let tail = length-append o (trailer_bytes n (end_of S o)) in
     length-append (joined n (row_of S o)) (o ++ trailer_bytes n (end_of S o)) ∙ omega (arith, h.all, trailer-length n (end_of S o))
 
-module _ (t : List ℕ) (fit : Fit t) (o : List ℕ) (h : Order (sheet_of t) o) (rest : List ℕ) where
+module _ (t : Jobs) (fit : Fit t) (o : List ℕ) (h : Order (sheet_of t) o) (rest : List ℕ) where
   abbrev S : Sheet
   S = sheet_of t
 

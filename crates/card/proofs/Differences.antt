@@ -14,6 +14,7 @@ use mir.ValLaws.{to_z_pos, to_z-of_z}
 use borrow.Author.Tests.{ltb-true}
 use Rattle.schedule.specs.Plan.{Sheet, finish}
 use Rattle.schedule.specs.ListPlan.{list_plan}
+use Rattle.tables.specs.declared.Jobs.{Jobs}
 use Rattle.tables.specs.Tables.{sheet_of, count_of, Fit}
 use Rattle.card.specs.Card.{lateness_of}
 
@@ -53,7 +54,7 @@ lateness_from end (suc d) l m = go (ltb end (suc d)) refl
     go false e = rw e (record { le = tt })
 
 -- So it is for every job of a list plan.
-module _ (t : List ℕ) (fit : Fit t) where
+module _ (t : Jobs) (fit : Fit t) where
   abbrev S : Sheet
   S = sheet_of t
 

@@ -12,19 +12,39 @@ use Rattle.figures.specs.Figures.{most_minutes, last_arrival}
 use Rattle.bits.specs.Bits.{bit, set_of}
 use Rattle.schedule.specs.Plan.{Sheet}
 use Rattle.schedule.specs.ListPlan.{Order, ready, first_minute, start_of, place_all}
-use Rattle.tables.specs.Tables.{sheet_of, need_at, minutes_at, kept_at, arrival_at, earlier_at, Fit}
+use Rattle.tables.specs.declared.Jobs.{Jobs}
+use Rattle.tables.specs.Tables.{sheet_of, need_at, minutes_at, kept_at, arrival_at, Fit}
 use Rattle.card.specs.Card.{row_bytes, trailer_bytes, card_bytes, card_of, lateness_of}
 use Rattle.card.specs.Decoding.{Decodes}
 use Rattle.card.proofs.Decoding.{card_decodes}
 
--- the job table of three jobs that wait for none: their modules, their minutes, how many they are, how many modules there are, the
--- changeover, and how long each keeps its modules
-abbrev table_with : ℕ → List ℕ
-table_with rest =
-    (1 ∷ 2 ∷ 1 ∷ replicate 17 0)
-    ++ ((10 ∷ 20 ∷ 10 ∷ replicate 17 0) ++ (replicate 60 0 ++ (3 ∷ 2 ∷ rest ∷ (10 + rest) ∷ (20 + rest) ∷ (10 + rest) ∷ [])))
+-- the job table of three jobs that wait for none and are here from minute 0 on, for two modules
+abbrev table_with : ℕ → Jobs
+table_with rest = record {
+  need = 1 ∷ 2 ∷ 1 ∷ replicate 17 0;
+  minutes = 10 ∷ 20 ∷ 10 ∷ replicate 17 0;
+  arrival = replicate 20 0;
+  earlier = replicate 20 0;
+  kept = (10 + rest) ∷ (20 + rest) ∷ (10 + rest) ∷ replicate 17 0;
+  count = 3;
+  modules = 2;
+  changeover = rest;
+}
 
-abbrev table : List ℕ
+-- the job table without jobs, for one module
+abbrev empty_table : Jobs
+empty_table = record {
+  need = replicate 20 0;
+  minutes = replicate 20 0;
+  arrival = replicate 20 0;
+  earlier = replicate 20 0;
+  kept = replicate 20 0;
+  count = 0;
+  modules = 1;
+  changeover = 0;
+}
+
+abbrev table : Jobs
 table = table_with 0
 
 abbrev pub e1 : Sheet
@@ -43,7 +63,7 @@ bytes =
     ∷ 36 ∷ 0 ∷ 0 ∷ 0 ∷ 30 ∷ 0 ∷ 3 ∷ 0 ∷ []
 
 pub e1-card : card_of e1 order ≡ bytes
-unfolding bit set_of earlier_at sum largest any first_minute start_of place_all joined row_bytes trailer_bytes card_bytes
+unfolding bit set_of sum largest any first_minute start_of place_all joined row_bytes trailer_bytes card_bytes
 e1-card = refl
 
 -- with a changeover of 5 job 1 starts when both modules have rested, 5 minutes later
@@ -53,11 +73,11 @@ pub e1_resting : card_of (sheet_of (table_with 5)) order
     ∷ 0 ∷ 0 ∷ 10 ∷ 0 ∷ 2 ∷ 0 ∷ 0 ∷ 0 ∷ 0 ∷ 0 ∷ 0 ∷ 0
     ∷ 0 ∷ 2 ∷ 1
     ∷ 36 ∷ 0 ∷ 0 ∷ 0 ∷ 35 ∷ 0 ∷ 3 ∷ 0 ∷ []
-unfolding bit set_of earlier_at sum largest any first_minute start_of place_all joined row_bytes trailer_bytes card_bytes
+unfolding bit set_of sum largest any first_minute start_of place_all joined row_bytes trailer_bytes card_bytes
 e1_resting = refl
 
 -- E2: "n = 0, N = 1: end 0, a card of 8 zero bytes."
-pub e2-card : card_of (sheet_of (replicate 100 0 ++ (0 ∷ 1 ∷ 0 ∷ []))) [] ≡ 0 ∷ 0 ∷ 0 ∷ 0 ∷ 0 ∷ 0 ∷ 0 ∷ 0 ∷ []
+pub e2-card : card_of (sheet_of empty_table) [] ≡ 0 ∷ 0 ∷ 0 ∷ 0 ∷ 0 ∷ 0 ∷ 0 ∷ 0 ∷ []
 unfolding sum largest joined row_bytes trailer_bytes card_bytes
 e2-card = refl
 
@@ -82,7 +102,7 @@ e1_fit = record {
 }
 
 e1_order : Order e1 order
-unfolding bit earlier_at every ready
+unfolding bit every ready
 e1_order = record { all = refl; follows = (refl, (refl, (refl, tt))) }
 
 pub e1_decodes : (rest : List ℕ) → Decodes e1 order (card_of e1 order ++ rest)

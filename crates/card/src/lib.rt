@@ -13,6 +13,7 @@ ghost use Rattle.card.specs.Rows.{slot_row};
 use figures::MOST_JOBS;
 use replay::Slots;
 use tables::Jobs;
+use words::Number;
 
 // The bytes of a row: the job's start, at ROW_END its end, and at ROW_MODULES its module set.
 pub const ROW_SIZE: usize = 12;
@@ -33,9 +34,9 @@ fn write_row(part: &mut [u8], start: u16, end: u16, modules: u64)
     requires { length part.old ≡ row_size }
     ensures { part.new ≡ row_bytes start end modules }
 {
-    words::write16(part, 0, start);
-    words::write16(part, ROW_END, end);
-    words::write64(part, ROW_MODULES, modules);
+    u16::write(part, 0, start);
+    u16::write(part, ROW_END, end);
+    u64::write(part, ROW_MODULES, modules);
 }
 
 // The rows over the whole part, in job order.
@@ -43,8 +44,7 @@ fn write_rows(part: &mut [u8], slots: Slots, count: usize)
     requires { (count ≤ most_jobs) × (length part.old ≡ row_size * count) }
     ensures { part.new ≡ joined count (slot_row slots) }
 {
-    let mut j: usize = 0;
-    while j < count {
+    for j in 0..count {
         let at = ROW_SIZE * j;
         let to = at + ROW_SIZE;
         write_row(
@@ -53,7 +53,6 @@ fn write_rows(part: &mut [u8], slots: Slots, count: usize)
             slots.end[j],
             slots.modules[j],
         );
-        j += 1;
     }
 }
 
@@ -62,11 +61,7 @@ fn write_order(part: &mut [u8], order: &[u8; MOST_JOBS], count: usize)
     requires { (count ≤ most_jobs) × ((count ≤ length order.now) × (length part.old ≡ count)) }
     ensures { part.new ≡ take count order.now }
 {
-    let mut k: usize = 0;
-    while k < count {
-        part[k] = order[k];
-        k += 1;
-    }
+    part.copy_from_slice(&order[..count]);
 }
 
 // The trailer over the whole part.
@@ -74,9 +69,9 @@ fn write_trailer(part: &mut [u8], count: usize, end: u16)
     requires { (count ≤ most_jobs) × (length part.old ≡ trailer_size) }
     ensures { part.new ≡ trailer_bytes count end }
 {
-    words::write32(part, 0, (ROW_SIZE * count) as u32);
-    words::write16(part, TRAILER_END, end);
-    words::write16(part, TRAILER_COUNT, count as u16);
+    u32::write(part, 0, (ROW_SIZE * count) as u32);
+    u16::write(part, TRAILER_END, end);
+    u16::write(part, TRAILER_COUNT, count as u16);
 }
 
 // Writes the card at the front of the lent bytes, rows, order and trailer each into its own part; the bytes behind it stay.
@@ -102,7 +97,7 @@ pub fn write_plan(card: &mut [u8], jobs: &Jobs, order: &[u8; MOST_JOBS], end: u1
         ++ drop (card_size (count_of jobs.now)) card.old }
 {
     let slots = replay::replay(jobs, order);
-    write_card(card, slots, order, tables::count(jobs), end);
+    write_card(card, slots, order, jobs.count(), end);
 }
 
 // A job's end minus its departure, which may be negative.

@@ -5,6 +5,7 @@ use Rattle.std.specs.Int.Count.{ones}
 use Rattle.counting.specs.Counting.{every, count}
 use Rattle.words.specs.Words.{number_at}
 use Rattle.schedule.specs.Plan.{Sheet, finish, plan_end}
+use Rattle.tables.specs.declared.Jobs.{Jobs}
 use Rattle.tables.specs.Tables.{count_of, Fit}
 use Rattle.card.specs.Card.{row_size, row_end, row_modules, trailer_end, trailer_count, order_at, trailer_at, card_size}
 use Rattle.card.specs.Decoding.{plan_on}
@@ -73,6 +74,6 @@ card_fits S card =
     eqb (length card) (card_size S.jobs) && (every S.jobs (row_fits S card) && (order_fits S card && trailer_fits S card))
 
 -- the table of a sheet, and bytes as long as its card
-pub record Sized (t card : List ℕ) : Type 0 where
+pub record Sized (t : Jobs) (card : List ℕ) : Type 0 where
   pub fit : Fit t
   pub size : length card ≡ card_size (count_of t)

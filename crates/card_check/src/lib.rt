@@ -1,7 +1,7 @@
 // Whether a card is one for a sheet: of its length, with rows that form a valid plan, an order and a trailer that belong to them.
 #![tactic(auto)]
 
-ghost use Rattle.std.specs.Prelude.{◌≡◌, ◌&&◌, ◌+◌, ◌*◌, ◌^◌, ◌≤◌, ◌<◌, max, ltb, leb, eqb, length, get_or};
+ghost use Rattle.std.specs.Prelude.{◌≡◌, ◌&&◌, ◌+◌, ◌*◌, ◌^◌, ◌≤◌, ◌<◌, ltb, leb, eqb, length, get_or};
 ghost use Rattle.counting.specs.Counting.{only, every, count};
 ghost use Rattle.figures.specs.Figures.{most_jobs, most_modules};
 ghost use Rattle.schedule.specs.Plan.{finish, plan_end};
@@ -12,8 +12,10 @@ ghost use Rattle.card_check.specs.CardFor.{job_at};
 ghost use Rattle.card_check.specs.Test.{start_on, end_on, modules_on, clears, apart, follows, pair_fits, figures_fit, row_fits, named_once};
 ghost use Rattle.card_check.specs.Test.{rises, order_fits, trailer_fits, card_fits, Sized};
 
+use bits::Set;
 use card::{ROW_END, ROW_MODULES, ROW_SIZE, TRAILER_COUNT, TRAILER_END, TRAILER_SIZE};
 use tables::Jobs;
+use words::Number;
 
 // ---- rows
 
@@ -22,7 +24,7 @@ pub fn start(card: &[u8], j: usize) -> u32
     requires { row_size * j + row_size ≤ length card.now }
     ensures { (result ≡ start_on card.now j) × (result < 65536) }
 {
-    words::read16(card, ROW_SIZE * j) as u32
+    u16::read(card, ROW_SIZE * j) as u32
 }
 
 // Job j's module set.
@@ -30,7 +32,7 @@ fn modules(card: &[u8], j: usize) -> u64
     requires { row_size * j + row_size ≤ length card.now }
     ensures { result ≡ modules_on card.now j }
 {
-    words::read64(card, ROW_SIZE * j + ROW_MODULES)
+    u64::read(card, ROW_SIZE * j + ROW_MODULES)
 }
 
 // Job j's start plus its minutes.
@@ -38,7 +40,7 @@ pub fn finish(jobs: &Jobs, card: &[u8], j: usize) -> u32
     requires { (j < most_jobs) × (row_size * j + row_size ≤ length card.now) }
     ensures { (result ≡ finish (sheet_of jobs.now) (plan_on card.now) j) × (result < 131072) }
 {
-    start(card, j) + (tables::minutes(jobs, j) as u32)
+    start(card, j) + (jobs.minutes(j) as u32)
 }
 
 // Whether job j starts when job i has ended and its modules have rested.
@@ -46,7 +48,7 @@ fn clears(jobs: &Jobs, card: &[u8], i: usize, j: usize) -> bool
     requires { ((i < most_jobs) × (row_size * i + row_size ≤ length card.now)) × (row_size * j + row_size ≤ length card.now) }
     ensures { result ≡ clears (sheet_of jobs.now) card.now i j }
 {
-    finish(jobs, card, i) + (tables::changeover(jobs) as u32) <= start(card, j)
+    finish(jobs, card, i) + (jobs.changeover() as u32) <= start(card, j)
 }
 
 // Whether jobs i and j have no module in common, or one clears the other.
@@ -54,16 +56,10 @@ fn apart(jobs: &Jobs, card: &[u8], i: usize, j: usize) -> bool
     requires { ((i < most_jobs) × (row_size * i + row_size ≤ length card.now)) × ((j < most_jobs) × (row_size * j + row_size ≤ length card.now)) }
     ensures { result ≡ apart (sheet_of jobs.now) card.now i j }
 {
-    if i == j {
-        return true;
-    }
-    if modules(card, i) & modules(card, j) == 0 {
-        return true;
-    }
-    if clears(jobs, card, i, j) {
-        return true;
-    }
-    clears(jobs, card, j, i)
+    i == j
+        || modules(card, i) & modules(card, j) == 0
+        || clears(jobs, card, i, j)
+        || clears(jobs, card, j, i)
 }
 
 // Whether job j starts no earlier than the end of job i, if that is one of its earlier jobs.
@@ -71,10 +67,7 @@ fn follows(jobs: &Jobs, card: &[u8], i: usize, j: usize) -> bool
     requires { ((i < most_jobs) × (row_size * i + row_size ≤ length card.now)) × ((j < most_jobs) × (row_size * j + row_size ≤ length card.now)) }
     ensures { result ≡ follows (sheet_of jobs.now) card.now i j }
 {
-    if !bits::test32(tables::earlier(jobs, j), i) {
-        return true;
-    }
-    finish(jobs, card, i) <= start(card, j)
+    !jobs.earlier(j).has(i) || finish(jobs, card, i) <= start(card, j)
 }
 
 // Whether the set has modules of a cabinet alone.
@@ -82,29 +75,21 @@ fn inside(set: u64, modules: u16) -> bool
     requires { modules ≤ most_modules }
     ensures { result ≡ ltb set (2 ^ modules) }
 {
-    if modules == 64 {
-        return true;
-    }
-    set >> modules == 0
+    modules == 64 || set >> modules == 0
 }
 
 // Whether job j's row is right by itself: its end, its start behind the arrival, and as many of the cabinet's modules as it needs.
+#[tactic(auto, unfolding(crate::specs::Test::figures_fit))]
 fn figures_fit(jobs: &Jobs, card: &[u8], j: usize) -> bool
     requires { (Fit jobs.now) × ((j < most_jobs) × (row_size * j + row_size ≤ length card.now)) }
     ensures { result ≡ figures_fit (sheet_of jobs.now) card.now j }
 {
-    let end = words::read16(card, ROW_SIZE * j + ROW_END) as u32;
-    if end != finish(jobs, card, j) {
-        return false;
-    }
-    if start(card, j) < (tables::arrival(jobs, j) as u32) {
-        return false;
-    }
+    let end = u16::read(card, ROW_SIZE * j + ROW_END);
     let set = modules(card, j);
-    if !inside(set, tables::modules(jobs)) {
-        return false;
-    }
-    bits::ones64(set) == (tables::need(jobs, j) as u32)
+    end as u32 == finish(jobs, card, j)
+        && jobs.arrival(j) as u32 <= start(card, j)
+        && inside(set, jobs.modules())
+        && set.size() == jobs.need(j) as u32
 }
 
 // Whether jobs i and j may both stand as their rows say.
@@ -112,10 +97,7 @@ fn pair_fits(jobs: &Jobs, card: &[u8], j: usize, i: usize) -> bool
     requires { ((i < most_jobs) × (row_size * i + row_size ≤ length card.now)) × ((j < most_jobs) × (row_size * j + row_size ≤ length card.now)) }
     ensures { result ≡ pair_fits (sheet_of jobs.now) card.now j i }
 {
-    if !apart(jobs, card, i, j) {
-        return false;
-    }
-    follows(jobs, card, i, j)
+    apart(jobs, card, i, j) && follows(jobs, card, i, j)
 }
 
 // Whether job j may stand beside every job.
@@ -124,15 +106,7 @@ fn pairs_fit(jobs: &Jobs, card: &[u8], j: usize) -> bool
     ensures { result
         ≡ every (count_of jobs.now) (pair_fits (sheet_of jobs.now) card.now j) }
 {
-    let count = tables::count(jobs);
-    let mut i: usize = 0;
-    while i < count {
-        if !pair_fits(jobs, card, j, i) {
-            return false;
-        }
-        i += 1;
-    }
-    true
+    (0..jobs.count()).all(|i| pair_fits(jobs, card, j, i))
 }
 
 // Whether job j's row is right, by itself and beside the others.
@@ -140,10 +114,7 @@ fn row_fits(jobs: &Jobs, card: &[u8], j: usize) -> bool
     requires { (Sized jobs.now card.now) × (j < count_of jobs.now) }
     ensures { result ≡ row_fits (sheet_of jobs.now) card.now j }
 {
-    if !figures_fit(jobs, card, j) {
-        return false;
-    }
-    pairs_fit(jobs, card, j)
+    figures_fit(jobs, card, j) && pairs_fit(jobs, card, j)
 }
 
 // Whether the rows form a valid plan.
@@ -151,15 +122,7 @@ fn rows_fit(jobs: &Jobs, card: &[u8]) -> bool
     requires { Sized jobs.now card.now }
     ensures { result ≡ every (count_of jobs.now) (row_fits (sheet_of jobs.now) card.now) }
 {
-    let count = tables::count(jobs);
-    let mut j: usize = 0;
-    while j < count {
-        if !row_fits(jobs, card, j) {
-            return false;
-        }
-        j += 1;
-    }
-    true
+    (0..jobs.count()).all(|j| row_fits(jobs, card, j))
 }
 
 // ---- the order, of n jobs
@@ -169,7 +132,7 @@ fn job_at(card: &[u8], n: usize, k: usize) -> usize
     requires { (n ≤ most_jobs) × (row_size * n + k < length card.now) }
     ensures { result ≡ get_or card.now (order_at n + k) 0 }
 {
-    counting::index(card[ROW_SIZE * n + k])
+    usize::from(card[ROW_SIZE * n + k])
 }
 
 // 1 if the order names job j at place k, and else 0.
@@ -177,7 +140,7 @@ fn named(card: &[u8], n: usize, k: usize, j: usize) -> usize
     requires { (n ≤ most_jobs) × (row_size * n + k < length card.now) }
     ensures { result ≡ only (eqb (get_or card.now (order_at n + k) 0) j) 1 }
 {
-    if job_at(card, n, k) == j { 1 } else { 0 }
+    usize::from(job_at(card, n, k) == j)
 }
 
 // How often the order names job j.
@@ -185,11 +148,9 @@ fn times_named(card: &[u8], n: usize, j: usize) -> usize
     requires { (n ≤ most_jobs) × (length card.now ≡ card_size n) }
     ensures { result ≡ count n (λ k. eqb (get_or card.now (order_at n + k) 0) j) }
 {
-    let mut times: usize = 0;
-    let mut k: usize = 0;
-    while k < n {
+    let mut times = 0;
+    for k in 0..n {
         times += named(card, n, k, j);
-        k += 1;
     }
     times
 }
@@ -199,14 +160,7 @@ fn names_each(card: &[u8], n: usize) -> bool
     requires { (n ≤ most_jobs) × (length card.now ≡ card_size n) }
     ensures { result ≡ every n (λ j. eqb (count n (λ k. eqb (get_or card.now (order_at n + k) 0) j)) 1) }
 {
-    let mut j: usize = 0;
-    while j < n {
-        if times_named(card, n, j) != 1 {
-            return false;
-        }
-        j += 1;
-    }
-    true
+    (0..n).all(|j| times_named(card, n, j) == 1)
 }
 
 // Whether the order names jobs alone, and their starts never fall.
@@ -214,10 +168,9 @@ fn rises(jobs: &Jobs, card: &[u8]) -> bool
     requires { Sized jobs.now card.now }
     ensures { result ≡ every (count_of jobs.now) (rises (sheet_of jobs.now) card.now) }
 {
-    let n = tables::count(jobs);
-    let mut last: u32 = 0;
-    let mut k: usize = 0;
-    while k < n {
+    let n = jobs.count();
+    let mut last = 0;
+    for k in 0..n {
         let job = job_at(card, n, k);
         if n <= job {
             return false;
@@ -227,75 +180,54 @@ fn rises(jobs: &Jobs, card: &[u8]) -> bool
             return false;
         }
         last = begins;
-        k += 1;
     }
     true
 }
 
 // Whether the order names each job once with starts never falling.
+#[tactic(auto, unfolding(crate::specs::Test::order_fits))]
 fn order_fits(jobs: &Jobs, card: &[u8]) -> bool
     requires { Sized jobs.now card.now }
     ensures { result ≡ order_fits (sheet_of jobs.now) card.now }
 {
-    if !names_each(card, tables::count(jobs)) {
-        return false;
-    }
-    rises(jobs, card)
+    names_each(card, jobs.count()) && rises(jobs, card)
 }
 
 // ---- the trailer
-
-// The later of two minutes.
-pub fn later(a: u32, b: u32) -> u32
-    ensures { result ≡ max a b }
-{
-    if a <= b { b } else { a }
-}
 
 // The largest end.
 fn last_end(jobs: &Jobs, card: &[u8]) -> u32
     requires { Sized jobs.now card.now }
     ensures { result ≡ plan_end (sheet_of jobs.now) (plan_on card.now) }
 {
-    let count = tables::count(jobs);
     let mut last: u32 = 0;
-    let mut j: usize = 0;
-    while j < count {
-        last = later(last, finish(jobs, card, j));
-        j += 1;
+    for j in 0..jobs.count() {
+        last = last.max(finish(jobs, card, j));
     }
     last
 }
 
 // Whether the trailer has the order's offset, the largest end and the number of jobs.
+#[tactic(auto, unfolding(crate::specs::Test::trailer_fits))]
 fn trailer_fits(jobs: &Jobs, card: &[u8]) -> bool
     requires { Sized jobs.now card.now }
     ensures { result ≡ trailer_fits (sheet_of jobs.now) card.now }
 {
-    let count = tables::count(jobs);
+    let count = jobs.count();
     let at = (ROW_SIZE + 1) * count;
-    if words::read32(card, at) != (ROW_SIZE * count) as u32 {
-        return false;
-    }
-    if words::read16(card, at + TRAILER_END) as u32 != last_end(jobs, card) {
-        return false;
-    }
-    words::read16(card, at + TRAILER_COUNT) as usize == count
+    u32::read(card, at) == (ROW_SIZE * count) as u32
+        && u16::read(card, at + TRAILER_END) as u32 == last_end(jobs, card)
+        && u16::read(card, at + TRAILER_COUNT) as usize == count
 }
 
 // Whether the card is one for the sheet of this table.
+#[tactic(auto, unfolding(crate::specs::Test::card_fits))]
 pub fn fits(jobs: &Jobs, card: &[u8]) -> bool
     requires { Fit jobs.now }
     ensures { result ≡ card_fits (sheet_of jobs.now) card.now }
 {
-    if card.len() != (ROW_SIZE + 1) * tables::count(jobs) + TRAILER_SIZE {
-        return false;
-    }
-    if !rows_fit(jobs, card) {
-        return false;
-    }
-    if !order_fits(jobs, card) {
-        return false;
-    }
-    trailer_fits(jobs, card)
+    card.len() == (ROW_SIZE + 1) * jobs.count() + TRAILER_SIZE
+        && rows_fit(jobs, card)
+        && order_fits(jobs, card)
+        && trailer_fits(jobs, card)
 }

@@ -1,2 +1,3 @@
 -- The laws of checking, for the crates above.
+pub mod Numbers
 pub mod Order

@@ -1,2 +1,3 @@
--- The first check that fails.
+-- The first check that fails, and the numbers of the refusals.
 pub mod Checking
+pub mod Refusals

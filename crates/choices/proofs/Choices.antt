@@ -18,6 +18,7 @@ use Rattle.bits.proofs.Digits.{bit-none}
 use Rattle.bits.proofs.Members.{bit_without_same, bit_without}
 use Rattle.bits.proofs.Sets.{bit-set_of}
 use Rattle.bits.proofs.Walks.{Walk, walk_first, walk_next}
+use Rattle.tables.specs.declared.Jobs.{Jobs}
 use Rattle.tables.specs.Tables.{kept_at, most_kept}
 use Rattle.choices.specs.Choices.{together, Within, SumsOf, Room, Doubled}
 
@@ -66,13 +67,13 @@ module _ {sums₀ sums : List ℕ} {count minutes i : ℕ} (d : Doubling sums₀
 
 -- ---- one job more
 
-together_more : (t : List ℕ) (j : ℕ) (X : ℕ → Bool)
+together_more : (t : Jobs) (j : ℕ) (X : ℕ → Bool)
     → together t (j + 1) X ≡ together t j X + only (X j) (kept_at t j)
 unfolding sum
 together_more t j X = rw add-one
 
 -- of no jobs there is the sum 0
-pub sums_start : (t : List ℕ) (chosen : ℕ) (sums : List ℕ) → 0 < length sums → SumsOf t chosen 0 (set sums 0 0) 1
+pub sums_start : (t : Jobs) (chosen : ℕ) (sums : List ℕ) → 0 < length sums → SumsOf t chosen 0 (set sums 0 0) 1
 unfolding sum
 sums_start t chosen sums e = record {
   few = omega (arith, length-set sums 0 0);
@@ -83,7 +84,7 @@ sums_start t chosen sums e = record {
     first : get_or (set sums 0 0) 0 0 ≡ 0
     first = get_or-set_same sums 0 0 0 (omega (arith, e))
 
-module _ {t : List ℕ} {chosen j : ℕ} {sums : List ℕ} {count : ℕ} (s : SumsOf t chosen j sums count) where
+module _ {t : Jobs} {chosen j : ℕ} {sums : List ℕ} {count : ℕ} (s : SumsOf t chosen j sums count) where
   -- a job that is not in the set adds none
   pub sums_skip : bit chosen j ≡ false → SumsOf t chosen (j + 1) sums count
   sums_skip out = record {
@@ -139,7 +140,7 @@ module _ {t : List ℕ} {chosen j : ℕ} {sums : List ℕ} {count : ℕ} (s : Su
 -- ---- the walk over the set's jobs
 
 -- jobs that are not in the set add none
-sums_past : {t : List ℕ} {chosen : ℕ} {sums : List ℕ} {count : ℕ} (j d : ℕ) → SumsOf t chosen j sums count
+sums_past : {t : Jobs} {chosen : ℕ} {sums : List ℕ} {count : ℕ} (j d : ℕ) → SumsOf t chosen j sums count
     → ((i : ℕ) → j ≤ i → i < j + d → bit chosen i ≡ false) → SumsOf t chosen (j + d) sums count
 sums_past j zero s out = rw (add-zero j) s
 sums_past {t} {chosen} {sums} {count} j (suc d) s out =
@@ -147,7 +148,7 @@ sums_past {t} {chosen} {sums} {count} j (suc d) s out =
     rw e (sums_skip (sums_past j d s (λ i a b. out i a (omega arith))) (out (j + d) (omega arith) (omega arith)))
 
 -- the sums of the set's first jobs, up to a place from which on all its jobs are still to come
-pub record Summing (t : List ℕ) (chosen jobs todo : ℕ) (sums : List ℕ) (count : ℕ) : Type 0 where
+pub record Summing (t : Jobs) (chosen jobs todo : ℕ) (sums : List ℕ) (count : ℕ) : Type 0 where
   pub walk : Walk chosen jobs todo
   pub place : ℕ
   pub inside : place ≤ jobs
@@ -155,7 +156,7 @@ pub record Summing (t : List ℕ) (chosen jobs todo : ℕ) (sums : List ℕ) (co
   pub ahead : (i : ℕ) → bit todo i ≡ true → place ≤ i
   pub all : (i : ℕ) → place ≤ i → i < jobs → bit chosen i ≡ true → bit todo i ≡ true
 
-module _ (t : List ℕ) (chosen jobs : ℕ) where
+module _ (t : Jobs) (chosen jobs : ℕ) where
   pub summing-none : (sums : List ℕ) → 0 < length sums → Summing t chosen jobs (set_of jobs (bit chosen)) (set sums 0 0) 1
   summing-none sums e = record {
     walk = walk_first jobs chosen;

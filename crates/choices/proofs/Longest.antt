@@ -10,6 +10,7 @@ use borrow.Author.Tests.{leb-true, le-leb}
 use Rattle.counting.specs.Counting.{only}
 use Rattle.counting.proofs.Tests.{only_within}
 use Rattle.counting.proofs.Ranges.{le-largest, largest-le}
+use Rattle.tables.specs.declared.Jobs.{Jobs}
 use Rattle.choices.specs.Choices.{together, Within, SumsOf, longest}
 
 module _ (sums : List ℕ) (count : ℕ) where
@@ -29,7 +30,7 @@ module _ (sums : List ℕ) (count : ℕ) where
   longest-rises a b h = largest-le count _ (longest sums count b) (λ i l. only_within (leb (get_or sums i 0) a) (get_or sums i 0) _
       (λ e. le-longest b i l (omega (arith, leb-true (get_or sums i 0) a e))))
 
-  pub longest_bounds : {t : List ℕ} {set jobs : ℕ} → SumsOf t set jobs sums count → 0 < count
+  pub longest_bounds : {t : Jobs} {set jobs : ℕ} → SumsOf t set jobs sums count → 0 < count
       → (X : ℕ → Bool) (x : ℕ) → Within X set → together t jobs X ≤ x → together t jobs X ≤ longest sums count x
   longest_bounds {t} {jobs = jobs} s some X x w h = go (s.each some X w)
     where

@@ -2,10 +2,11 @@
 use Rattle.std.specs.Prelude.{◌≡◌, Bool, true, List, ℕ, ◌+◌, ◌*◌, ◌≤◌, ◌<◌, leb, length, get_or}
 use Rattle.counting.specs.Counting.{only, sum, largest}
 use Rattle.bits.specs.Bits.{bit}
+use Rattle.tables.specs.declared.Jobs.{Jobs}
 use Rattle.tables.specs.Tables.{kept_at, most_kept}
 
 -- how long those of the first `jobs` jobs that are in X keep a module, one after another
-abbrev pub together : List ℕ → ℕ → (ℕ → Bool) → ℕ
+abbrev pub together : Jobs → ℕ → (ℕ → Bool) → ℕ
 together t jobs X = sum jobs (λ k. only (X k) (kept_at t k))
 
 -- the jobs of X are in the set
@@ -13,7 +14,7 @@ abbrev pub Within : (ℕ → Bool) → ℕ → Type 0
 Within X set = (k : ℕ) → X k ≡ true → bit set k ≡ true
 
 -- among the first `count` sums, where there are any, is that of each choice from the first `jobs` jobs of the set
-pub record SumsOf (t : List ℕ) (set jobs : ℕ) (at : List ℕ) (count : ℕ) : Type 0 where
+pub record SumsOf (t : Jobs) (set jobs : ℕ) (at : List ℕ) (count : ℕ) : Type 0 where
   pub few : count ≤ length at
   pub short : (i : ℕ) → i < count → get_or at i 0 ≤ most_kept * jobs
   pub each : 0 < count → (X : ℕ → Bool) → Within X set → (i : ℕ) × (i < count) × (get_or at i 0 ≡ together t jobs X)

@@ -7,6 +7,7 @@ ghost use Rattle.figures.specs.Figures.{most_jobs};
 ghost use Rattle.tables.specs.Tables.{kept_at, most_kept, count_of, Fit};
 ghost use Rattle.choices.specs.Choices.{SumsOf, Room, Doubled, longest};
 
+use bits::Set;
 use tables::Jobs;
 
 // ---- the sums of all choices from a set
@@ -16,10 +17,8 @@ fn add_job(at: &mut [u16], count: usize, kept: u16)
     requires { Room at.old count kept }
     ensures { Doubled at.old at.new count kept }
 {
-    let mut i: usize = 0;
-    while i < count {
+    for i in 0..count {
         at[count + i] = at[i] + kept;
-        i += 1;
     }
 }
 
@@ -28,13 +27,13 @@ fn with_job(at: &mut [u16], count: usize, jobs: &Jobs, set: u32, j: usize) -> us
     requires { (SumsOf jobs.now set j at.old count) × ((j < most_jobs) × (kept_at jobs.now j ≤ most_kept)) }
     ensures { SumsOf jobs.now set (j + 1) at.new result }
 {
-    if !bits::test32(set, j) {
+    if !set.has(j) {
         return count;
     }
     if 2 * count > at.len() {
         return 0;
     }
-    add_job(at, count, tables::kept(jobs, j));
+    add_job(at, count, jobs.kept(j));
     2 * count
 }
 
@@ -45,11 +44,8 @@ pub fn subset_sums(at: &mut [u16], jobs: &Jobs, set: u32) -> usize
 {
     at[0] = 0;
     let mut count: usize = 1;
-    let mut todo = bits::below32(set, tables::count(jobs));
-    while todo != 0 {
-        let j = bits::lowest32(todo);
+    for j in set.below(jobs.count()).members() {
         count = with_job(at, count, jobs, set, j);
-        todo = bits::without_lowest32(todo);
     }
     count
 }
@@ -69,10 +65,8 @@ pub fn longest_fit(at: &[u16], count: usize, x: u16) -> u16
     ensures { result ≡ longest at.now count x }
 {
     let mut r: u16 = 0;
-    let mut i: usize = 0;
-    while i < count {
-        r = counting::larger(r, fitting(at[i], x));
-        i += 1;
+    for i in 0..count {
+        r = r.max(fitting(at[i], x));
     }
     r
 }

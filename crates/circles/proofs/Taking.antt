@@ -22,17 +22,18 @@ use Rattle.schedule.specs.ListPlan.{PartPlan, no_jobs, ready, Follows, place_all
 use Rattle.schedule.proofs.Starts.{Ready, ready_says, ready_when}
 use Rattle.schedule.proofs.Existence.{stuck_circular, order-not_circular}
 use Rattle.schedule.proofs.Prefixes.{part_count, part_more, follows_more}
+use Rattle.tables.specs.declared.Jobs.{Jobs}
 use Rattle.tables.specs.Tables.{sheet_of, earlier_at, count_of}
 use Rattle.circles.specs.Circles.{MayGo}
 
 -- ---- a job that may go
 
 -- those that are not still to come may not
-pub record Seeking (t : List ℕ) (left todo : ℕ) : Type 0 where
+pub record Seeking (t : Jobs) (left todo : ℕ) : Type 0 where
   pub walk : Walk left (count_of t) todo
   pub none : (j : ℕ) → bit todo j ≡ false → ¬ MayGo t left j
 
-module _ {t : List ℕ} {left : ℕ} where
+module _ {t : Jobs} {left : ℕ} where
   pub seeking-none : Seeking t left (set_of (count_of t) (bit left))
   seeking-none = record {
     walk = walk_first (count_of t) left;
@@ -52,13 +53,13 @@ module _ {t : List ℕ} {left : ℕ} where
 -- ---- the jobs taken out
 
 -- each of them follows its earlier jobs, in the order of some word
-pub record Taken (t : List ℕ) (left : ℕ) : Type 0 where
+pub record Taken (t : Jobs) (left : ℕ) : Type 0 where
   pub word : List ℕ
   pub follows : Follows (sheet_of t) no_jobs word
   pub low : left < 2 ^ count_of t
   pub each : (i : ℕ) → i < count_of t → bit left i ≡ not ((part_of (sheet_of t) word).placed i)
 
-pub taken_none : (t : List ℕ) → Taken t (2 ^ count_of t - 1)
+pub taken_none : (t : Jobs) → Taken t (2 ^ count_of t - 1)
 unfolding place_all
 taken_none t = record {
   word = [];
@@ -67,7 +68,7 @@ taken_none t = record {
   each = λ i l. all_bits (count_of t) i l;
 }
 
-module _ {t : List ℕ} {left : ℕ} (h : Taken t left) where
+module _ {t : Jobs} {left : ℕ} (h : Taken t left) where
   abbrev S : Sheet
   S = sheet_of t
 

@@ -6,6 +6,7 @@ ghost use Rattle.figures.specs.Figures.{most_jobs};
 ghost use Rattle.tables.specs.Tables.{sheet_of, count_of};
 ghost use Rattle.circles.specs.Circles.{NextOr, CircularOr};
 
+use bits::Set;
 use tables::Jobs;
 
 // A job that is left and none of whose earlier jobs is left, or the number of jobs where there is none.
@@ -13,14 +14,11 @@ fn next_of(jobs: &Jobs, left: u32) -> usize
     requires { count_of jobs.now ≤ most_jobs }
     ensures { NextOr jobs.now left result }
 {
-    let count = tables::count(jobs);
-    let mut todo = bits::below32(left, count);
-    while todo != 0 {
-        let j = bits::lowest32(todo);
-        if tables::earlier(jobs, j) & left == 0 {
+    let count = jobs.count();
+    for j in left.below(count).members() {
+        if jobs.earlier(j) & left == 0 {
             return j;
         }
-        todo = bits::without_lowest32(todo);
     }
     count
 }
@@ -30,14 +28,14 @@ pub fn circular(jobs: &Jobs) -> bool
     requires { count_of jobs.now ≤ most_jobs }
     ensures { CircularOr (sheet_of jobs.now) result }
 {
-    let count = tables::count(jobs);
+    let count = jobs.count();
     let mut left = (1u32 << count) - 1;
     while left != 0 {
         let j = next_of(jobs, left);
         if j == count {
             return true;
         }
-        left = bits::clear32(left, j);
+        left = left.without(j);
     }
     false
 }

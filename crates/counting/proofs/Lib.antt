@@ -6,4 +6,5 @@ pub mod Ranges
 pub mod Counts
 pub mod Joins
 pub mod Loops
+pub mod Iterated
 pub mod Subsets

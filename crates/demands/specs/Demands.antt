@@ -15,7 +15,8 @@ use Rattle.counting.specs.Counting.{sum}
 use Rattle.checking.specs.Checking.{Check, FirstFails, NoneFails}
 use Rattle.words.specs.Words.{byte_at}
 use Rattle.sheet_format.specs.declared.Job.{Job}
-use Rattle.sheet_format.specs.Format.{label_in, Cabinet}
+use Rattle.sheet_format.specs.Format.{label_in}
+use Rattle.sheet_format.specs.declared.Cabinet.{Cabinet}
 use Rattle.sheet.specs.Read.{read_checks, answered, reading}
 use Rattle.sheet.specs.Label.{label_checks, label_of, label_place}
 use Rattle.sheet.specs.Write.{write_checks, write_answer, over, write_leaves}

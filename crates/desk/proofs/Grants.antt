@@ -1,6 +1,6 @@
 -- What it takes for no check of a call to fail, and so what an answered opening and a granted claim, hand-back or change tell.
 use mathlib.Core.Path.{◌≡◌, refl}
-use mathlib.Core.Bool.{Bool, true, false, not}
+use mathlib.Core.Bool.{Bool, true, false, not, cond}
 use mathlib.Core.List.{List}
 use Prim.Native.Nat.{ℕ, ◌+◌, ◌≤◌, ◌<◌}
 use native.Mathlib.Omega.{arith}
@@ -9,14 +9,18 @@ use lib.ListN.{length, get_or}
 use borrow.Author.Tests.{ltb-false, eqb-true, eqb-false, le-ltb, eq-eqb, ne_eqb, not-false}
 use Rattle.counting.proofs.Tests.{or_left, or_right}
 use Rattle.counting.proofs.Ranges.{any_none, none_any}
+use Rattle.std.specs.Prelude.{Ok, Err}
 use Rattle.checking.specs.Checking.{first_failing}
+use Rattle.checking.specs.declared.Refusal.{Refusal}
+use Rattle.checking.specs.Refusals.{number_of}
+use Rattle.checking.proofs.Numbers.{number-some}
 use Rattle.checking.proofs.Order.{all_passed, none_failing}
 use Rattle.desk.specs.declared.Desk.{Desk}
-use Rattle.desk.specs.Desk.{most_power, fewest_controllers, most_controllers, holding, ceiling_of, reserved_for_others}
+use Rattle.desk.specs.Desk.{most_power, fewest_controllers, most_controllers, holding, ceiling_of, reserved_for_others, no_desk}
 use Rattle.desk.specs.Checks.{in_range, wrong_lengths, wrong_pair, some_pair_wrong, wrong_figures, shares_in_all, shares_exceed}
 use Rattle.desk.specs.Checks.{not_of_desk, open_checks, booking_checks, return_checks, figure_checks}
 use Rattle.desk.specs.Checks.{wrong_count, some_holds_more, raised_in_all, raised_exceed}
-use Rattle.desk.specs.Calls.{open_refusal, opened, claim_refusal, hand_back_refusal}
+use Rattle.desk.specs.Calls.{open_refusal, opened, claim_refusal, hand_back_refusal, answered, opened_by}
 use Rattle.desk.proofs.Sound.{InRange, range_says, in_range_lem, Sound, Here, of-desk_says, of-desk}
 
 -- ---- opening
@@ -39,23 +43,40 @@ pub record Opens (limit : ℕ) (assured ceilings : List ℕ) : Type 0 where
   pub pairs : (i : ℕ) → i < length assured → Pair limit (get_or assured i 0) (get_or ceilings i 0)
   pub total : shares_in_all assured ≤ limit
 
+-- what the first of the checks tells
+pub lengths_say : (assured ceilings : List ℕ) → wrong_lengths assured ceilings ≡ false
+    → (length assured ≡ length ceilings) × InRange fewest_controllers most_controllers (length assured)
+unfolding wrong_lengths
+lengths_say assured ceilings e =
+    let few = in_range fewest_controllers most_controllers (length assured) in
+    let same = eqb (length assured) (length ceilings) in
+    (eqb-true _ _ (not-false same (or_left _ (not few) e)), range_says _ _ _ (not-false few (or_right (not same) _ e)))
+
 module _ (limit : ℕ) (assured ceilings : List ℕ) where
   pub pairs_say : some_pair_wrong limit assured ceilings ≡ false
       → (i : ℕ) → i < length assured → Pair limit (get_or assured i 0) (get_or ceilings i 0)
   pairs_say e i l =
       pair_says limit _ _ (any_none (length assured) (λ k. wrong_pair limit (get_or assured k 0) (get_or ceilings k 0)) e i l)
 
+  -- the second: each share is within the largest limit
+  pub figures_small : wrong_figures limit assured ceilings ≡ false → (i : ℕ) → i < length assured → get_or assured i 0 ≤ most_power
+  unfolding wrong_figures
+  figures_small e i l =
+      let small = in_range 1 most_power limit in
+      let right = pairs_say (or_right (not small) _ e) i l in
+      let top = (range_says 1 most_power limit (not-false small (or_left _ (some_pair_wrong limit assured ceilings) e))).most in
+      omega (arith, right.share, right.top)
+
   pub open_says : (opened limit assured ceilings).refusal ≡ 0 → Opens limit assured ceilings
-  unfolding opened open_refusal wrong_lengths wrong_figures shares_exceed
+  unfolding opened open_refusal wrong_figures shares_exceed
   open_says e =
       let p = all_passed (open_checks limit assured ceilings) refl e in
-      let a = p.0 in
+      let a = lengths_say assured ceilings p.0 in
       let b = p.1.0 in
-      let few = in_range fewest_controllers most_controllers (length assured) in
       let small = in_range 1 most_power limit in
       record {
-        same = eqb-true _ _ (not-false (eqb (length assured) (length ceilings)) (or_left _ (not few) a));
-        controllers = range_says _ _ _ (not-false few (or_right (not (eqb (length assured) (length ceilings))) _ a));
+        same = a.0;
+        controllers = a.1;
         power = range_says _ _ _ (not-false small (or_left _ (some_pair_wrong limit assured ceilings) b));
         pairs = pairs_say (or_right (not small) _ b);
         total = ltb-false _ _ p.1.1.0;
@@ -74,6 +95,24 @@ module _ (limit : ℕ) (assured ceilings : List ℕ) where
         right,
         le-ltb _ _ o.total,
       ) refl
+
+-- ---- what a call answers
+
+module _ (d e : Desk) (n : ℕ) where
+  -- a refusal by the number n, and a desk where n is 0, are answered as a call with that number is
+  pub refused_answer : (r : Refusal) → number_of r ≡ n → answered d (Err r) ≡ record { refusal = n; desk = cond (eqb n 0) e d }
+  refused_answer r q = rw (← q, ne_eqb (number_of r) 0 (number-some r)) refl
+
+  pub granted_answer : 0 ≡ n → answered d (Ok e) ≡ record { refusal = n; desk = cond (eqb n 0) e d }
+  granted_answer q = rw (← q) refl
+
+-- opening too
+module _ (e : Desk) (n : ℕ) where
+  pub refused_opening : (r : Refusal) → number_of r ≡ n → opened_by (Err r) ≡ record { refusal = n; desk = cond (eqb n 0) e no_desk }
+  refused_opening r q = rw (← q, ne_eqb (number_of r) 0 (number-some r)) refl
+
+  pub granted_opening : 0 ≡ n → opened_by (Ok e) ≡ record { refusal = n; desk = cond (eqb n 0) e no_desk }
+  granted_opening q = rw (← q) refl
 
 -- ---- claims and hand-backs
 

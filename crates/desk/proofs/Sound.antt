@@ -1,7 +1,7 @@
 -- The test of a desk as facts: what holds of a desk that can be, and that the others' part and a controller's own add up.
-use mathlib.Core.Path.{◌≡◌, refl, ◌∙◌}
+use mathlib.Core.Path.{◌≡◌, refl, sym, ◌∙◌}
 use mathlib.Core.Logic.{◌⊎◌, inl, inr, ⊎_elim}
-use mathlib.Core.Bool.{true, false, not, ◌&&◌}
+use mathlib.Core.Bool.{Bool, true, false, not, ◌&&◌}
 use Prim.Native.Nat.{ℕ, ◌+◌, ◌≤◌, ◌<◌, max}
 use native.Mathlib.Omega.{arith}
 use lib.Dec.{ltb, leb, eqb}
@@ -196,6 +196,10 @@ of-desk_says d c e =
     let counted = not-false (ltb c d.count) (or_left (not (ltb c d.count)) (not (desk_ok d)) e) in
     let ok = not-false (desk_ok d) (or_right (not (ltb c d.count)) (not (desk_ok d)) e) in
     here d c (ok_says d ok) (ltb-true c d.count counted)
+
+-- the same from a test of it
+pub here_says : {d : Desk} {c : ℕ} {b : Bool} → b ≡ not_of_desk d c → b ≡ false → Here d c
+here_says e f = of-desk_says _ _ (sym e ∙ f)
 
 pub of-desk : (d : Desk) (c : ℕ) → Sound d → c < d.count → not_of_desk d c ≡ false
 unfolding not_of_desk

@@ -1,7 +1,9 @@
 -- What the calls on a desk answer, and what a list of calls leaves: "each takes the desk that the one before it handed back".
-use Rattle.std.specs.Prelude.{◌≡◌, Bool, true, false, cond, List, [], ◌∷◌, ℕ, ◌+◌, ◌-◌, min, eqb}
+use Rattle.std.specs.Prelude.{◌≡◌, Bool, true, false, cond, List, [], ◌∷◌, ℕ, ◌+◌, ◌-◌, min, eqb, Result, Ok, Err}
 use Rattle.counting.specs.Counting.{only}
 use Rattle.checking.specs.Checking.{first_failing}
+use Rattle.checking.specs.declared.Refusal.{Refusal}
+use Rattle.checking.specs.Refusals.{number_of}
 use Rattle.desk.specs.declared.Desk.{Desk}
 use Rattle.desk.specs.declared.Opened.{Opened}
 use Rattle.desk.specs.declared.Booked.{Booked}
@@ -65,6 +67,18 @@ changed d limit assured ceilings = record {
   refusal = change_refusal d limit assured ceilings;
   desk = cond (eqb (change_refusal d limit assured ceilings) 0) (with_figures d limit assured ceilings) d;
 }
+
+-- ---- what the code answers by
+
+-- the desk that the call leaves, or the refusal's number and the desk as before
+abbrev pub answered : Desk → Result Desk Refusal → Booked
+answered d (Ok e) = record { refusal = 0; desk = e }
+answered d (Err r) = record { refusal = number_of r; desk = d }
+
+-- the desk that is opened, or the refusal's number and the desk of zeros
+abbrev pub opened_by : Result Desk Refusal → Opened
+opened_by (Ok d) = record { refusal = 0; desk = d }
+opened_by (Err r) = record { refusal = number_of r; desk = no_desk }
 
 -- ---- lists of calls
 

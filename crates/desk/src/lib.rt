@@ -2,11 +2,14 @@
 // A call takes the desk and hands back the desk as it then is. The crate `opening` opens one, `share_change` gives it new figures.
 #![tactic(auto)]
 
-ghost use Rattle.std.specs.Prelude.{◌≡◌, true, false, ◌≤◌, ◌<◌, ◌-◌, max, min};
+ghost use Rattle.std.specs.Prelude.{◌≡◌, true, false, ◌≤◌, ◌<◌, ◌-◌};
 ghost use Rattle.counting.specs.Counting.{sum, every};
+ghost use Rattle.checking.specs.Refusals.{refusal_number};
 ghost use Rattle.desk.specs.Desk.{most_power, most_controllers, holding, ceiling_of, reserved, reserved_for_others, with_holding};
 ghost use Rattle.desk.specs.Checks.{in_range, ceiling_bound, place_ok, place_ok_at, desk_ok, not_of_desk};
-ghost use Rattle.desk.specs.Calls.{claim_refusal, claimed, hand_back_refusal, handed_back, looked};
+ghost use Rattle.desk.specs.Calls.{claim_refusal, claimed, hand_back_refusal, handed_back, looked, answered};
+
+use checking::Refusal;
 
 // The largest limit of a feeder, in hundreds of watts.
 pub const MOST_POWER: u32 = 400000;
@@ -55,22 +58,6 @@ pub struct Looked {
     pub power: u32,
 }
 
-// ---- numbers
-
-// The larger of two numbers.
-fn larger(a: u32, b: u32) -> u32
-    ensures { result ≡ max a b }
-{
-    if a < b { b } else { a }
-}
-
-// The smaller of two numbers.
-fn smaller(a: u32, b: u32) -> u32
-    ensures { result ≡ min a b }
-{
-    if a < b { a } else { b }
-}
-
 // Whether x is low to high.
 pub fn in_range(low: usize, high: usize, x: usize) -> bool
     ensures { result ≡ in_range low high x }
@@ -91,10 +78,7 @@ fn ceiling_bound(limit: u32, count: u32, i: u32) -> u32
 fn place_ok(held: u32, assured: u32, ceiling: u32, bound: u32) -> bool
     ensures { result ≡ place_ok held assured ceiling bound }
 {
-    if ceiling < assured {
-        return false;
-    }
-    held <= ceiling && ceiling <= bound
+    assured <= ceiling && held <= ceiling && ceiling <= bound
 }
 
 impl Desk {
@@ -119,7 +103,7 @@ impl Desk {
         requires { i < most_controllers }
         ensures { result ≡ reserved self i }
     {
-        larger(self.holding_at(i), self.assured[i as usize])
+        self.holding_at(i).max(self.assured[i as usize])
     }
 
     // The desk on which it holds so much.
@@ -149,12 +133,10 @@ impl Desk {
     pub fn places_ok(self) -> bool
         ensures { result ≡ every most_controllers (place_ok_at self) }
     {
-        let mut i: usize = 0;
-        while i < MOST_CONTROLLERS {
-            if !self.place_ok_at(i as u32) {
+        for i in 0..MOST_CONTROLLERS as u32 {
+            if !self.place_ok_at(i) {
                 return false;
             }
-            i += 1;
         }
         true
     }
@@ -164,12 +146,9 @@ impl Desk {
         requires { (self.count ≤ most_controllers) × (self.limit ≤ most_power) × (every most_controllers (place_ok_at self) ≡ true) }
         ensures { result ≡ sum self.count (reserved self) }
     {
-        let count = self.count;
-        let mut total: u32 = 0;
-        let mut i: u32 = 0;
-        while i < count {
+        let mut total = 0;
+        for i in 0..self.count {
             total += self.reserved_at(i);
-            i += 1;
         }
         total
     }
@@ -178,16 +157,10 @@ impl Desk {
     pub fn ok(self) -> bool
         ensures { result ≡ desk_ok self }
     {
-        if !in_range(FEWEST_CONTROLLERS, MOST_CONTROLLERS, self.count as usize) {
-            return false;
-        }
-        if !in_range(1, MOST_POWER as usize, self.limit as usize) {
-            return false;
-        }
-        if !self.places_ok() {
-            return false;
-        }
-        self.reserved_in_all() <= self.limit
+        in_range(FEWEST_CONTROLLERS, MOST_CONTROLLERS, self.count as usize)
+            && in_range(1, MOST_POWER as usize, self.limit as usize)
+            && self.places_ok()
+            && self.reserved_in_all() <= self.limit
     }
 
     // Check 14 fails: the number is none of the desk's controllers, or the desk cannot be.
@@ -207,78 +180,85 @@ impl Desk {
 
     // ---- claims, hand-backs and looks
 
-    // The number of the first of checks 14 to 17 that fails, 0 where none does.
-    fn claim_refusal(self, controller: u32, power: u32) -> u32
-        ensures { result ≡ claim_refusal self controller power }
+    // Checks 14 to 17.
+    fn check_claim(self, controller: u32, power: u32) -> Result<(), Refusal>
+        ensures { refusal_number result ≡ claim_refusal self controller power }
     {
         if self.not_of_desk(controller) {
-            return 14;
+            return Err(Refusal::NotThere);
         }
         if power == 0 {
-            return 15;
+            return Err(Refusal::NoPower);
         }
         if self.below_ceiling(controller) < power {
-            return 16;
+            return Err(Refusal::AboveCeiling);
         }
         let limit = self.limit;
         if limit < self.holding_at(controller) + power + self.reserved_for_others(controller) {
-            return 17;
+            return Err(Refusal::AboveLimit);
         }
-        0
+        Ok(())
     }
 
-    // The number of the first of checks 14, 15 and 18 that fails, 0 where none does.
-    fn hand_back_refusal(self, controller: u32, power: u32) -> u32
-        ensures { result ≡ hand_back_refusal self controller power }
+    // Checks 14, 15 and 18.
+    fn check_hand_back(self, controller: u32, power: u32) -> Result<(), Refusal>
+        ensures { refusal_number result ≡ hand_back_refusal self controller power }
     {
         if self.not_of_desk(controller) {
-            return 14;
+            return Err(Refusal::NotThere);
         }
         if power == 0 {
-            return 15;
+            return Err(Refusal::NoPower);
         }
         if self.holding_at(controller) < power {
-            return 18;
+            return Err(Refusal::AboveHolding);
         }
-        0
+        Ok(())
+    }
+
+    // The desk on which the claim is booked.
+    fn with_claim(self, controller: u32, power: u32) -> Result<Desk, Refusal>
+        ensures { answered self result ≡ claimed self controller power }
+    {
+        self.check_claim(controller, power)?;
+        let held = self.holding_at(controller) + power;
+        Ok(self.with_holding(controller, held))
+    }
+
+    // The desk on which the hand-back is booked.
+    fn with_hand_back(self, controller: u32, power: u32) -> Result<Desk, Refusal>
+        ensures { answered self result ≡ handed_back self controller power }
+    {
+        self.check_hand_back(controller, power)?;
+        let held = self.holding_at(controller) - power;
+        Ok(self.with_holding(controller, held))
+    }
+
+    // What a call on the desk answers: the desk that it leaves, or the refusal's number and the desk as before.
+    pub fn answer(self, outcome: Result<Desk, Refusal>) -> Booked
+        ensures { result ≡ answered self outcome }
+    {
+        match outcome {
+            Ok(desk) => Booked { refusal: 0, desk },
+            Err(refusal) => Booked {
+                refusal: refusal.number(),
+                desk: self,
+            },
+        }
     }
 
     // Claims power for the controller: checks 14 to 17. Granted, it is booked; refused, the desk is as before.
     pub fn claim(mut self, controller: u32, power: u32) -> Booked
         ensures { result ≡ claimed self controller power }
     {
-        let refusal = self.claim_refusal(controller, power);
-        if refusal != 0 {
-            return Booked {
-                refusal,
-                desk: self,
-            };
-        }
-        let held = self.holding_at(controller) + power;
-        self = self.with_holding(controller, held);
-        Booked {
-            refusal: 0,
-            desk: self,
-        }
+        self.answer(self.with_claim(controller, power))
     }
 
     // Hands power of the controller back: checks 14, 15, 18.
     pub fn hand_back(mut self, controller: u32, power: u32) -> Booked
         ensures { result ≡ handed_back self controller power }
     {
-        let refusal = self.hand_back_refusal(controller, power);
-        if refusal != 0 {
-            return Booked {
-                refusal,
-                desk: self,
-            };
-        }
-        let held = self.holding_at(controller) - power;
-        self = self.with_holding(controller, held);
-        Booked {
-            refusal: 0,
-            desk: self,
-        }
+        self.answer(self.with_hand_back(controller, power))
     }
 
     // The largest claim by the controller that would be granted now, 0 if none: check 14. The desk is as before.
@@ -287,7 +267,7 @@ impl Desk {
     {
         if self.not_of_desk(controller) {
             return Looked {
-                refusal: 14,
+                refusal: Refusal::NotThere.number(),
                 desk: self,
                 power: 0,
             };
@@ -298,7 +278,7 @@ impl Desk {
         Looked {
             refusal: 0,
             desk: self,
-            power: smaller(below_ceiling, beside_others),
+            power: below_ceiling.min(beside_others),
         }
     }
 }

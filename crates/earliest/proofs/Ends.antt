@@ -13,8 +13,12 @@ use Rattle.schedule.specs.TieRule.{Best, end_of, best_order}
 use Rattle.schedule.specs.Ends.{EarliestEnd}
 use Rattle.schedule.proofs.Theorems.{best_exists, best_valid, best_earliest}
 use Rattle.schedule.proofs.Same.{same_back, wide_same, end_same, best_same}
+use Rattle.tables.specs.declared.Jobs.{Jobs}
 use Rattle.tables.specs.Tables.{sheet_of, Fit}
-use Rattle.planable.specs.declared.Checked.{Checked}
+use Rattle.std.specs.Prelude.{Ok, Err}
+use Rattle.checking.specs.Refusals.{number_of}
+use Rattle.checking.specs.declared.Refusal.{Refusal}
+use Rattle.checking.proofs.Numbers.{number-some}
 use Rattle.planable.specs.Planable.{sheet_in, planable_refusal, work_after}
 use Rattle.planable.specs.Results.{CheckedOf}
 use Rattle.planable.proofs.Circles.{ordered_when}
@@ -41,7 +45,7 @@ unfolding earliest_end
 earliest_end_is S o e = rw (earliest_end, e) refl
 
 -- the table of a sheet has the same
-pub table_end : (s t : List ℕ) → Ready s t → planable_refusal s ≡ 0 → (r : ℕ) → EarliestEnd (sheet_of t) r → r ≡ earliest_end (sheet_in s)
+pub table_end : (s : List ℕ) (t : Jobs) → Ready s t → planable_refusal s ≡ 0 → (r : ℕ) → EarliestEnd (sheet_of t) r → r ≡ earliest_end (sheet_in s)
 table_end s t h e r x =
     let p = passes s e in
     let S = sheet_in s in
@@ -55,29 +59,29 @@ table_end s t h e r x =
 
 -- ---- the call
 
-module _ (s work : List ℕ) (r : Checked) (f : CheckedOf s r) where
+module _ (s work : List ℕ) where
   -- what is answered and left is the definitions'
   abbrev Given : Earliest → List ℕ → Type 0
   Given a work' = (a ≡ end_answer s) × (work' ≡ work_after (planable_refusal s) work)
 
-  pub turned_away : (r.refusal ≡ 0 → ⊥) → Given (record { refusal = r.refusal; end = 0 }) work
+  pub turned_away : (e : Refusal) → CheckedOf s (Err e) → (k : ℕ) → k ≡ number_of e → Given (record { refusal = k; end = 0 }) work
   unfolding end_answer work_after
-  turned_away h =
-      let n = ne_eqb (planable_refusal s) 0 (λ z. h (f.refusal ∙ z)) in
-      (rw (n, f.refusal) refl, rw n refl)
+  turned_away e f k is =
+      let n = ne_eqb (planable_refusal s) 0 (λ z. number-some e (f.refusal ∙ z)) in
+      (rw (n, is ∙ f.refusal) refl, rw n refl)
 
-  module _ (z : r.refusal ≡ 0) where
+  module _ (t : Jobs) (f : CheckedOf s (Ok t)) where
     passed : planable_refusal s ≡ 0
-    passed = sym f.refusal ∙ z
+    passed = sym f.refusal
 
-    ready : Ready s r.jobs
-    ready = ready-table s r.jobs passed (f.table z)
+    ready : Ready s t
+    ready = ready-table s t passed f.table
 
-    pub can_search : Fit r.jobs × (¬ Circular (sheet_of r.jobs))
+    pub can_search : Fit t × (¬ Circular (sheet_of t))
     can_search = (ready.fit, ready.free)
 
-    pub answered : (end : ℕ) (work' : List ℕ) → EarliestEnd (sheet_of r.jobs) end → work' ≡ replicate (length work) 0
+    pub answered : (end : ℕ) (work' : List ℕ) → EarliestEnd (sheet_of t) end → work' ≡ replicate (length work) 0
         → Given (record { refusal = 0; end = end }) work'
     unfolding end_answer work_after
     answered end work' x cleared =
-        (rw passed (ap (λ (t : ℕ). record { refusal = 0; end = t }) (table_end s r.jobs ready passed end x)), cleared ∙ rw passed refl)
+        (rw passed (ap (λ (m : ℕ). record { refusal = 0; end = m }) (table_end s t ready passed end x)), cleared ∙ rw passed refl)

@@ -19,11 +19,14 @@ pub fn earliest_end(sheet: &[u8], work: &mut [u8]) -> Earliest
     ensures answer { result ≡ end_answer sheet.now }
     ensures work { work.new ≡ work_after (planable_refusal sheet.now) work.old }
 {
-    let checked = planable::front(sheet);
-    let refusal = checked.refusal;
-    if refusal != 0 {
-        return Earliest { refusal, end: 0 };
+    match planable::front(sheet) {
+        Ok(jobs) => Earliest {
+            refusal: 0,
+            end: search::earliest(work, &jobs),
+        },
+        Err(refusal) => Earliest {
+            refusal: refusal.number(),
+            end: 0,
+        },
     }
-    let end = search::earliest(work, &checked.jobs);
-    Earliest { refusal: 0, end }
 }

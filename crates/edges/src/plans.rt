@@ -2,6 +2,7 @@
 use super::lines::print_case;
 use sheet_format::Job;
 use std::io;
+use words::Number;
 
 // The lengths of the sheets of one job and of twenty jobs with labels of one byte.
 pub const ONE: usize = 23;
@@ -63,12 +64,12 @@ fn end(card: &[u8]) -> u32 {
     if card.len() < 8 {
         return 0;
     }
-    words::read16(card, card.len() - 4) as u32
+    u16::read(card, card.len() - 4) as u32
 }
 
 // Plans a sheet, and prints the number and what then stands first in the lent bytes.
 fn plan(rt: &impl Print, name: &str, s: &[u8], card: &mut [u8], work: &mut [u8]) -> io::Result<()> {
-    print_case(rt, name, planner::plan(s, card, work))?;
+    print_case(rt, name, checking::number(planner::plan(s, card, work)))?;
     print_case(rt, "  first byte of the card", first(card))?;
     print_case(rt, "  first byte of the memory", first(work))?;
     Ok(())

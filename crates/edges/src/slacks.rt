@@ -3,6 +3,7 @@ ghost use Rattle.std.specs.Prelude.{◌≤◌};
 
 use super::lines::print_case;
 use super::plans::first;
+use bits::Set;
 use sheet_format::Job;
 use slack::Slacks;
 use std::io;
@@ -66,7 +67,7 @@ fn ask(rt: &impl Print, name: &str, s: &[u8]) -> io::Result<()> {
     let last = answer.jobs[19];
     print_case(rt, name, answer.refusal)?;
     print_case(rt, "  jobs too late", late_jobs(answer))?;
-    print_case(rt, "  marks implied", bits::ones32(last.implied))?;
+    print_case(rt, "  marks implied", last.implied.size())?;
     print_case(rt, "  first byte of the memory", first(&work))?;
     Ok(())
 }

@@ -3,10 +3,10 @@
 
 ghost use Rattle.std.specs.Prelude.{◌≡◌, true, ◌<◌, ◌≤◌, max, length};
 ghost use Rattle.figures.specs.Figures.{most_jobs};
-ghost use Rattle.tables.specs.Part.{part_in};
 ghost use Rattle.entries.specs.Entry.{ways, group_bytes, entry_in, EntryAhead};
 
 use tables::Part;
+use words::Number;
 
 // The entries of a group.
 pub const WAYS: usize = 16;
@@ -49,21 +49,15 @@ pub fn entry_ahead(
     rested: u16,
 ) -> bool
     requires { (length group.now ≡ group_bytes) × (way < ways) × (jobs ≤ most_jobs) }
-    ensures { result ≡ true → EntryAhead (entry_in group.now way) jobs (part_in part.now).ends unplaced l rested }
+    ensures { result ≡ true → EntryAhead (entry_in group.now way) jobs part.now.ends unplaced l rested }
 {
-    if words::read32(group, way * SET) != unplaced {
+    if u32::read(group, way * SET) != unplaced {
         return false;
     }
     let at = SETS + way * FIGURES;
-    let mut late = after_both(words::read16(group, at), l, l);
-    let mut i: usize = 0;
-    while i < jobs {
-        late += after_both(
-            words::read16(group, at + ENDS + 2 * i),
-            tables::end(part, i),
-            rested,
-        );
-        i += 1;
+    let mut late = after_both(u16::read(group, at), l, l);
+    for i in 0..jobs {
+        late += after_both(u16::read(group, at + ENDS + 2 * i), part.ends[i], rested);
     }
     late == 0
 }

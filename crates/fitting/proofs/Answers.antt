@@ -14,8 +14,9 @@ use Rattle.counting.proofs.Tests.{true-or-false, less-or-not}
 use Rattle.counting.proofs.Sums.{sum_same}
 use Rattle.figures.specs.Figures.{most_jobs, most_modules, no_minute}
 use Rattle.bits.specs.Bits.{bit}
+use Rattle.tables.specs.declared.Jobs.{Jobs}
 use Rattle.tables.specs.Tables.{need_at, kept_at, count_of, modules_of, Fit}
-use Rattle.tables.specs.Part.{Part}
+use Rattle.tables.specs.declared.Part.{Part}
 use Rattle.placement.specs.Profile.{ProfileOf}
 use Rattle.weights.specs.Weights.{Put}
 use Rattle.lanes.specs.Lanes.{served_on, Serving}
@@ -50,7 +51,7 @@ few-steps x c pos = go (less-or-not (x / (x / c + 1)) c)
 
 -- ---- the last row
 
-module _ {t : List ℕ} {f : Frame} {release value : ℕ → ℕ} {order : List ℕ} {n : ℕ} {row : ℕ → ℕ} (framed : Framed f)
+module _ {t : Jobs} {f : Frame} {release value : ℕ → ℕ} {order : List ℕ} {n : ℕ} {row : ℕ → ℕ} (framed : Framed f)
     (h : RowOf t f release value order n row) where
   abbrev span : ℕ
   span = f.close - f.least
@@ -112,7 +113,7 @@ module _ {t : List ℕ} {f : Frame} {release value : ℕ → ℕ} {order : List 
         one k false e = rw (e, beside k e) (omega arith)
 
 -- the same by releases that are the same
-pub overfull_alike : {t : List ℕ} {p : Part} {release release' : ℕ → ℕ} {l C : ℕ} → ((k : ℕ) → k < count_of t → release k ≡ release' k)
+pub overfull_alike : {t : Jobs} {p : Part} {release release' : ℕ → ℕ} {l C : ℕ} → ((k : ℕ) → k < count_of t → release k ≡ release' k)
     → OverfullFrom t p release l C → OverfullFrom t p release' l C
 overfull_alike {t} {release = release} {release'} same h = record {
   value = h.value;
@@ -142,7 +143,7 @@ release_from at l k m = go (true-or-false (eqb (get_or at k 0) no_minute))
     go (inl e) = rw e (le_refl l)
     go (inr e) = rw e m
 
-pub tabling : {t : List ℕ} (p : Part) {f : Frame} {order : List ℕ} {n : ℕ} (at : List ℕ) {old release : List ℕ} {l gone free : ℕ} → Fit t
+pub tabling : {t : Jobs} (p : Part) {f : Frame} {order : List ℕ} {n : ℕ} (at : List ℕ) {old release : List ℕ} {l gone free : ℕ} → Fit t
     → Put (λ k. k) old release most_jobs (release_at at l) → f.least ≡ l → Framed f → HasRoom f n
     → Ordered (λ k. get_or release k 0) (count_of t) order n
     → AllAmong p.unplaced (count_of t) order n → ((k : ℕ) → k < count_of t → l ≤ get_or at k 0)

@@ -10,18 +10,19 @@ use lib.Seq.{get_or-set_same, get_or-set_other}
 use Rattle.counting.proofs.Tests.{same_or_not}
 use Rattle.figures.specs.Figures.{most_jobs}
 use Rattle.bits.specs.Bits.{bit}
+use Rattle.tables.specs.declared.Jobs.{Jobs}
 use Rattle.tables.specs.Tables.{kept_at}
 use Rattle.tables.proofs.Laws.{zeros}
 use Rattle.fitting.specs.Fitting.{top_value, Valued, NoneBeside}
 
-pub valued-none : (t : List ℕ) (step set : ℕ) → Valued t step (replicate most_jobs 0) × NoneBeside set (replicate most_jobs 0)
+pub valued-none : (t : Jobs) (step set : ℕ) → Valued t step (replicate most_jobs 0) × NoneBeside set (replicate most_jobs 0)
 valued-none t step set = (
   record { small = λ k. omega (arith, zeros most_jobs k); short = λ k l. omega (arith, zeros most_jobs k) },
   λ k b. omega (arith, zeros most_jobs k),
 )
 
 -- one job's value set
-pub valued_more : {t : List ℕ} {step : ℕ} {value : List ℕ} (jobs : ℕ) → Valued t step value × NoneBeside jobs value → (k v : ℕ) → k < length value
+pub valued_more : {t : Jobs} {step : ℕ} {value : List ℕ} (jobs : ℕ) → Valued t step value × NoneBeside jobs value → (k v : ℕ) → k < length value
     → v ≤ top_value → (kept_at t k < step → v ≡ 0) → (bit jobs k ≡ false → v ≡ 0)
     → Valued t step (set value k v) × NoneBeside jobs (set value k v)
 valued_more {t} {step} {value} jobs h k v l low short placed = (

@@ -12,6 +12,7 @@ use borrow.Author.Tests.{eqb-true, eqb-false, le-leb}
 use Rattle.counting.specs.Counting.{only, sum}
 use Rattle.counting.proofs.Tests.{true-or-false, clash, less-or-not, last-or_below, and_left, and_right, and_both, only_mono}
 use Rattle.counting.proofs.Sums.{sum-le, sum_same, sum-zero, sum_insert}
+use Rattle.tables.specs.declared.Jobs.{Jobs}
 use Rattle.tables.specs.Tables.{kept_at, count_of}
 use Rattle.lanes.proofs.Laws.{div-rises}
 use Rattle.fitting.specs.declared.Frame.{Frame}
@@ -65,7 +66,7 @@ room_more cols i n l room =
 
 -- ---- one job more
 
-pub row-none : {t : List ℕ} {f : Frame} {release value : ℕ → ℕ} {order : List ℕ} {row : ℕ → ℕ} → Framed f
+pub row-none : {t : Jobs} {f : Frame} {release value : ℕ → ℕ} {order : List ℕ} {row : ℕ → ℕ} → Framed f
     → ((x : ℕ) → x < f.cols → row x ≡ 0) → RowOf t f release value order 0 row
 row-none {t} {f} {release} {value} {order} {row} framed zero = record {
   holds = λ X x l among fits. omega (
@@ -83,7 +84,7 @@ row-none {t} {f} {release} {value} {order} {row} framed zero = record {
     one X among k m (inl e) = absurd (omega (arith, (among k m e).1))
     one X among k m (inr e) = rw e refl
 
-module _ {t : List ℕ} {f : Frame} {release value : ℕ → ℕ} {order : List ℕ} {n : ℕ} {row row' : ℕ → ℕ} (framed : Framed f)
+module _ {t : Jobs} {f : Frame} {release value : ℕ → ℕ} {order : List ℕ} {n : ℕ} {row row' : ℕ → ℕ} (framed : Framed f)
     (h : RowOf t f release value order n row) (inside : get_or order n 0 < count_of t)
     (falls : (i : ℕ) → i < n → release (get_or order n 0) ≤ release (get_or order i 0))
     (light : value (get_or order n 0) ≤ top_value) (short : kept_at t (get_or order n 0) < f.step → value (get_or order n 0) ≡ 0)

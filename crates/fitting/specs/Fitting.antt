@@ -3,8 +3,9 @@ use Rattle.std.specs.Prelude.{◌≡◌, Bool, true, false, cond, ◌&&◌, List
 use Rattle.counting.specs.Counting.{only, sum, Rises}
 use Rattle.figures.specs.Figures.{most_jobs, no_minute}
 use Rattle.bits.specs.Bits.{bit}
+use Rattle.tables.specs.declared.Jobs.{Jobs}
 use Rattle.tables.specs.Tables.{need_at, kept_at, count_of, modules_of, Fit}
-use Rattle.tables.specs.Part.{Part}
+use Rattle.tables.specs.declared.Part.{Part}
 use Rattle.placement.specs.Profile.{ProfileOf}
 use Rattle.lanes.specs.Lanes.{served_on}
 use Rattle.fitting.specs.declared.Frame.{Frame}
@@ -52,7 +53,7 @@ abbrev pub AllAmong : ℕ → ℕ → List ℕ → ℕ → Type 0
 AllAmong set jobs order n = (k : ℕ) → k < jobs → bit set k ≡ true → Among order n k
 
 -- a value for each job, and none for a job that keeps its modules for less than a step
-pub record Valued (t : List ℕ) (step : ℕ) (value : List ℕ) : Type 0 where
+pub record Valued (t : Jobs) (step : ℕ) (value : List ℕ) : Type 0 where
   pub small : (k : ℕ) → get_or value k 0 ≤ top_value
   pub short : (k : ℕ) → kept_at t k < step → get_or value k 0 ≡ 0
 
@@ -81,12 +82,12 @@ unfoldable pub row_with : (ℕ → ℕ) → ℕ → ℕ → ℕ → ℕ → ℕ
 row_with row d h v x = max (row x) (only (leb d (min x h)) (v + row (min x h - d)))
 
 -- the jobs of X keep a module for x minutes together, and have room up to minute C behind every minute from which on they start
-abbrev pub FitsIn : List ℕ → (ℕ → ℕ) → ℕ → (ℕ → Bool) → ℕ → Type 0
+abbrev pub FitsIn : Jobs → (ℕ → ℕ) → ℕ → (ℕ → Bool) → ℕ → Type 0
 FitsIn t release C X x = (sum (count_of t) (λ k. only (X k) (kept_at t k)) ≤ x)
     × ((a : ℕ) → sum (count_of t) (λ k. only (X k && leb a (release k)) (kept_at t k)) ≤ C - a)
 
 -- no set of the first n jobs that fits into x minutes is worth more than the row has for them
-pub record RowOf (t : List ℕ) (f : Frame) (release value : ℕ → ℕ) (order : List ℕ) (n : ℕ) (row : ℕ → ℕ) : Type 0 where
+pub record RowOf (t : Jobs) (f : Frame) (release value : ℕ → ℕ) (order : List ℕ) (n : ℕ) (row : ℕ → ℕ) : Type 0 where
   pub holds : (X : ℕ → Bool) (x : ℕ) → x ≤ f.close - f.least → ((k : ℕ) → k < count_of t → X k ≡ true → Among order n k)
       → FitsIn t release f.close X x → sum (count_of t) (λ k. only (X k) (value k)) ≤ row (x / f.step)
   pub rises : (a b : ℕ) → a ≤ b → b < f.cols → row a ≤ row b
@@ -98,7 +99,7 @@ abbrev pub reach_by : Frame → (ℕ → ℕ) → ℕ → ℕ
 reach_by f row x = row (min x (f.close - f.least) / f.step)
 
 -- what a table asks of its figures
-pub record Tabling (t : List ℕ) (p : Part) (f : Frame) (order : List ℕ) (n : ℕ) (release : List ℕ) (gone free : ℕ) : Type 0 where
+pub record Tabling (t : Jobs) (p : Part) (f : Frame) (order : List ℕ) (n : ℕ) (release : List ℕ) (gone free : ℕ) : Type 0 where
   pub fit : Fit t
   pub framed : Framed f
   pub room : HasRoom f n
@@ -111,7 +112,7 @@ pub record Tabling (t : List ℕ) (p : Part) (f : Frame) (order : List ℕ) (n :
 
 -- the unplaced jobs, each of which starts from its release on, have more value than the lanes, one on each module, can serve from minute l
 -- up to minute C
-pub record OverfullFrom (t : List ℕ) (p : Part) (release : ℕ → ℕ) (l C : ℕ) : Type 0 where
+pub record OverfullFrom (t : Jobs) (p : Part) (release : ℕ → ℕ) (l C : ℕ) : Type 0 where
   pub value : ℕ → ℕ
   pub reach : ℕ → ℕ
   pub serves : (X : ℕ → Bool) (x : ℕ) → x ≤ C → ((k : ℕ) → k < count_of t → X k ≡ true → bit p.unplaced k ≡ true)

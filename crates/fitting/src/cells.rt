@@ -11,10 +11,8 @@ pub fn clear_cells(slate: &mut Slate, n: usize)
     requires { (n ≤ cells) × (length slate.old ≡ slate_size) }
     ensures { Put (λ x. 0 + x) slate.old slate.new n (λ x. 0) }
 {
-    let mut i: usize = 0;
-    while i < n {
+    for i in 0..n {
         slate[i] = 0;
-        i += 1;
     }
 }
 
@@ -23,10 +21,8 @@ fn lift_cells(slate: &mut Slate, from: usize, at: usize, n: usize, least: u16)
     requires { ((from + n ≤ at) × (at + n ≤ cells)) × (length slate.old ≡ slate_size) }
     ensures { Put (λ x. at + x) slate.old slate.new n (λ x. max (row_at slate.old from x) least) }
 {
-    let mut i: usize = 0;
-    while i < n {
-        slate[at + i] = counting::larger(slate[from + i], least);
-        i += 1;
+    for i in 0..n {
+        slate[at + i] = slate[from + i].max(least);
     }
 }
 
@@ -37,10 +33,8 @@ fn raise_cells(slate: &mut Slate, lower: usize, upper: usize, at: usize, n: usiz
     ensures { Put (λ x. at + x) slate.old slate.new n
         (λ x. max (row_at slate.old upper x) (v + row_at slate.old lower x)) }
 {
-    let mut i: usize = 0;
-    while i < n {
-        slate[at + i] = counting::larger(slate[upper + i], v + slate[lower + i]);
-        i += 1;
+    for i in 0..n {
+        slate[at + i] = slate[upper + i].max(v + slate[lower + i]);
     }
 }
 

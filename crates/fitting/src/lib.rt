@@ -5,7 +5,6 @@
 ghost use Rattle.std.specs.Prelude.{◌≡◌, true, ℕ, ◌<◌, ◌≤◌, length, get_or};
 ghost use Rattle.figures.specs.Figures.{most_jobs};
 ghost use Rattle.tables.specs.Tables.{count_of, modules_of, Fit};
-ghost use Rattle.tables.specs.Part.{part_in};
 ghost use Rattle.placement.specs.Profile.{ProfileOf};
 ghost use Rattle.lanes.specs.Lanes.{most_served};
 ghost use Rattle.fitting.specs.Fitting.{slate_size, release_at, Framed, HasRoom, Tabling, OverfullFrom};
@@ -44,7 +43,7 @@ fn frame_of(count: usize, least: u16, close: u16) -> Frame
     ensures { ((Framed result) × (HasRoom result count)) × ((result.least ≡ least) × (result.close ≡ close)) }
 {
     let most = (CELLS / (count + 1) - 1) as u16;
-    let cols = (counting::smaller(most, close - least) as usize) + 1;
+    let cols = (most.min(close - least) as usize) + 1;
     let step = (close - least) / (cols as u16) + 1;
     Frame {
         cols,
@@ -77,12 +76,12 @@ fn gap(
     gone: usize,
     free: u16,
 ) -> u32
-    requires { (Tabling jobs.now (part_in part.now) frame order.now count release.now gone free) × (length slate.old ≡ slate_size) }
-    ensures over { result ≡ 0 → OverfullFrom jobs.now (part_in part.now) (λ k. get_or release.now k 0)
+    requires { (Tabling jobs.now part.now frame order.now count release.now gone free) × (length slate.old ≡ slate_size) }
+    ensures over { result ≡ 0 → OverfullFrom jobs.now part.now (λ k. get_or release.now k 0)
         frame.least frame.close }
     ensures size { length slate.new ≡ length slate.old }
 {
-    let unplaced = tables::unplaced(part);
+    let unplaced = part.unplaced;
     let value = valuing::values_of(slate, jobs, unplaced, frame.step);
     let base = serving::fill_rows(slate, jobs, frame, order, count, release, &value.of);
     let served = serving::served(slate, base, frame, jobs, part, gone, free);
@@ -104,13 +103,12 @@ fn shown(
     gone: usize,
     free: u16,
 ) -> bool
-    requires { (Tabling jobs.now (part_in part.now) frame order.now count release.now gone free) × (length slate.old ≡ slate_size) }
-    ensures over { result ≡ true → OverfullFrom jobs.now (part_in part.now) (λ k. get_or release.now k 0)
+    requires { (Tabling jobs.now part.now frame order.now count release.now gone free) × (length slate.old ≡ slate_size) }
+    ensures over { result ≡ true → OverfullFrom jobs.now part.now (λ k. get_or release.now k 0)
         frame.least frame.close }
     ensures size { length slate.new ≡ length slate.old }
 {
-    let mut turns: usize = 0;
-    while turns < TURNS {
+    for turns in 0..TURNS {
         let above = gap(slate, jobs, part, frame, order, count, release, gone, free);
         if above == 0 {
             return true;
@@ -118,7 +116,6 @@ fn shown(
         turning::turn(
             slate, jobs, part, frame, order, count, release, gone, free, above,
         );
-        turns += 1;
     }
     gap(slate, jobs, part, frame, order, count, release, gone, free) == 0
 }
@@ -136,12 +133,12 @@ fn tabled(
 ) -> bool
     requires { (((Fit jobs.now) × (length slate.old ≡ slate_size)) × (least ≤ close))
         × (((k : ℕ) → k < count_of jobs.now → least ≤ get_or at.now k 0)
-        × (ProfileOf (part_in part.now) gone free (modules_of jobs.now) least)) }
-    ensures over { result ≡ true → OverfullFrom jobs.now (part_in part.now) (release_at at.now least) least close }
+        × (ProfileOf part.now gone free (modules_of jobs.now) least)) }
+    ensures over { result ≡ true → OverfullFrom jobs.now part.now (release_at at.now least) least close }
     ensures size { length slate.new ≡ length slate.old }
 {
     let release = ordering::releases_of(at, least);
-    let left = ordering::ordered(&release.of, tables::unplaced(part), tables::count(jobs));
+    let left = ordering::ordered(&release.of, part.unplaced, jobs.count());
     let frame = frame_of(left.count, least, close);
     shown(
         slate,
@@ -174,14 +171,14 @@ pub fn overfull(
 ) -> bool
     requires { ((Fit jobs.now) × (length slate.old ≡ slate_size))
         × (((k : ℕ) → k < count_of jobs.now → least ≤ get_or at.now k 0)
-        × (ProfileOf (part_in part.now) gone free (modules_of jobs.now) least)) }
-    ensures over { result ≡ true → OverfullFrom jobs.now (part_in part.now) (release_at at.now least) least close }
+        × (ProfileOf part.now gone free (modules_of jobs.now) least)) }
+    ensures over { result ≡ true → OverfullFrom jobs.now part.now (release_at at.now least) least close }
     ensures size { length slate.new ≡ length slate.old }
 {
     if close < least {
         return false;
     }
-    let account = paying::account_of(tables::unplaced(part));
+    let account = paying::account_of(part.unplaced);
     if account < FEWEST {
         paying::pass(slate, FEWEST);
         return false;

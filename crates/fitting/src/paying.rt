@@ -5,6 +5,7 @@ ghost use Rattle.std.specs.Prelude.{◌≡◌, ◌+◌, ◌≤◌, length};
 ghost use Rattle.figures.specs.Figures.{most_jobs};
 
 use super::{CELLS, Slate};
+use bits::Set;
 use figures::MOST_JOBS;
 
 // One account for each number of jobs, and one more, to which the part-plan of all jobs is charged.
@@ -42,7 +43,7 @@ const PAUSE: u16 = 64;
 pub fn account_of(unplaced: u32) -> usize
     ensures { result ≤ most_jobs }
 {
-    let ones = bits::ones32(unplaced) as usize;
+    let ones = unplaced.size() as usize;
     if ones < MOST_JOBS {
         return ones;
     }
@@ -78,7 +79,7 @@ fn sum_of(a: u16, b: u16) -> u16 {
     if b > MOST_SPENT {
         return MOST_SPENT;
     }
-    counting::smaller(a + b, MOST_SPENT)
+    (a + b).min(MOST_SPENT)
 }
 
 // Charges an amount to the part-plan of so many jobs.
@@ -92,7 +93,7 @@ fn spend(slate: &mut Slate, count: usize, amount: u16)
 
 // The mean after one more part-plan, behind which so much was spent; the first one alone counts for all.
 fn mean_after(mean: u16, spent: u16) -> u16 {
-    let last = counting::smaller(spent, MOST_SPENT);
+    let last = spent.min(MOST_SPENT);
     if mean == 0 {
         return MEAN * last;
     }
@@ -116,10 +117,8 @@ fn leave_up_to(slate: &mut Slate, count: usize)
     requires { count ≤ most_jobs }
     ensures { length slate.new ≡ length slate.old }
 {
-    let mut k = counting::smaller(slate[ENTERED], NONE_ENTERED) as usize;
-    while k <= count {
+    for k in slate[ENTERED].min(NONE_ENTERED) as usize..=count {
         leave(slate, k);
-        k += 1;
     }
 }
 
@@ -161,7 +160,7 @@ fn credit_after(credit: u16, mean: u16, cost: u16, cut: bool) -> u16 {
     if gained < cost {
         return 0;
     }
-    counting::smaller(gained - cost, MOST_CREDIT)
+    (gained - cost).min(MOST_CREDIT)
 }
 
 // The fewest jobs of a part-plan that is entered, once a table of so many jobs is made.
@@ -197,10 +196,8 @@ fn first_credit(count: usize) -> u16
 fn put_credits(slate: &mut Slate)
     ensures { length slate.new ≡ length slate.old }
 {
-    let mut count: usize = 0;
-    while count <= MOST_JOBS {
+    for count in 0..=MOST_JOBS {
         slate[CREDITS + count] = first_credit(count);
-        count += 1;
     }
 }
 

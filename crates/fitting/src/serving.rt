@@ -1,7 +1,6 @@
 // The table of the jobs that are left, and what the lanes serve by its last row.
 ghost use Rattle.std.specs.Prelude.{◌≡◌, ℕ, ◌+◌, ◌-◌, ◌/◌, ◌<◌, ◌≤◌, length, get_or};
 ghost use Rattle.tables.specs.Tables.{modules_of, count_of, Fit};
-ghost use Rattle.tables.specs.Part.{part_in};
 ghost use Rattle.weights.specs.Weights.{Put};
 ghost use Rattle.lanes.specs.Lanes.{served_on, most_reach, most_served, Serving};
 ghost use Rattle.fitting.specs.Fitting.{cells, slate_size, row_at, row_with, reach_by, top_value, Valued, Framed, HasRoom, Ordered, RowOf};
@@ -52,19 +51,10 @@ pub fn fill_rows(
 {
     clear_cells(slate, frame.cols);
     let mut from: usize = 0;
-    let mut i: usize = 0;
-    while i < count {
+    for i in 0..count {
         let j = order[i];
-        add_job(
-            slate,
-            from,
-            frame,
-            tables::kept(jobs, j),
-            release[j],
-            value[j],
-        );
+        add_job(slate, from, frame, jobs.kept(j), release[j], value[j]);
         from += frame.cols;
-        i += 1;
     }
     from
 }
@@ -89,25 +79,23 @@ pub fn served(
     free: u16,
 ) -> u32
     requires { ((Framed frame) × (base + frame.cols ≤ cells))
-        × (Serving (λ x. x) (reach_by frame (row_at slate.now base)) (part_in part.now) gone free (modules_of jobs.now) frame.least
+        × (Serving (λ x. x) (reach_by frame (row_at slate.now base)) part.now gone free (modules_of jobs.now) frame.least
         frame.close) }
     ensures { (result ≡ served_on (λ x. x) (reach_by frame (row_at slate.now base)) (modules_of jobs.now)
-        (part_in part.now) frame.least frame.close) × (result ≤ most_served) }
+        part.now frame.least frame.close) × (result ≤ most_served) }
 {
-    let placed = tables::placed(part);
+    let placed = part.placed;
     let mut total: u32 = 0;
     let mut at = frame.least;
     let mut reach = reach_from(slate, base, frame, at);
     let mut f = free;
-    let mut i = gone;
-    while i < placed {
-        let to = weights::next_end(at, tables::until(part, i), frame.close);
+    for i in gone..placed {
+        let to = weights::next_end(at, part.until[i], frame.close);
         let next = reach_from(slate, base, frame, to);
         total += values::wide(f) * (reach - next);
         at = to;
         reach = next;
-        f += tables::held(part, i);
-        i += 1;
+        f += part.held[i];
     }
     total + values::wide(f) * reach
 }

@@ -2,7 +2,6 @@
 // shares are sound.
 ghost use Rattle.std.specs.Prelude.{◌≡◌, ◌+◌, ◌<◌, ◌≤◌, length};
 ghost use Rattle.figures.specs.Figures.{most_jobs};
-ghost use Rattle.tables.specs.Part.{part_in};
 ghost use Rattle.fitting.specs.Fitting.{most_move, Within};
 
 use super::serving::minutes_from;
@@ -121,11 +120,9 @@ fn traced(
     }
     let mut next = lanes.of;
     let mut x = values::steps(minutes_from(t, frame.close), frame.step as u32);
-    let mut i = count;
-    while 0 < i {
-        i -= 1;
+    for i in (0..count).rev() {
         let j = job_at(order, count, i);
-        let step = step_back(slate, frame, i, x, tables::kept(jobs, j), release[j]);
+        let step = step_back(slate, frame, i, x, jobs.kept(j), release[j]);
         next[j] = more_lanes(next[j], more, step.taken);
         x = step.x;
     }
@@ -145,12 +142,12 @@ fn lanes_of(
     free: u16,
 ) -> Lanes
     requires { ((0 < frame.step) × (Within order.now count))
-        × ((part_in part.now).placed ≤ most_jobs) }
+        × (part.now.placed ≤ most_jobs) }
 {
     let none = Lanes {
         of: [0u16; MOST_JOBS],
     };
-    let placed = tables::placed(part);
+    let placed = part.placed;
     let mut lanes = traced(
         slate,
         jobs,
@@ -162,12 +159,10 @@ fn lanes_of(
         frame.least,
         free,
     );
-    let mut i = gone;
-    while i < placed {
-        let t = tables::until(part, i);
-        let more = tables::held(part, i);
+    for i in gone..placed {
+        let t = part.until[i];
+        let more = part.held[i];
         lanes = traced(slate, jobs, frame, order, count, release, lanes, t, more);
-        i += 1;
     }
     lanes
 }
@@ -190,12 +185,10 @@ fn squares_of(
     requires { Within order.now count }
 {
     let mut total: u64 = 0;
-    let mut i: usize = 0;
-    while i < count {
+    for i in 0..count {
         let j = job_at(order, count, i);
-        let d = difference(tables::need(jobs, j), lanes[j]);
+        let d = difference(jobs.need(j), lanes[j]);
         total += counting::times(d, d) as u64;
-        i += 1;
     }
     total
 }
@@ -238,13 +231,11 @@ fn move_shares(
     requires { (0 < squares) × (Within order.now count) }
     ensures { length slate.new ≡ length slate.old }
 {
-    let mut i: usize = 0;
-    while i < count {
+    for i in 0..count {
         let j = job_at(order, count, i);
-        let need = tables::need(jobs, j);
+        let need = jobs.need(j);
         let by = move_of(gap, difference(need, lanes[j]), squares);
         slate[CELLS + j] = moved(slate[CELLS + j], by, lanes[j] < need);
-        i += 1;
     }
 }
 
@@ -253,11 +244,9 @@ fn largest_share(slate: &Slate, order: &[usize; MOST_JOBS], count: usize) -> u16
     requires { Within order.now count }
 {
     let mut largest: u16 = 0;
-    let mut i: usize = 0;
-    while i < count {
+    for i in 0..count {
         let j = job_at(order, count, i);
-        largest = counting::larger(largest, slate[CELLS + j]);
-        i += 1;
+        largest = largest.max(slate[CELLS + j]);
     }
     largest
 }
@@ -275,11 +264,9 @@ fn double_shares(slate: &mut Slate, order: &[usize; MOST_JOBS], count: usize)
     requires { Within order.now count }
     ensures { length slate.new ≡ length slate.old }
 {
-    let mut i: usize = 0;
-    while i < count {
+    for i in 0..count {
         let j = job_at(order, count, i);
         slate[CELLS + j] = doubled(slate[CELLS + j]);
-        i += 1;
     }
 }
 
@@ -297,7 +284,7 @@ pub fn turn(
     gap: u32,
 )
     requires { ((0 < frame.step) × (Within order.now count))
-        × ((part_in part.now).placed ≤ most_jobs) }
+        × (part.now.placed ≤ most_jobs) }
     ensures { length slate.new ≡ length slate.old }
 {
     let lanes = lanes_of(slate, jobs, part, frame, order, count, release, gone, free);

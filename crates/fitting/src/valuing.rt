@@ -5,6 +5,7 @@ ghost use Rattle.tables.specs.Tables.{need_at, count_of, Fit};
 ghost use Rattle.fitting.specs.Fitting.{top_value, Valued, NoneBeside};
 
 use super::{CELLS, Slate};
+use bits::Set;
 use figures::MOST_JOBS;
 use tables::Jobs;
 use values::Figures;
@@ -24,7 +25,7 @@ fn value_of(share: u16, kept: u16, step: u16, left: bool) -> u16
     if kept < step {
         return 0;
     }
-    counting::smaller(share / SHARES, MOST_VALUE)
+    (share / SHARES).min(MOST_VALUE)
 }
 
 // The values of the jobs of a set.
@@ -32,13 +33,11 @@ pub fn values_of(slate: &Slate, jobs: &Jobs, set: u32, step: u16) -> Figures
     requires { Fit jobs.now }
     ensures { (Valued jobs.now step result.of) × (NoneBeside set result.of) }
 {
-    let count = tables::count(jobs);
+    let count = jobs.count();
     let mut next = [0u16; MOST_JOBS];
-    let mut k: usize = 0;
-    while k < count {
-        let left = bits::test32(set, k);
-        next[k] = value_of(slate[CELLS + k], tables::kept(jobs, k), step, left);
-        k += 1;
+    for k in 0..count {
+        let left = set.has(k);
+        next[k] = value_of(slate[CELLS + k], jobs.kept(k), step, left);
     }
     Figures { of: next }
 }
@@ -48,12 +47,10 @@ pub fn worth_of(jobs: &Jobs, value: &[u16; MOST_JOBS]) -> u32
     requires { (Fit jobs.now) × ((k : ℕ) → get_or value.now k 0 ≤ top_value) }
     ensures { result ≡ sum (count_of jobs.now) (λ k. need_at jobs.now k * get_or value.now k 0) }
 {
-    let count = tables::count(jobs);
+    let count = jobs.count();
     let mut total: u32 = 0;
-    let mut k: usize = 0;
-    while k < count {
-        total += counting::times(tables::need(jobs, k), value[k]);
-        k += 1;
+    for k in 0..count {
+        total += counting::times(jobs.need(k), value[k]);
     }
     total
 }
@@ -66,12 +63,10 @@ fn longest_of(jobs: &Jobs) -> u16
     requires { Fit jobs.now }
     ensures { 0 < result }
 {
-    let count = tables::count(jobs);
+    let count = jobs.count();
     let mut longest: u16 = 1;
-    let mut k: usize = 0;
-    while k < count {
-        longest = counting::larger(longest, tables::kept(jobs, k));
-        k += 1;
+    for k in 0..count {
+        longest = longest.max(jobs.kept(k));
     }
     longest
 }
@@ -92,11 +87,9 @@ pub fn put_shares(slate: &mut Slate, jobs: &Jobs)
     requires { Fit jobs.now }
     ensures { length slate.new ≡ length slate.old }
 {
-    let count = tables::count(jobs);
+    let count = jobs.count();
     let longest = longest_of(jobs);
-    let mut k: usize = 0;
-    while k < count {
-        slate[CELLS + k] = first_share(tables::kept(jobs, k), longest);
-        k += 1;
+    for k in 0..count {
+        slate[CELLS + k] = first_share(jobs.kept(k), longest);
     }
 }

@@ -8,14 +8,13 @@ ghost use Rattle.counting.specs.Counting.{only};
 ghost use Rattle.bits.specs.Bits.{bit, with_bit};
 ghost use Rattle.free_modules.specs.Lowest.{lowest_outside};
 
+use bits::Set;
+
 // The set, with the modules of a job that keeps them until after minute t.
 pub fn with_busy(set: u64, modules: u64, until: u16, t: u16) -> u64
     ensures { result ≡ bit_or set (only (ltb t until) modules) }
 {
-    if t < until {
-        return set | modules;
-    }
-    set
+    if t < until { set | modules } else { set }
 }
 
 // The set with module m, where m is not busy and modules are still wanted.
@@ -23,13 +22,11 @@ fn take_module(set: u64, busy: u64, m: usize, want: u16) -> u64
     requires { m < 64 }
     ensures { result ≡ cond (not (bit busy m) && ltb (ones set) want) (with_bit set m) set }
 {
-    if bits::test64(busy, m) {
-        return set;
+    if !busy.has(m) && set.size() < u32::from(want) {
+        set.with(m)
+    } else {
+        set
     }
-    if bits::ones64(set) < (want as u32) {
-        return bits::set64(set, m);
-    }
-    set
 }
 
 // The lowest-numbered modules that are not busy, as many as are wanted.
@@ -37,11 +34,9 @@ pub fn lowest_free(busy: u64, modules: u16, want: u16) -> u64
     requires { modules ≤ 64 }
     ensures { result ≡ lowest_outside busy modules want }
 {
-    let mut set: u64 = 0;
-    let mut m: usize = 0;
-    while m < (modules as usize) {
+    let mut set = 0;
+    for m in 0..usize::from(modules) {
         set = take_module(set, busy, m, want);
-        m += 1;
     }
     set
 }

@@ -14,12 +14,13 @@ use Rattle.counting.proofs.Tests.{same_or_not, only-le}
 use Rattle.counting.proofs.Ranges.{largest-le, largest_same}
 use Rattle.bits.specs.Bits.{bit}
 use Rattle.schedule.specs.Bounds.{head}
+use Rattle.tables.specs.declared.Jobs.{Jobs}
 use Rattle.tables.specs.Tables.{sheet_of, minutes_at, arrival_at, earlier_at, count_of, Fit}
 use Rattle.tables.proofs.Laws.{zeros}
 use Rattle.heads.specs.Heads.{HeadsOf, AllShort}
 
 -- a chain of k jobs puts a start off to minute 1440 for the arrival of the first and 1440 minutes for each before the last
-pub head_short : (t : List ℕ) → Fit t → (k j : ℕ) → j < count_of t → head (sheet_of t) k j ≤ most_minutes * k
+pub head_short : (t : Jobs) → Fit t → (k j : ℕ) → j < count_of t → head (sheet_of t) k j ≤ most_minutes * k
 unfolding head
 head_short t fit zero j l = zero-le
 head_short t fit (suc k) j l =
@@ -27,15 +28,15 @@ head_short t fit (suc k) j l =
     (λ i m. le_trans (only-le (bit (earlier_at t j) i) _) (omega (arith, head_short t fit k i m, fit.short i m))) in
     omega (arith, fit.arrived j l, most)
 
-pub all_short : {t heads : List ℕ} {k : ℕ} → Fit t → HeadsOf t heads k → k < most_jobs → AllShort t heads
+pub all_short : {t : Jobs} {heads : List ℕ} {k : ℕ} → Fit t → HeadsOf t heads k → k < most_jobs → AllShort t heads
 all_short {t} {heads} {k} fit h l i m = omega (arith, h.each i m, head_short t fit k i m, fit.short i m)
 
 -- the last end of the earlier jobs of job j, by the heads of other jobs
-abbrev latest_to : List ℕ → List ℕ → ℕ → ℕ
+abbrev latest_to : Jobs → List ℕ → ℕ → ℕ
 latest_to t heads j = largest (count_of t) (λ i. only (bit (earlier_at t j) i) (get_or heads i 0 + minutes_at t i))
 
 -- what is found for the first n jobs
-pub record Advancing (t : List ℕ) (k : ℕ) (heads next : List ℕ) (n : ℕ) : Type 0 where
+pub record Advancing (t : Jobs) (k : ℕ) (heads next : List ℕ) (n : ℕ) : Type 0 where
   pub fit : Fit t
   pub old : HeadsOf t heads k
   pub low : k < most_jobs
@@ -43,7 +44,7 @@ pub record Advancing (t : List ℕ) (k : ℕ) (heads next : List ℕ) (n : ℕ) 
   pub size : length next ≡ most_jobs
   pub each : (j : ℕ) → j < n → get_or next j 0 ≡ head (sheet_of t) (k + 1) j
 
-pub advancing-none : {t : List ℕ} {k : ℕ} {heads : List ℕ} (next : List ℕ)
+pub advancing-none : {t : Jobs} {k : ℕ} {heads : List ℕ} (next : List ℕ)
     → Fit t → HeadsOf t heads k → k < most_jobs → length next ≡ most_jobs → Advancing t k heads next 0
 advancing-none next f c l e = record {
   fit = f;
@@ -54,7 +55,7 @@ advancing-none next f c l e = record {
   each = λ j m. absurd (not-suc-le-zero m);
 }
 
-module _ {t : List ℕ} {k : ℕ} {heads next : List ℕ} {n : ℕ} (h : Advancing t k heads next n) where
+module _ {t : Jobs} {k : ℕ} {heads next : List ℕ} {n : ℕ} (h : Advancing t k heads next n) where
   pub advancing-step : n < count_of t → Advancing t k heads (set next n (max (arrival_at t n) (latest_to t heads n))) (n + 1)
   unfolding head
   advancing-step l = record {
@@ -81,11 +82,11 @@ module _ {t : List ℕ} {k : ℕ} {heads next : List ℕ} {n : ℕ} (h : Advanci
   advancing_all l = record { each = λ j m. h.each j (omega arith) }
 
 -- no chain yet
-pub heads-none : (t : List ℕ) → HeadsOf t (replicate most_jobs 0) 0
+pub heads-none : (t : Jobs) → HeadsOf t (replicate most_jobs 0) 0
 unfolding head
 heads-none t = record { each = λ j l. zeros 20 j }
 
 -- a list that has the same at the jobs' places
-pub heads_same : {t a : List ℕ} {k : ℕ} (b : List ℕ) → count_of t ≤ most_jobs → ((j : ℕ) → j < most_jobs → get_or b j 0 ≡ get_or a j 0)
+pub heads_same : {t : Jobs} {a : List ℕ} {k : ℕ} (b : List ℕ) → count_of t ≤ most_jobs → ((j : ℕ) → j < most_jobs → get_or b j 0 ≡ get_or a j 0)
     → HeadsOf t a k → HeadsOf t b k
 heads_same b few same h = record { each = λ j l. same j (omega arith) ∙ h.each j l }

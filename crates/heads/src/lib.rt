@@ -6,9 +6,9 @@ ghost use Rattle.figures.specs.Figures.{most_jobs, last_end};
 ghost use Rattle.counting.specs.Counting.{only, largest};
 ghost use Rattle.bits.specs.Bits.{bit};
 ghost use Rattle.tables.specs.Tables.{minutes_at, earlier_at, count_of, Fit};
-ghost use Rattle.tables.specs.Prepared.{heads_in};
 ghost use Rattle.heads.specs.Heads.{HeadsOf, AllShort};
 
+use bits::Set;
 use figures::MOST_JOBS;
 use tables::{Jobs, Prepared};
 
@@ -17,8 +17,8 @@ fn end_of(heads: &[u16; MOST_JOBS], jobs: &Jobs, set: u32, i: usize) -> u16
     requires { (i < most_jobs) × (get_or heads.now i 0 + minutes_at jobs.now i ≤ last_end) }
     ensures { result ≡ only (bit set i) (get_or heads.now i 0 + minutes_at jobs.now i) }
 {
-    if bits::test32(set, i) {
-        return heads[i] + tables::minutes(jobs, i);
+    if set.has(i) {
+        return heads[i] + jobs.minutes(i);
     }
     0
 }
@@ -29,13 +29,11 @@ fn latest_end(heads: &[u16; MOST_JOBS], jobs: &Jobs, j: usize) -> u16
     ensures { result ≡ largest (count_of jobs.now)
         (λ i. only (bit (earlier_at jobs.now j) i) (get_or heads.now i 0 + minutes_at jobs.now i)) }
 {
-    let n = tables::count(jobs);
-    let earlier = tables::earlier(jobs, j);
+    let n = jobs.count();
+    let earlier = jobs.earlier(j);
     let mut r: u16 = 0;
-    let mut i: usize = 0;
-    while i < n {
-        r = counting::larger(r, end_of(heads, jobs, earlier, i));
-        i += 1;
+    for i in 0..n {
+        r = r.max(end_of(heads, jobs, earlier, i));
     }
     r
 }
@@ -51,12 +49,10 @@ fn advance(jobs: &Jobs, heads: Heads, k: usize) -> Heads
     requires { (Fit jobs.now) × ((HeadsOf jobs.now heads.at k) × (k < most_jobs)) }
     ensures { HeadsOf jobs.now result.at (k + 1) }
 {
-    let n = tables::count(jobs);
+    let n = jobs.count();
     let mut next = [0u16; MOST_JOBS];
-    let mut j: usize = 0;
-    while j < n {
-        next[j] = counting::larger(tables::arrival(jobs, j), latest_end(&heads.at, jobs, j));
-        j += 1;
+    for j in 0..n {
+        next[j] = jobs.arrival(j).max(latest_end(&heads.at, jobs, j));
     }
     Heads { at: next }
 }
@@ -66,26 +62,20 @@ pub fn of_all(jobs: &Jobs) -> Heads
     requires { Fit jobs.now }
     ensures { HeadsOf jobs.now result.at (count_of jobs.now) }
 {
-    let n = tables::count(jobs);
+    let n = jobs.count();
     let mut heads = Heads {
         at: [0u16; MOST_JOBS],
     };
-    let mut k: usize = 0;
-    while k < n {
+    for k in 0..n {
         heads = advance(jobs, heads, k);
-        k += 1;
     }
     heads
 }
 
 // The first minute at which job k can start from minute l on.
-pub fn first_start(prepared: &Prepared, l: u16, k: usize) -> u32
+pub fn first_start(prepared: &Prepared, l: u16, k: usize) -> u16
     requires { k < most_jobs }
-    ensures { result ≡ max l (get_or (heads_in prepared.now) k 0) }
+    ensures { result ≡ max l (get_or prepared.now.heads k 0) }
 {
-    let head = tables::head(prepared, k);
-    if head <= (l as u32) {
-        return l as u32;
-    }
-    head
+    l.max(prepared.heads[k])
 }

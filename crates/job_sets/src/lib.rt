@@ -9,6 +9,7 @@ ghost use Rattle.schedule.specs.Plan.{Circular};
 ghost use Rattle.job_sets.specs.Sets.{closed_sets};
 ghost use Rattle.job_sets.specs.Results.{Leaving, SetsAmong, sets_answer};
 
+use bits::Set;
 use figures::MOST_JOBS;
 use tables::Jobs;
 
@@ -23,8 +24,8 @@ fn busier(
     requires { (first < most_jobs) × (second < most_jobs) }
     ensures { (result ≡ first) ⊎ (result ≡ second) }
 {
-    let a = bits::ones32(left & (before[first] | behind[first]));
-    let b = bits::ones32(left & (before[second] | behind[second]));
+    let a = (left & (before[first] | behind[first])).size();
+    let b = (left & (before[second] | behind[second])).size();
     if a < b {
         return second;
     }
@@ -36,11 +37,9 @@ fn busiest(before: &[u32; MOST_JOBS], behind: &[u32; MOST_JOBS], left: u32) -> u
     requires { (0 < left) × (left < 2 ^ most_jobs) }
     ensures { (result < most_jobs) × (bit left result ≡ true) }
 {
-    let mut best = bits::lowest32(left);
-    let mut todo = bits::without_lowest32(left);
-    while todo != 0 {
-        best = busier(before, behind, left, best, bits::lowest32(todo));
-        todo = bits::without_lowest32(todo);
+    let mut best = left.lowest();
+    for j in left.without_lowest().members() {
+        best = busier(before, behind, left, best, j);
     }
     best
 }
@@ -50,7 +49,7 @@ fn leaving(left: u32, j: usize, others: u32) -> u32
     requires { j < most_jobs }
     ensures { Leaving left j others result }
 {
-    let rest = bits::clear32(left, j);
+    let rest = left.without(j);
     rest - (rest & others)
 }
 
@@ -81,7 +80,7 @@ fn sets_of(jobs: &Jobs) -> u32
     let marks = marks::marks_of(jobs);
     let before = marks.before;
     let behind = marks.behind;
-    sets_among(&before, &behind, (1u32 << tables::count(jobs)) - 1)
+    sets_among(&before, &behind, (1u32 << jobs.count()) - 1)
 }
 
 // The refusal, and the number of job sets of a sheet.
@@ -96,13 +95,14 @@ pub struct SetCount {
 pub fn set_count(sheet: &[u8]) -> SetCount
     ensures { result ≡ sets_answer sheet.now }
 {
-    let checked = planable::front(sheet);
-    let refusal = checked.refusal;
-    if refusal != 0 {
-        return SetCount { refusal, sets: 0 };
-    }
-    SetCount {
-        refusal: 0,
-        sets: sets_of(&checked.jobs),
+    match planable::front(sheet) {
+        Ok(jobs) => SetCount {
+            refusal: 0,
+            sets: sets_of(&jobs),
+        },
+        Err(refusal) => SetCount {
+            refusal: refusal.number(),
+            sets: 0,
+        },
     }
 }

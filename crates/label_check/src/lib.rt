@@ -7,7 +7,7 @@ ghost use Rattle.sheet_format.specs.Format.{jobs_in, label_lengths};
 ghost use Rattle.sheet_format.specs.Checks.{wrong_bytes, wrong_label, wrong_labels};
 
 use figures::MOST_JOBS;
-use sheet_format::checks::{either, outside};
+use sheet_format::checks::outside;
 use sheet_format::layout::{FIRST_LABEL_BYTE, LAST_LABEL_BYTE, SPACE};
 use sheet_format::{Job, label_length};
 
@@ -15,19 +15,16 @@ use sheet_format::{Job, label_length};
 fn wrong_bytes(bytes: &[u8]) -> bool
     ensures { result ≡ wrong_bytes bytes.now }
 {
-    let mut found = false;
-    let mut i = 0;
-    while i < bytes.len() {
-        found = either(
-            found,
-            outside(FIRST_LABEL_BYTE, LAST_LABEL_BYTE, bytes[i] as usize),
-        );
-        i += 1;
+    for b in bytes {
+        if outside(FIRST_LABEL_BYTE, LAST_LABEL_BYTE, *b as usize) {
+            return true;
+        }
     }
-    found
+    false
 }
 
 // Whether a label has a byte that is none of a label, or begins or ends with a space.
+#[tactic(auto, unfolding(sheet_format::specs::Checks::wrong_label))]
 pub fn wrong_label(label: &[u8]) -> bool
     ensures { result ≡ wrong_label label.now }
 {
@@ -37,7 +34,7 @@ pub fn wrong_label(label: &[u8]) -> bool
     }
     let first = label[0] == SPACE;
     let last = label[length - 1] == SPACE;
-    either(wrong_bytes(label), either(first, last))
+    wrong_bytes(label) || (first || last)
 }
 
 // Whether the label between two places is wrong. One that ends past the labels is not looked at.
@@ -56,14 +53,13 @@ pub fn wrong_labels(jobs: [Job; MOST_JOBS], count: usize, labels: &[u8]) -> bool
     requires { (count ≤ most_jobs) × (label_lengths count (jobs_in jobs) ≡ length labels.now) }
     ensures { result ≡ wrong_labels count (jobs_in jobs) labels.now }
 {
-    let mut found = false;
     let mut at: usize = 0;
-    let mut i = 0;
-    while i < count {
+    for i in 0..count {
         let to = at + label_length(jobs[i]);
-        found = either(found, wrong_label(&labels[at..to]));
+        if wrong_label(&labels[at..to]) {
+            return true;
+        }
         at = to;
-        i += 1;
     }
-    found
+    false
 }

@@ -9,10 +9,11 @@ ghost use Rattle.sheet.specs.Label.{label_refusal, label_of, label_at, label_pla
 use figures::MOST_JOBS;
 use records::label_start;
 use sheet::{LabelPlace, Reading};
-use sheet_format::checks::either;
 use sheet_format::label_length;
 
-// The number of a label call on what reading answered: its own refusal, then 14, or 0 where there is a label.
+// The number of a label call on what reading answered: its own refusal, then 14, or 0 where there is a label. It stays a number: C may
+// lend a reading with any.
+#[tactic(auto, unfolding(checking::specs::Checking::first_failing))]
 fn place_refusal(found: Reading, job: usize) -> u32
     ensures { result ≡ first_failing (place_checks found job) }
 {
@@ -20,7 +21,7 @@ fn place_refusal(found: Reading, job: usize) -> u32
     if refusal != 0 {
         return refusal;
     }
-    if either(found.count <= job, MOST_JOBS <= job) {
+    if found.count <= job || MOST_JOBS <= job {
         return 14;
     }
     0

@@ -13,8 +13,9 @@ use Rattle.counting.proofs.Intervals.{sum_from, sum_past}
 use Rattle.bits.specs.Bits.{bit}
 use Rattle.schedule.specs.Bounds.{gain}
 use Rattle.figures.specs.Figures.{most_modules}
+use Rattle.tables.specs.declared.Jobs.{Jobs}
 use Rattle.tables.specs.Tables.{kept_at, count_of, modules_of}
-use Rattle.tables.specs.Part.{Part}
+use Rattle.tables.specs.declared.Part.{Part}
 use Rattle.placement.specs.Profile.{held_of, ProfileOf}
 use Rattle.weights.specs.Weights.{all_weight}
 use Rattle.weights.proofs.Walks.{Walk, free-at}
@@ -133,7 +134,7 @@ steps-together minutes jobs s pos X x l =
     one k true = div-mul-le_self (minutes k) s
     one k false = omega arith
 
-module _ {t lanes : List ℕ} (h : Laned t lanes) (T : ℕ) (inside : ReachesTo lanes T) where
+module _ {t : Jobs} {lanes : List ℕ} (h : Laned t lanes) (T : ℕ) (inside : ReachesTo lanes T) where
   inside-table : (x : ℕ) → x ≤ T → x / step_of lanes < steps
   inside-table x m = omega (arith, div-rises x T (step_of lanes) inside.0 m, inside.1)
 

@@ -5,8 +5,9 @@ use Rattle.counting.specs.Counting.{only, sum, Rises, Holds}
 use Rattle.figures.specs.Figures.{most_modules}
 use Rattle.bits.specs.Bits.{bit}
 use Rattle.schedule.specs.Bounds.{gain}
+use Rattle.tables.specs.declared.Jobs.{Jobs}
 use Rattle.tables.specs.Tables.{kept_at, count_of, modules_of}
-use Rattle.tables.specs.Part.{Part}
+use Rattle.tables.specs.declared.Part.{Part}
 use Rattle.placement.specs.Profile.{held_of, ProfileOf}
 use Rattle.weights.specs.Weights.{all_weight, Weighs}
 use Rattle.values.specs.Values.{steps, reach_at, step_of}
@@ -31,7 +32,7 @@ abbrev pub ReachesTo : List ℕ → ℕ → Type 0
 ReachesTo lanes C = (0 < step_of lanes) × (C / step_of lanes < steps)
 
 -- the unplaced jobs have more value than lanes for some weights and values can serve
-pub record Overfull (t : List ℕ) (p : Part) (l C : ℕ) : Type 0 where
+pub record Overfull (t : Jobs) (p : Part) (l C : ℕ) : Type 0 where
   pub weight : ℕ → ℕ
   pub value : ℕ → ℕ
   pub most : ℕ → ℕ

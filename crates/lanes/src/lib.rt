@@ -6,35 +6,34 @@ ghost use Rattle.counting.specs.Counting.{only, sum};
 ghost use Rattle.figures.specs.Figures.{most_jobs, most_modules};
 ghost use Rattle.bits.specs.Bits.{bit};
 ghost use Rattle.tables.specs.Tables.{count_of, modules_of, Fit};
-ghost use Rattle.tables.specs.Part.{part_in};
-ghost use Rattle.tables.specs.Prepared.{lanes_in};
 ghost use Rattle.placement.specs.Profile.{ProfileOf};
 ghost use Rattle.values.specs.Values.{most_lane_worth, most_at, worth_at, step_of, Laned};
 ghost use Rattle.lanes.specs.Lanes.{reach_in, served_on, ReachesTo, Serving, Overfull};
 
+use bits::Set;
 use tables::{Jobs, Part, Prepared};
 
 // The minutes of a step.
 fn step_of(prepared: &Prepared) -> u32
-    ensures { result ≡ step_of (lanes_in prepared.now) }
+    ensures { result ≡ step_of prepared.now.lanes }
 {
-    tables::lanes(prepared, values::STEP_AT)
+    prepared.lanes[values::STEP_AT]
 }
 
 // The most value that a lane can serve from minute t up to minute `close`.
 fn reach_from(prepared: &Prepared, t: u16, close: u16) -> u32
-    requires { (ReachesTo (lanes_in prepared.now) close) × (t ≤ close) }
-    ensures { result ≡ reach_in (lanes_in prepared.now) (close - t) }
+    requires { (ReachesTo prepared.now.lanes close) × (t ≤ close) }
+    ensures { result ≡ reach_in prepared.now.lanes (close - t) }
 {
-    tables::lanes(prepared, values::steps(close - t, step_of(prepared)))
+    prepared.lanes[values::steps(close - t, step_of(prepared))]
 }
 
 // How many lanes are open on x free modules.
 fn lanes_on(prepared: &Prepared, x: u16) -> u32
     requires { x ≤ most_modules }
-    ensures { result ≡ most_at (lanes_in prepared.now) x }
+    ensures { result ≡ most_at prepared.now.lanes x }
 {
-    tables::lanes(prepared, values::MOST_AT + (x as usize))
+    prepared.lanes[values::MOST_AT + (x as usize)]
 }
 
 // What the lanes serve from minute `least` up to minute `close`.
@@ -47,26 +46,24 @@ fn served_on(
     least: u16,
     close: u16,
 ) -> u32
-    requires { (ReachesTo (lanes_in prepared.now) close)
-        × (Serving (most_at (lanes_in prepared.now)) (reach_in (lanes_in prepared.now)) (part_in part.now) gone free
+    requires { (ReachesTo prepared.now.lanes close)
+        × (Serving (most_at prepared.now.lanes) (reach_in prepared.now.lanes) part.now gone free
         (modules_of jobs.now) least close) }
-    ensures { result ≡ served_on (most_at (lanes_in prepared.now)) (reach_in (lanes_in prepared.now))
-        (modules_of jobs.now) (part_in part.now) least close }
+    ensures { result ≡ served_on (most_at prepared.now.lanes) (reach_in prepared.now.lanes)
+        (modules_of jobs.now) part.now least close }
 {
-    let placed = tables::placed(part);
+    let placed = part.placed;
     let mut total: u32 = 0;
     let mut at = least;
     let mut reach = reach_from(prepared, least, close);
     let mut f = free;
-    let mut i = gone;
-    while i < placed {
-        let to = weights::next_end(at, tables::until(part, i), close);
+    for i in gone..placed {
+        let to = weights::next_end(at, part.until[i], close);
         let next = reach_from(prepared, to, close);
         total += lanes_on(prepared, f) * (reach - next);
         at = to;
         reach = next;
-        f += tables::held(part, i);
-        i += 1;
+        f += part.held[i];
     }
     total + lanes_on(prepared, f) * reach
 }
@@ -74,24 +71,21 @@ fn served_on(
 // The value of job k on all its lanes.
 fn worth_of(prepared: &Prepared, k: usize) -> u32
     requires { k < most_jobs }
-    ensures { result ≡ worth_at (lanes_in prepared.now) k }
+    ensures { result ≡ worth_at prepared.now.lanes k }
 {
-    tables::lanes(prepared, values::WORTH_AT + k)
+    prepared.lanes[values::WORTH_AT + k]
 }
 
 // The value of the unplaced jobs on all their lanes.
 fn set_worth(jobs: &Jobs, prepared: &Prepared, part: &Part) -> u32
     requires { (count_of jobs.now ≤ most_jobs)
-        × ((k : ℕ) → k < most_jobs → worth_at (lanes_in prepared.now) k ≤ most_lane_worth) }
+        × ((k : ℕ) → k < most_jobs → worth_at prepared.now.lanes k ≤ most_lane_worth) }
     ensures { result ≡ sum (count_of jobs.now)
-        (λ k. only (bit (part_in part.now).unplaced k) (worth_at (lanes_in prepared.now) k)) }
+        (λ k. only (bit part.now.unplaced k) (worth_at prepared.now.lanes k)) }
 {
     let mut total: u32 = 0;
-    let mut todo = bits::below32(tables::unplaced(part), tables::count(jobs));
-    while todo != 0 {
-        let k = bits::lowest32(todo);
+    for k in part.unplaced.below(jobs.count()).members() {
         total += worth_of(prepared, k);
-        todo = bits::without_lowest32(todo);
     }
     total
 }
@@ -107,9 +101,9 @@ pub fn overfull(
     least: u16,
     close: u16,
 ) -> bool
-    requires { ((Fit jobs.now) × (Laned jobs.now (lanes_in prepared.now)))
-        × (ProfileOf (part_in part.now) gone free (modules_of jobs.now) least) }
-    ensures { result ≡ true → Overfull jobs.now (part_in part.now) least close }
+    requires { ((Fit jobs.now) × (Laned jobs.now prepared.now.lanes))
+        × (ProfileOf part.now gone free (modules_of jobs.now) least) }
+    ensures { result ≡ true → Overfull jobs.now part.now least close }
 {
     if close < least {
         return false;

@@ -11,6 +11,7 @@ use lib.ListN.{get_or}
 use Rattle.figures.specs.Figures.{most_jobs, most_minutes}
 use Rattle.bits.specs.Bits.{bit}
 use Rattle.schedule.specs.Plan.{Sheet}
+use Rattle.tables.specs.declared.Jobs.{Jobs}
 use Rattle.tables.specs.Tables.{minutes_at, earlier_at, count_of, sheet_of, Fit}
 use Rattle.latest.specs.Latest.{smaller, least_of, latest_within}
 use Rattle.latest.specs.Counted.{minute_zero, departure_at, own_start, least_from, start_by, Ample, OwnStarts, NextStarts, LatestStarts}
@@ -19,11 +20,11 @@ use Rattle.latest.proofs.Signed.{diff, less_more, diff_same, smaller_diff}
 -- ---- the least
 
 -- one number more
-pub start_none : (t departures starts : List ℕ) (j : ℕ) → own_start t departures j ≡ start_by t departures starts 0 j
+pub start_none : (t : Jobs) (departures starts : List ℕ) (j : ℕ) → own_start t departures j ≡ start_by t departures starts 0 j
 unfolding least_from
 start_none t departures starts j = refl
 
-pub start_more : (t departures starts : List ℕ) (i j : ℕ)
+pub start_more : (t : Jobs) (departures starts : List ℕ) (i j : ℕ)
     → cond (bit (earlier_at t i) j) (min (start_by t departures starts i j) (get_or starts i 0 - minutes_at t j)) (start_by t departures starts i j)
     ≡ start_by t departures starts (i + 1) j
 unfolding least_from
@@ -54,7 +55,7 @@ module _ (p : ℕ → Bool) (f : ℕ → ℕ) (x : ℕ) where
 
 -- ---- the rounds
 
-module _ (t departures : List ℕ) (fit : Fit t) where
+module _ (t : Jobs) (departures : List ℕ) (fit : Fit t) where
   abbrev S : Sheet
   S = sheet_of t
 

@@ -6,6 +6,7 @@ ghost use Rattle.figures.specs.Figures.{most_jobs};
 ghost use Rattle.tables.specs.Tables.{count_of, Fit};
 ghost use Rattle.latest.specs.Counted.{Departing, Ample, own_start, start_by, OwnStarts, NextStarts, LatestStarts};
 
+use bits::Set;
 use figures::MOST_JOBS;
 use tables::Jobs;
 
@@ -23,7 +24,7 @@ fn own_start(jobs: &Jobs, departures: &[u16; MOST_JOBS], j: usize) -> u16
     requires { (Fit jobs.now) × (Departing jobs.now departures.now) × (j < count_of jobs.now) }
     ensures { result ≡ own_start jobs.now departures.now j }
 {
-    MINUTE_ZERO + departures[j] - tables::minutes(jobs, j)
+    MINUTE_ZERO + departures[j] - jobs.minutes(j)
 }
 
 // The latest starts by the jobs' own departures.
@@ -31,12 +32,10 @@ fn own_starts(jobs: &Jobs, departures: &[u16; MOST_JOBS]) -> Starts
     requires { (Fit jobs.now) × (Departing jobs.now departures.now) }
     ensures { OwnStarts jobs.now departures.now (count_of jobs.now) result.of }
 {
-    let n = tables::count(jobs);
+    let n = jobs.count();
     let mut of = [0u16; MOST_JOBS];
-    let mut j: usize = 0;
-    while j < n {
+    for j in 0..n {
         of[j] = own_start(jobs, departures, j);
-        j += 1;
     }
     Starts { of }
 }
@@ -47,9 +46,10 @@ fn sooner(start: u16, counts: bool, end: u16, minutes: u16) -> u16
     ensures { result ≡ cond counts (min start (end - minutes)) start }
 {
     if counts {
-        return counting::smaller(start, end - minutes);
+        start.min(end - minutes)
+    } else {
+        start
     }
-    start
 }
 
 // The latest start of job j by its own departure, and by the starts of the jobs that wait for it.
@@ -57,14 +57,12 @@ fn start_by(jobs: &Jobs, departures: &[u16; MOST_JOBS], starts: &[u16; MOST_JOBS
     requires { (Fit jobs.now) × (Departing jobs.now departures.now) × (Ample jobs.now starts.now) × (j < count_of jobs.now) }
     ensures { result ≡ start_by jobs.now departures.now starts.now (count_of jobs.now) j }
 {
-    let n = tables::count(jobs);
-    let minutes = tables::minutes(jobs, j);
+    let n = jobs.count();
+    let minutes = jobs.minutes(j);
     let mut start = own_start(jobs, departures, j);
-    let mut i: usize = 0;
-    while i < n {
-        let waits = bits::test32(tables::earlier(jobs, i), j);
+    for i in 0..n {
+        let waits = jobs.earlier(i).has(j);
         start = sooner(start, waits, starts[i], minutes);
-        i += 1;
     }
     start
 }
@@ -74,12 +72,10 @@ fn next_starts(jobs: &Jobs, departures: &[u16; MOST_JOBS], starts: &[u16; MOST_J
     requires { (Fit jobs.now) × (Departing jobs.now departures.now) × (Ample jobs.now starts.now) }
     ensures { NextStarts jobs.now departures.now starts.now (count_of jobs.now) result.of }
 {
-    let n = tables::count(jobs);
+    let n = jobs.count();
     let mut of = [0u16; MOST_JOBS];
-    let mut j: usize = 0;
-    while j < n {
+    for j in 0..n {
         of[j] = start_by(jobs, departures, starts, j);
-        j += 1;
     }
     Starts { of }
 }
@@ -90,12 +86,10 @@ pub fn latest_starts(jobs: &Jobs, departures: &[u16; MOST_JOBS]) -> Starts
     requires { (Fit jobs.now) × (Departing jobs.now departures.now) }
     ensures { LatestStarts jobs.now departures.now result.of }
 {
-    let n = tables::count(jobs);
+    let n = jobs.count();
     let mut starts = own_starts(jobs, departures);
-    let mut k: usize = 0;
-    while k < n {
+    for k in 0..n {
         starts = next_starts(jobs, departures, &starts.of);
-        k += 1;
     }
     starts
 }

@@ -19,19 +19,8 @@ pub struct Looked {
 pub fn opened_over(kept: Desk, limit: u32, assured: &[u32], ceilings: &[u32]) -> Booked
     ensures { result ≡ opened_over kept limit assured.now ceilings.now }
 {
-    let answer = opening::open(limit, assured, ceilings);
-    let refusal = answer.refusal;
-    if refusal != 0 {
-        return Booked {
-            refusal,
-            desk: kept,
-        };
-    }
-    let new = answer.desk;
-    Booked {
-        refusal: 0,
-        desk: new,
-    }
+    let new = opening::new_desk(limit, assured, ceilings);
+    kept.answer(new)
 }
 
 // A look at a kept desk.

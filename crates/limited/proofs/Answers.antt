@@ -8,9 +8,10 @@ use lib.Dec.{ltb}
 use lib.ListN.{length, drop, take, replicate}
 use Rattle.schedule.specs.Plan.{Sheet}
 use Rattle.schedule.proofs.Same.{SameJobs, same_back, order_same, end_same, best_same}
+use Rattle.tables.specs.declared.Jobs.{Jobs}
 use Rattle.tables.specs.Tables.{sheet_of, count_of}
 use Rattle.card.specs.Card.{card_size, card_of}
-use Rattle.planable.specs.declared.Checked.{Checked}
+use Rattle.std.specs.Prelude.{Ok}
 use Rattle.planable.specs.Planable.{sheet_in, work_after}
 use Rattle.planable.specs.Results.{CheckedOf}
 use Rattle.planner.specs.Planning.{plan_refusal, memory_after}
@@ -85,14 +86,14 @@ written_same {S} {T} h {card} (o, w) = (
 
 -- ---- answered
 
-module _ (s card work : List ℕ) (r : Checked) (f : CheckedOf s r) (z : r.refusal ≡ 0)
-    (l : ltb (length card) (card_size (count_of r.jobs)) ≡ false) where
+module _ (s card work : List ℕ) (t : Jobs) (f : CheckedOf s (Ok t))
+    (l : ltb (length card) (card_size (count_of t)) ≡ false) where
   pub answered-gives : {card' : List ℕ} (work' : List ℕ) {limit : ℕ} {answer : Limited}
-      → LimitedCard (sheet_of r.jobs) card card' limit answer → work' ≡ replicate (length work) 0
+      → LimitedCard (sheet_of t) card card' limit answer → work' ≡ replicate (length work) 0
       → Gives s card work card' work' limit answer
   unfolding work_after
   answered-gives work' w cleared =
-      let passes = none s card work r f z l in (
+      let passes = none s card work t f l in (
         λ m. absurd (m passes),
-        (λ e. written_same (ready s card work r f z).same w, cleared ∙ rw passes refl),
+        (λ e. written_same (ready s card work t f).same w, cleared ∙ rw passes refl),
       )

@@ -11,6 +11,7 @@ use Rattle.schedule.specs.ListPlan.{Order}
 use Rattle.schedule.proofs.Existence.{narrow_says}
 use Rattle.schedule.proofs.Theorems.{none_ends_by}
 use Rattle.schedule.proofs.Same.{same_back, order_same}
+use Rattle.tables.specs.declared.Jobs.{Jobs}
 use Rattle.tables.specs.Tables.{sheet_of}
 use Rattle.card.specs.Card.{card_size}
 use Rattle.card.specs.Decoding.{Decodes}
@@ -40,10 +41,10 @@ module _ (s card after o : List ℕ) (limit : ℕ) (r : Limited) (e : plan_refus
   abbrev p : Passes s
   p = passes s front
 
-  abbrev table : (t : List ℕ) × TableOf (reading s) t
+  abbrev table : (t : Jobs) × TableOf (reading s) t
   table = has-table (reading s) (few_read s p.reads)
 
-  abbrev t : List ℕ
+  abbrev t : Jobs
   t = table.0
 
   abbrev ready : Ready s t

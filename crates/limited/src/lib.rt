@@ -6,10 +6,12 @@ ghost use Rattle.std.specs.Prelude.{◌≡◌, ◌≤◌, length, replicate};
 ghost use Rattle.schedule.specs.Plan.{Circular};
 ghost use Rattle.tables.specs.Tables.{sheet_of, count_of, Fit};
 ghost use Rattle.card.specs.Card.{card_size};
+ghost use Rattle.checking.specs.Refusals.{number_of};
 ghost use Rattle.planable.specs.Planable.{sheet_in};
 ghost use Rattle.planner.specs.Planning.{plan_refusal, memory_after};
 ghost use Rattle.limited.specs.Limited.{refused_with, mark_of, LimitedCard};
 
+use checking::Refusal;
 use tables::Jobs;
 
 // What is answered: refusal 0 with the end of the plan on the card, a minute before which no valid plan ends, and 1 where the card is
@@ -24,11 +26,11 @@ pub struct Limited {
 }
 
 // A refusal.
-fn refused(refusal: u32) -> Limited
-    ensures { result ≡ refused_with refusal }
+fn refused(refusal: Refusal) -> Limited
+    ensures { result ≡ refused_with (number_of refusal) }
 {
     Limited {
-        refusal,
+        refusal: refusal.number(),
         end: 0,
         bound: 0,
         exact: 0,
@@ -39,10 +41,7 @@ fn refused(refusal: u32) -> Limited
 fn mark(exact: bool) -> u32
     ensures { result ≡ mark_of exact }
 {
-    if exact {
-        return 1;
-    }
-    0
+    u32::from(exact)
 }
 
 // Writes the card of the order that the search gives within the limit at the front of the lent bytes, and leaves the working memory all
@@ -74,13 +73,12 @@ pub fn plan_limited(sheet: &[u8], card: &mut [u8], work: &mut [u8], limit: u64) 
         → LimitedCard (sheet_in sheet.now) card.old card.new limit result }
     ensures work { work.new ≡ memory_after sheet.now (length card.old) work.old }
 {
-    let checked = planable::front(sheet);
-    let refusal = checked.refusal;
-    if refusal != 0 {
-        return refused(refusal);
+    let jobs = match planable::front(sheet) {
+        Ok(jobs) => jobs,
+        Err(refusal) => return refused(refusal),
+    };
+    if planner::too_short(&jobs, card.len()) {
+        return refused(Refusal::ShortBuffer);
     }
-    if planner::too_short(&checked.jobs, card.len()) {
-        return refused(10);
-    }
-    write_within(card, work, limit, &checked.jobs)
+    write_within(card, work, limit, &jobs)
 }

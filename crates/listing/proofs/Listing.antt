@@ -20,32 +20,19 @@ use Rattle.schedule.specs.TieRule.{end_of}
 use Rattle.schedule.proofs.Starts.{ready_says}
 use Rattle.schedule.proofs.Existence.{stuck_circular}
 use Rattle.schedule.proofs.Prefixes.{part_count}
+use Rattle.tables.specs.declared.Jobs.{Jobs}
 use Rattle.tables.specs.Tables.{sheet_of, count_of, Fit}
-use Rattle.tables.specs.Part.{Part, word_of}
+use Rattle.tables.specs.declared.Part.{Part}
+use Rattle.tables.specs.Part.{word_of}
 use Rattle.placement.specs.Part.{FirstPart, Placeable, Placed}
 use Rattle.placement.proofs.Parts.{left-count, start_short, end_short, all_placed}
 use Rattle.candidates.specs.declared.Choice.{Choice}
 use Rattle.candidates.specs.Candidates.{Known, theory_part, JobStart, JobStarts, ChoiceOf}
 use Rattle.candidates.proofs.Children.{first_known, word_at, word_within, start_low, child_placeable, child_known}
 use Rattle.listing.specs.declared.Found.{Found}
-use Rattle.listing.specs.Listing.{BytesOf, Finished, OrderOf, NextJob, OneMore, Tried, Improved}
+use Rattle.listing.specs.Listing.{Finished, OrderOf, NextJob, OneMore, Tried, Improved}
 
--- ---- an order in bytes
-
-pub bytes-none : (order : List ℕ) → BytesOf order 0 (replicate 20 0)
-bytes-none order = record { size = length-replicate {A = ℕ} 20 0; each = λ k l. absurd (omega arith) }
-
-pub bytes_more : {order r : List ℕ} {n : ℕ} → BytesOf order n r → n < 20 → BytesOf order (n + 1) (set r n (get_or order n 0 % 256))
-bytes_more {order} {r} {n} h few = record { size = length-set r n v ∙ h.size; each = λ k l. go k l (less-or-not k n) }
-  where
-    v : ℕ
-    v = get_or order n 0 % 256
-
-    go : (k : ℕ) → k < n + 1 → (k < n) ⊎ (n ≤ k) → get_or (set r n v) k 0 ≡ get_or order k 0 % 256
-    go k l (inl m) = get_or-set_other r n k v 0 (λ e. absurd (omega arith)) ∙ h.each k m
-    go k l (inr m) = let e : k ≡ n = omega arith in rw e (get_or-set_same r n v 0 (omega (arith, h.size)))
-
-module _ {t : List ℕ} {part : Part} (known : Known t part) where
+module _ {t : Jobs} {part : Part} (known : Known t part) where
   abbrev S : Sheet
   S = sheet_of t
 
@@ -76,16 +63,8 @@ module _ {t : List ℕ} {part : Part} (known : Known t part) where
     pub end_is : largest jobs (λ i. get_or part.ends i 0) ≡ end_of S w
     end_is = largest_same jobs _ _ (λ i l. known.is.figures.ends i l ∙ ap (λ b. only b (finish S P.plan i)) (placed i l))
 
-    pub word_is : (r : List ℕ) → BytesOf part.order jobs r → take jobs r ≡ w
-    word_is r h =
-        let long = length-take-le jobs r (omega (arith, h.size, known.fit.few)) in
-        ext_get_or 0 (take jobs r) w (omega (arith, size)) (λ k l. same k (omega arith))
-      where
-        same : (k : ℕ) → k < jobs → get_or (take jobs r) k 0 ≡ get_or w k 0
-        same k l =
-            let in_word : k < part.placed = omega (arith, known.is.figures.sizes) in
-            let small = word_within known k in_word in
-            get_or-take jobs r k 0 l ∙ omega (arith, h.each k l, word_at known k in_word, known.fit.few)
+    pub word_is : {r : List ℕ} → r ≡ part.order → take jobs r ≡ w
+    word_is e = rw e (ap (λ (k : ℕ). take k part.order) (sym all) ∙ known.is.word)
 
     short : largest jobs (λ i. get_or part.ends i 0) ≤ last_end
     short = largest-le jobs (λ i. get_or part.ends i 0) last_end (λ i l.
@@ -96,9 +75,9 @@ module _ {t : List ℕ} {part : Part} (known : Known t part) where
     -- the order of a part-plan that has placed every job
     pub finished_order : {target : ℕ} {r : Found} → Finished part jobs target r → OrderOf S r
     finished_order {r = r} h = record {
-      size = h.order.size;
-      order = subst (Order S) (sym (word_is r.order h.order)) whole;
-      end = ap (end_of S) (word_is r.order h.order) ∙ sym end_is ∙ sym h.end;
+      size = ap length h.order ∙ known.is.figures.places;
+      order = subst (Order S) (sym (word_is h.order)) whole;
+      end = ap (end_of S) (word_is h.order) ∙ sym end_is ∙ sym h.end;
       low = omega (arith, short, h.end);
     }
 
@@ -163,19 +142,19 @@ module _ {t : List ℕ} {part : Part} (known : Known t part) where
 -- ---- job after job
 
 -- a part-plan of k jobs
-pub record Upto (t : List ℕ) (count k : ℕ) (p : Part) : Type 0 where
+pub record Upto (t : Jobs) (count k : ℕ) (p : Part) : Type 0 where
   pub inside : k ≤ count
   pub count_is : count ≡ count_of t
   pub known : Known t p
   pub placed : p.placed ≡ k
 
-pub upto-none : {t : List ℕ} {count : ℕ} {p : Part} → Fit t → count ≡ count_of t → FirstPart t p → Upto t count 0 p
+pub upto-none : {t : Jobs} {count : ℕ} {p : Part} → Fit t → count ≡ count_of t → FirstPart t p → Upto t count 0 p
 upto-none {t} {count} {p} fit e h = record { inside = omega arith; count_is = e; known = first_known t p fit h; placed = h.placed }
 
-pub upto_more : {t : List ℕ} {count k : ℕ} {p r : Part} → Upto t count k p → k < count → OneMore t p r → Upto t count (k + 1) r
+pub upto_more : {t : Jobs} {count k : ℕ} {p r : Part} → Upto t count k p → k < count → OneMore t p r → Upto t count (k + 1) r
 upto_more u l h = record { inside = omega arith; count_is = u.count_is; known = h.known; placed = omega (arith, h.placed, u.placed) }
 
-pub upto_all : {t : List ℕ} {count k target : ℕ} {p : Part} {r : Found} → Upto t count k p → count ≤ k → Finished p count target r
+pub upto_all : {t : Jobs} {count k target : ℕ} {p : Part} {r : Found} → Upto t count k p → count ≤ k → Finished p count target r
     → OrderOf (sheet_of t) r
 upto_all {t} {count} {k} {target} {p} {r} u l h =
     finished_order u.known (omega (arith, u.placed, u.inside, u.count_is))

@@ -1,25 +1,21 @@
 -- Orders with their ends: that of a list plan, and those that random moves lead to.
-use Rattle.std.specs.Prelude.{◌≡◌, false, not, List, ℕ, ◌+◌, ◌%◌, ◌≤◌, ◌<◌, ltb, length, get_or, take, replicate}
+use Rattle.std.specs.Prelude.{◌≡◌, false, not, List, ℕ, ◌+◌, ◌≤◌, ◌<◌, ltb, length, get_or, take, replicate}
 use Rattle.counting.specs.Counting.{largest}
 use Rattle.figures.specs.Figures.{most_jobs, no_minute}
 use Rattle.schedule.specs.Plan.{Sheet}
 use Rattle.schedule.specs.ListPlan.{Order}
 use Rattle.schedule.specs.TieRule.{end_of}
+use Rattle.tables.specs.declared.Jobs.{Jobs}
 use Rattle.tables.specs.Tables.{count_of}
-use Rattle.tables.specs.Part.{Part}
+use Rattle.tables.specs.declared.Part.{Part}
 use Rattle.candidates.specs.Candidates.{Known, JobStart}
 use Rattle.listing.specs.declared.Found.{Found}
 
 -- ---- the order of a part-plan
 
--- the first `count` numbers of an order, a byte for each
-pub record BytesOf (order : List ℕ) (count : ℕ) (r : List ℕ) : Type 0 where
-  pub size : length r ≡ most_jobs
-  pub each : (k : ℕ) → k < count → get_or r k 0 ≡ get_or order k 0 % 256
-
 -- the order of a part-plan that has placed every job, where it ends by the target
 pub record Finished (p : Part) (count target : ℕ) (r : Found) : Type 0 where
-  pub order : BytesOf p.order count r.order
+  pub order : r.order ≡ p.order
   pub end : r.end ≡ largest count (λ i. get_or p.ends i 0)
   pub hit : r.hit ≡ not (ltb target r.end)
 
@@ -37,13 +33,13 @@ abbrev pub none_listed : Found
 none_listed = record { hit = false; end = no_minute; order = replicate most_jobs 0 }
 
 -- job j may come next and starts at minute s
-pub record NextJob (t : List ℕ) (p : Part) (j s : ℕ) : Type 0 where
+pub record NextJob (t : Jobs) (p : Part) (j s : ℕ) : Type 0 where
   pub job : j < count_of t
   pub start : JobStart t p j s
   pub low : s < no_minute
 
 -- r is a part-plan with one job more than p
-pub record OneMore (t : List ℕ) (p r : Part) : Type 0 where
+pub record OneMore (t : Jobs) (p r : Part) : Type 0 where
   pub known : Known t r
   pub placed : r.placed ≡ p.placed + 1
 

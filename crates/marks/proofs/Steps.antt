@@ -16,6 +16,7 @@ use Rattle.counting.proofs.Ranges.{any_same}
 use Rattle.bits.specs.Bits.{bit, set_of}
 use Rattle.bits.proofs.Digits.{bit-none, bit-or, bit-and}
 use Rattle.bits.proofs.Sets.{bit-set_of, set_of_same}
+use Rattle.tables.specs.declared.Jobs.{Jobs}
 use Rattle.tables.specs.Tables.{sheet_of, earlier_at, count_of}
 use Rattle.marks.specs.Following.{follows_within, follows}
 use Rattle.marks.specs.Marks.{Reached, Further, FollowedBy, FollowedTo, LaterTo, Marked}
@@ -23,7 +24,7 @@ use Rattle.marks.specs.Implied.{implied, implied_marks}
 
 -- ---- a step further
 
-module _ (t : List ℕ) (from : ℕ) where
+module _ (t : Jobs) (from : ℕ) where
   pub reached-none : Reached t from 0 0
   unfolding any
   reached-none i = bit-none i
@@ -45,10 +46,10 @@ module _ (t : List ℕ) (from : ℕ) where
 -- ---- as many steps as there are jobs
 
 -- the jobs that job j follows by at most k + 1 marks
-abbrev pub Within : List ℕ → ℕ → ℕ → ℕ → Type 0
+abbrev pub Within : Jobs → ℕ → ℕ → ℕ → Type 0
 Within t j k r = (i : ℕ) → bit r i ≡ follows_within (sheet_of t) k i j
 
-module _ (t : List ℕ) (j : ℕ) where
+module _ (t : Jobs) (j : ℕ) where
   pub within_none : Within t j 0 (earlier_at t j)
   unfolding follows_within
   within_none i = refl
@@ -78,7 +79,7 @@ filled_more {P} {n} {xs} x h l f = record { size = length-set xs n x ∙ h.size;
 
 -- ---- the marks that others imply
 
-pub implied_is : (t : List ℕ) (j before reached : ℕ) → FollowedBy t j before → Reached t before (count_of t) reached
+pub implied_is : (t : Jobs) (j before reached : ℕ) → FollowedBy t j before → Reached t before (count_of t) reached
     → set_of (count_of t) (bit (bit_and (earlier_at t j) reached)) ≡ implied_marks (sheet_of t) j
 unfolding implied_marks implied
 implied_is t j before reached f h =
@@ -91,7 +92,7 @@ implied_is t j before reached f h =
 
 -- ---- both ways
 
-pub marked : (t before behind : List ℕ) → FollowedTo t (count_of t) before → LaterTo before (count_of t) (count_of t) behind
+pub marked : (t : Jobs) (before behind : List ℕ) → FollowedTo t (count_of t) before → LaterTo before (count_of t) (count_of t) behind
     → Marked (sheet_of t) before behind
 marked t before behind f g = record {
   earlier = λ i j a b. f j b i;

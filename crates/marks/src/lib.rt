@@ -9,6 +9,7 @@ ghost use Rattle.tables.specs.Tables.{sheet_of, count_of};
 ghost use Rattle.marks.specs.Marks.{Reached, Further, FollowedBy, FollowedTo, LaterThan, LaterTo, Marked};
 ghost use Rattle.marks.specs.Implied.{implied_marks, ImpliedTo};
 
+use bits::Set;
 use figures::MOST_JOBS;
 use tables::Jobs;
 
@@ -17,10 +18,7 @@ fn with_earlier(set: u32, from: u32, a: usize, earlier: u32) -> u32
     requires { a < most_jobs }
     ensures { result ≡ cond (bit from a) (bit_or set earlier) set }
 {
-    if bits::test32(from, a) {
-        return set | earlier;
-    }
-    set
+    if from.has(a) { set | earlier } else { set }
 }
 
 // The earlier jobs of each job of the set.
@@ -28,12 +26,10 @@ fn reached(jobs: &Jobs, set: u32) -> u32
     requires { count_of jobs.now ≤ most_jobs }
     ensures { Reached jobs.now set (count_of jobs.now) result }
 {
-    let n = tables::count(jobs);
-    let mut all: u32 = 0;
-    let mut a: usize = 0;
-    while a < n {
-        all = with_earlier(all, set, a, tables::earlier(jobs, a));
-        a += 1;
+    let n = jobs.count();
+    let mut all = 0;
+    for a in 0..n {
+        all = with_earlier(all, set, a, jobs.earlier(a));
     }
     all
 }
@@ -43,7 +39,7 @@ fn further(jobs: &Jobs, j: usize, set: u32) -> u32
     requires { (count_of jobs.now ≤ most_jobs) × (j < most_jobs) }
     ensures { Further jobs.now j set result }
 {
-    tables::earlier(jobs, j) | reached(jobs, set)
+    jobs.earlier(j) | reached(jobs, set)
 }
 
 // The jobs that job j follows: its earlier jobs, and from there as many steps as there are jobs.
@@ -51,12 +47,10 @@ fn followed_by(jobs: &Jobs, j: usize) -> u32
     requires { (count_of jobs.now ≤ most_jobs) × (j < most_jobs) }
     ensures { FollowedBy jobs.now j result }
 {
-    let n = tables::count(jobs);
-    let mut set = tables::earlier(jobs, j);
-    let mut k: usize = 0;
-    while k < n {
+    let n = jobs.count();
+    let mut set = jobs.earlier(j);
+    for k in 0..n {
         set = further(jobs, j, set);
-        k += 1;
     }
     set
 }
@@ -72,12 +66,10 @@ fn all_followed(jobs: &Jobs) -> JobSets
     requires { count_of jobs.now ≤ most_jobs }
     ensures { FollowedTo jobs.now (count_of jobs.now) result.of }
 {
-    let n = tables::count(jobs);
+    let n = jobs.count();
     let mut of = [0u32; MOST_JOBS];
-    let mut j: usize = 0;
-    while j < n {
+    for j in 0..n {
         of[j] = followed_by(jobs, j);
-        j += 1;
     }
     JobSets { of }
 }
@@ -87,11 +79,9 @@ fn later_than(before: &[u32; MOST_JOBS], i: usize, n: usize) -> u32
     requires { (i < most_jobs) × (n ≤ most_jobs) }
     ensures { LaterThan before.now i n result }
 {
-    let mut set: u32 = 0;
-    let mut j: usize = 0;
-    while j < n {
-        set = pairs::joined(set, bits::test32(before[j], i), j);
-        j += 1;
+    let mut set = 0;
+    for j in 0..n {
+        set = pairs::joined(set, before[j].has(i), j);
     }
     set
 }
@@ -102,10 +92,8 @@ fn all_later(before: &[u32; MOST_JOBS], n: usize) -> JobSets
     ensures { LaterTo before.now n n result.of }
 {
     let mut of = [0u32; MOST_JOBS];
-    let mut i: usize = 0;
-    while i < n {
+    for i in 0..n {
         of[i] = later_than(before, i, n);
-        i += 1;
     }
     JobSets { of }
 }
@@ -124,7 +112,7 @@ pub fn marks_of(jobs: &Jobs) -> Marks
 {
     let followed = all_followed(jobs);
     let before = followed.of;
-    let later = all_later(&before, tables::count(jobs));
+    let later = all_later(&before, jobs.count());
     let behind = later.of;
     Marks { before, behind }
 }
@@ -137,7 +125,7 @@ fn implied_of(jobs: &Jobs, j: usize) -> u32
     ensures { result ≡ implied_marks (sheet_of jobs.now) j }
 {
     let others = reached(jobs, followed_by(jobs, j));
-    bits::below32(tables::earlier(jobs, j) & others, tables::count(jobs))
+    (jobs.earlier(j) & others).below(jobs.count())
 }
 
 // For each job the earlier-job marks that another chain of marks already implies.
@@ -145,12 +133,10 @@ pub fn implied_marks(jobs: &Jobs) -> JobSets
     requires { count_of jobs.now ≤ most_jobs }
     ensures { ImpliedTo (sheet_of jobs.now) (count_of jobs.now) result.of }
 {
-    let n = tables::count(jobs);
+    let n = jobs.count();
     let mut of = [0u32; MOST_JOBS];
-    let mut j: usize = 0;
-    while j < n {
+    for j in 0..n {
         of[j] = implied_of(jobs, j);
-        j += 1;
     }
     JobSets { of }
 }

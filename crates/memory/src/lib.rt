@@ -5,11 +5,11 @@
 
 ghost use Rattle.std.specs.Prelude.{◌≡◌, true, ◌+◌, ◌-◌, ◌*◌, ◌<◌, ◌≤◌, length, replicate};
 ghost use Rattle.figures.specs.Figures.{most_jobs};
-ghost use Rattle.tables.specs.Part.{part_in};
 ghost use Rattle.memory.specs.Entries.{ways, figure_bytes, group_bytes, group_of, FiguresOf, Stored, Hit, Adds};
 
 use entries::{ENDS, FIGURES, GROUP, SET, SETS, WAYS};
 use tables::Part;
+use words::Number;
 
 // 1 for the same set, else 0.
 fn same(set: u32, unplaced: u32) -> u32
@@ -24,10 +24,8 @@ fn ways_with(group: &[u8], unplaced: u32) -> u32
     ensures { result < 65536 }
 {
     let mut ways: u32 = 0;
-    let mut n: usize = 0;
-    while n < WAYS {
-        ways = ways * 2 + same(words::read32(group, (WAYS - 1 - n) * SET), unplaced);
-        n += 1;
+    for n in 0..WAYS {
+        ways = ways * 2 + same(u32::read(group, (WAYS - 1 - n) * SET), unplaced);
     }
     ways
 }
@@ -35,26 +33,24 @@ fn ways_with(group: &[u8], unplaced: u32) -> u32
 // Writes the figures of an entry.
 fn write_figures(figures: &mut [u8], part: &Part, jobs: usize)
     requires { (length figures.old ≡ figure_bytes) × (jobs ≤ most_jobs) }
-    ensures { FiguresOf figures.new jobs (part_in part.now).ends (part_in part.now).last }
+    ensures { FiguresOf figures.new jobs part.now.ends part.now.last }
 {
-    words::write16(figures, 0, tables::last(part));
-    let mut i: usize = 0;
-    while i < jobs {
-        words::write16(figures, ENDS + 2 * i, tables::end(part, i));
-        i += 1;
+    u16::write(figures, 0, part.last);
+    for i in 0..jobs {
+        u16::write(figures, ENDS + 2 * i, part.ends[i]);
     }
 }
 
 // Writes an entry of a group.
 fn store(group: &mut [u8], way: usize, part: &Part, jobs: usize)
     requires { (length group.old ≡ group_bytes) × (way < ways) × (jobs ≤ most_jobs) }
-    ensures { Stored group.old group.new jobs (part_in part.now).ends
-        (part_in part.now).unplaced (part_in part.now).last }
+    ensures { Stored group.old group.new jobs part.now.ends
+        part.now.unplaced part.now.last }
 {
-    let unplaced = tables::unplaced(part);
+    let unplaced = part.unplaced;
     let from = way * SET;
     let to = from + SET;
-    words::write32(&mut group[from..to], 0, unplaced);
+    u32::write(&mut group[from..to], 0, unplaced);
     let at = SETS + way * FIGURES;
     let end = at + FIGURES;
     write_figures(&mut group[at..end], part, jobs);
@@ -81,11 +77,9 @@ fn way_of(part: &Part, jobs: usize) -> usize
     requires { jobs ≤ most_jobs }
     ensures { result < ways }
 {
-    let mut h: usize = tables::last(part) as usize;
-    let mut i: usize = 0;
-    while i < jobs {
-        h = mixed(h, tables::end(part, i));
-        i += 1;
+    let mut h: usize = part.last as usize;
+    for i in 0..jobs {
+        h = mixed(h, part.ends[i]);
     }
     h / 8 % WAYS
 }
@@ -104,13 +98,13 @@ fn rested_by(l: u16, rest: u16) -> u16
 pub fn recall(memory: &[u8], part: &Part, jobs: usize, l: u16, rest: u16) -> bool
     requires { jobs ≤ most_jobs }
     ensures { result ≡ true
-        → Hit memory.now jobs (part_in part.now).ends (part_in part.now).unplaced l rest }
+        → Hit memory.now jobs part.now.ends part.now.unplaced l rest }
 {
     let len = memory.len();
     if len < GROUP {
         return false;
     }
-    let unplaced = tables::unplaced(part);
+    let unplaced = part.unplaced;
     let from = group_at(len, unplaced);
     let to = from + GROUP;
     let rested = rested_by(l, rest);
@@ -128,14 +122,14 @@ pub fn recall(memory: &[u8], part: &Part, jobs: usize, l: u16, rest: u16) -> boo
 // Remembers a part-plan.
 pub fn remember(memory: &mut [u8], part: &Part, jobs: usize)
     requires { jobs ≤ most_jobs }
-    ensures { Adds memory.old memory.new jobs (part_in part.now).ends
-        (part_in part.now).unplaced (part_in part.now).last }
+    ensures { Adds memory.old memory.new jobs part.now.ends
+        part.now.unplaced part.now.last }
 {
     let len = memory.len();
     if len < GROUP {
         return;
     }
-    let from = group_at(len, tables::unplaced(part));
+    let from = group_at(len, part.unplaced);
     let way = way_of(part, jobs);
     let to = from + GROUP;
     store(&mut memory[from..to], way, part, jobs);
@@ -145,9 +139,5 @@ pub fn remember(memory: &mut [u8], part: &Part, jobs: usize)
 pub fn clear(memory: &mut [u8])
     ensures { memory.new ≡ replicate (length memory.old) 0 }
 {
-    let mut i = 0;
-    while i < memory.len() {
-        memory[i] = 0;
-        i += 1;
-    }
+    memory.fill(0);
 }

@@ -2,6 +2,7 @@
 use Rattle.std.specs.Prelude.{Bool, true, false, cond, List, ℕ, ◌*◌, ◌<◌, eqb}
 use Rattle.counting.specs.Counting.{joined}
 use Rattle.schedule.specs.Plan.{Sheet, Plan}
+use Rattle.tables.specs.declared.Jobs.{Jobs}
 use Rattle.tables.specs.Tables.{count_of, need_at}
 use Rattle.desk.specs.declared.Desk.{Desk}
 use Rattle.desk.specs.declared.Booked.{Booked}
@@ -31,5 +32,5 @@ abbrev pub due_of : Sheet → Plan → Turn → Bool → ℕ → List Call
 due_of S P turn claiming n = joined n (λ j. due_at S P turn.size turn.controller turn.minute (event claiming j))
 
 -- each job's power is a number of 32 bits
-abbrev pub PowersFit : List ℕ → ℕ → Type 0
+abbrev pub PowersFit : Jobs → ℕ → Type 0
 PowersFit t size = (j : ℕ) → j < count_of t → need_at t j * size < 4294967296

@@ -29,19 +29,21 @@ fn due_minute(jobs: &Jobs, card: &[u8], j: usize, claiming: bool) -> u32
     ensures { (result ≡ minute (sheet_of jobs.now) (plan_on card.now) (event claiming j)) × (result < 196608) }
 {
     if claiming {
-        return card_check::start(card, j);
+        card_check::start(card, j)
+    } else {
+        card_check::finish(jobs, card, j) + jobs.changeover() as u32
     }
-    card_check::finish(jobs, card, j) + (tables::changeover(jobs) as u32)
 }
 
-// Claims power, or hands it back.
+// Claims power, or hands it back. The desk's calls answer numbers, and so do these.
 fn book(desk: Desk, controller: u32, power: u32, claiming: bool) -> Booked
     ensures { result ≡ answer_to desk (cond claiming (claim controller power) (hand_back controller power)) }
 {
     if claiming {
-        return desk.claim(controller, power);
+        desk.claim(controller, power)
+    } else {
+        desk.hand_back(controller, power)
     }
-    desk.hand_back(controller, power)
 }
 
 // Makes job j's call, if it falls due.
@@ -54,7 +56,7 @@ fn book_if_due(desk: Desk, jobs: &Jobs, card: &[u8], turn: Turn, j: usize, claim
     if due_minute(jobs, card, j, claiming) != turn.minute {
         return Booked { refusal: 0, desk };
     }
-    let power = (tables::need(jobs, j) as u32) * turn.size;
+    let power = jobs.need(j) as u32 * turn.size;
     book(desk, turn.controller, power, claiming)
 }
 
@@ -64,17 +66,15 @@ fn book_all(desk: Desk, jobs: &Jobs, card: &[u8], turn: Turn, claiming: bool) ->
     ensures { result
         ≡ together desk (due_of (sheet_of jobs.now) (plan_on card.now) turn claiming (count_of jobs.now)) }
 {
-    let count = tables::count(jobs);
+    let count = jobs.count();
     let mut at = desk;
-    let mut j: usize = 0;
-    while j < count {
+    for j in 0..count {
         let booked = book_if_due(at, jobs, card, turn, j, claiming);
         let refusal = booked.refusal;
         if refusal != 0 {
             return Booked { refusal, desk };
         }
         at = booked.desk;
-        j += 1;
     }
     Booked {
         refusal: 0,
@@ -109,12 +109,10 @@ pub fn last_minute(jobs: &Jobs, card: &[u8]) -> u32
     requires { Sized jobs.now card.now }
     ensures { result ≡ last_minute (sheet_of jobs.now) (plan_on card.now) }
 {
-    let count = tables::count(jobs);
+    let count = jobs.count();
     let mut last: u32 = 0;
-    let mut j: usize = 0;
-    while j < count {
-        last = card_check::later(last, due_minute(jobs, card, j, false) + 1);
-        j += 1;
+    for j in 0..count {
+        last = last.max(due_minute(jobs, card, j, false) + 1);
     }
     last
 }

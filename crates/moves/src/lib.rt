@@ -42,13 +42,7 @@ fn moved_on(order: &[u8; MOST_JOBS], a: usize, b: usize) -> [u8; MOST_JOBS]
     requires { (a ≤ b) × (b < most_jobs) }
 {
     let mut next = *order;
-    let taken = order[a];
-    let mut i = a;
-    while i < b {
-        next[i] = order[i + 1];
-        i += 1;
-    }
-    next[b] = taken;
+    next[a..b + 1].rotate_left(1);
     next
 }
 
@@ -57,13 +51,7 @@ fn moved_back(order: &[u8; MOST_JOBS], a: usize, b: usize) -> [u8; MOST_JOBS]
     requires { (a ≤ b) × (b < most_jobs) }
 {
     let mut next = *order;
-    let taken = order[b];
-    let mut i = b;
-    while a < i {
-        next[i] = order[i - 1];
-        i -= 1;
-    }
-    next[a] = taken;
+    next[a..b + 1].rotate_right(1);
     next
 }
 

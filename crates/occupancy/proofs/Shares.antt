@@ -10,6 +10,7 @@ use Rattle.counting.proofs.Ranges.{le-largest}
 use Rattle.figures.specs.Figures.{most_modules, most_minutes}
 use Rattle.schedule.specs.Plan.{Sheet, Plan, Valid, Lasting, finish, plan_end}
 use Rattle.schedule.proofs.Same.{SameJobs}
+use Rattle.tables.specs.declared.Jobs.{Jobs}
 use Rattle.tables.specs.Tables.{sheet_of, Fit, count_of, need_at, minutes_at}
 use Rattle.occupancy.specs.Occupancy.{occupied_minutes, cabinet_minutes, work_in, share_of, usage_of, UsedFor}
 use Rattle.occupancy.proofs.Occupied.{occupied_is, occupied_fits}
@@ -53,7 +54,7 @@ work_same {S} {T} h =
     sum_same S.jobs (λ j. S.need j * S.minutes j) (λ j. T.need j * T.minutes j) (λ j l. ap₂ (λ (a b : ℕ). a * b) (h.need j l) (h.minutes j l))
     ∙ ap (λ (n : ℕ). sum n (λ j. T.need j * T.minutes j)) h.jobs
 
-module _ (t : List ℕ) (fit : Fit t) where
+module _ (t : Jobs) (fit : Fit t) where
   -- what a job occupies
   pub job-work : (i : ℕ) → i < count_of t → need_at t i * minutes_at t i ≤ most_modules * most_minutes
   job-work i l =

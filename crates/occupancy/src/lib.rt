@@ -21,12 +21,10 @@ pub fn work_of(jobs: &Jobs) -> u32
     requires { Fit jobs.now }
     ensures { result ≡ work_in (sheet_of jobs.now) }
 {
-    let count = tables::count(jobs);
+    let count = jobs.count();
     let mut total: u32 = 0;
-    let mut i: usize = 0;
-    while i < count {
-        total += counting::times(tables::need(jobs, i), tables::minutes(jobs, i));
-        i += 1;
+    for i in 0..count {
+        total += counting::times(jobs.need(i), jobs.minutes(i));
     }
     total
 }

@@ -12,7 +12,8 @@ use Rattle.checking.proofs.Order.{Passed, all_passed, both_passed, together_pass
 use Rattle.schedule.specs.Plan.{Sheet}
 use Rattle.sheet_format.specs.declared.Job.{Job}
 use Rattle.sheet_format.specs.Figures.{longest_sheet, record_size, trailer_size}
-use Rattle.sheet_format.specs.Format.{offset_of, count_of, Cabinet, cabinet_of, job_of, labels_of, places}
+use Rattle.sheet_format.specs.Format.{offset_of, count_of, cabinet_of, job_of, labels_of, places}
+use Rattle.sheet_format.specs.declared.Cabinet.{Cabinet}
 use Rattle.sheet_format.specs.Checks.{wrong_offset, figure_checks, trailer_checks, content_checks}
 use Rattle.sheet_format.proofs.Bounds.{not-outside}
 use Rattle.sheet_format.proofs.Trailers.{FiguresFit, fit_passed}

@@ -5,7 +5,8 @@ use Rattle.words.specs.Words.{byte_at, u16_at, u32_at}
 use Rattle.checking.specs.Checking.{Check, first_failing}
 use Rattle.schedule.specs.Plan.{Sheet}
 use Rattle.sheet_format.specs.declared.Job.{Job}
-use Rattle.sheet_format.specs.Format.{Cabinet, cabinet}
+use Rattle.sheet_format.specs.Format.{cabinet}
+use Rattle.sheet_format.specs.declared.Cabinet.{Cabinet}
 use Rattle.sheet_format.specs.Checks.{outside, too_many_jobs, wrong_modules, content_checks}
 use Rattle.sheet.specs.declared.Reading.{Reading}
 use Rattle.sheet.specs.Read.{answered, refused}

@@ -2,11 +2,21 @@
 #![tactic(auto)]
 
 ghost use Rattle.std.specs.Prelude.{◌≡◌, ℕ, ◌≤◌, ◌<◌, length, get_or};
+ghost use Rattle.checking.specs.Refusals.{refusal_number};
 ghost use Rattle.desk.specs.Desk.{most_power, most_controllers, padded, no_desk};
-ghost use Rattle.desk.specs.Checks.{wrong_pair, some_pair_wrong, shares_in_all};
-ghost use Rattle.desk.specs.Calls.{open_refusal, opened};
+ghost use Rattle.desk.specs.Checks.{wrong_lengths, wrong_pair, some_pair_wrong, wrong_figures, shares_in_all};
+ghost use Rattle.desk.specs.Calls.{open_refusal, opened, opened_by};
 
+use checking::Refusal;
 use desk::{Desk, FEWEST_CONTROLLERS, MOST_CONTROLLERS, MOST_POWER, Opened, in_range};
+
+// The lists differ in length, or no desk has so many controllers.
+fn wrong_lengths(assured: &[u32], ceilings: &[u32]) -> bool
+    ensures { result ≡ wrong_lengths assured.now ceilings.now }
+{
+    assured.len() != ceilings.len()
+        || !in_range(FEWEST_CONTROLLERS, MOST_CONTROLLERS, assured.len())
+}
 
 // An assured share exceeds its ceiling, or the ceiling exceeds the limit.
 fn wrong_pair(limit: u32, assured: u32, ceiling: u32) -> bool
@@ -20,14 +30,20 @@ fn some_pair_wrong(limit: u32, assured: &[u32], ceilings: &[u32]) -> bool
     requires { length assured.now ≡ length ceilings.now }
     ensures { result ≡ some_pair_wrong limit assured.now ceilings.now }
 {
-    let mut i = 0;
-    while i < assured.len() {
-        if wrong_pair(limit, assured[i], ceilings[i]) {
+    for (share, ceiling) in assured.iter().zip(ceilings) {
+        if wrong_pair(limit, *share, *ceiling) {
             return true;
         }
-        i += 1;
     }
     false
+}
+
+// The limit is none of a desk, or a pair is wrong.
+fn wrong_figures(limit: u32, assured: &[u32], ceilings: &[u32]) -> bool
+    requires { length assured.now ≡ length ceilings.now }
+    ensures { result ≡ wrong_figures limit assured.now ceilings.now }
+{
+    !in_range(1, MOST_POWER as usize, limit as usize) || some_pair_wrong(limit, assured, ceilings)
 }
 
 // The shares, of which each is within the largest limit, added up.
@@ -35,35 +51,27 @@ fn shares_in_all(assured: &[u32]) -> u32
     requires { (length assured.now ≤ most_controllers) × ((i : ℕ) → i < length assured.now → get_or assured.now i 0 ≤ most_power) }
     ensures { result ≡ shares_in_all assured.now }
 {
-    let mut total: u32 = 0;
-    let mut i = 0;
-    while i < assured.len() {
-        total += assured[i];
-        i += 1;
+    let mut total = 0;
+    for share in assured {
+        total += *share;
     }
     total
 }
 
-// The number of the first of checks 11 to 13 that fails, 0 where none does.
-fn open_refusal(limit: u32, assured: &[u32], ceilings: &[u32]) -> u32
-    ensures { result ≡ open_refusal limit assured.now ceilings.now }
+// Checks 11 to 13.
+fn check_opening(limit: u32, assured: &[u32], ceilings: &[u32]) -> Result<(), Refusal>
+    ensures { refusal_number result ≡ open_refusal limit assured.now ceilings.now }
 {
-    if assured.len() != ceilings.len() {
-        return 11;
+    if wrong_lengths(assured, ceilings) {
+        return Err(Refusal::ControllerCount);
     }
-    if !in_range(FEWEST_CONTROLLERS, MOST_CONTROLLERS, assured.len()) {
-        return 11;
-    }
-    if !in_range(1, MOST_POWER as usize, limit as usize) {
-        return 12;
-    }
-    if some_pair_wrong(limit, assured, ceilings) {
-        return 12;
+    if wrong_figures(limit, assured, ceilings) {
+        return Err(Refusal::WrongShares);
     }
     if limit < shares_in_all(assured) {
-        return 13;
+        return Err(Refusal::SharesAboveLimit);
     }
-    0
+    Ok(())
 }
 
 // The list's figures, and 0 in the places past its end.
@@ -71,12 +79,8 @@ fn places(list: &[u32]) -> [u32; MOST_CONTROLLERS]
     requires { length list.now ≤ most_controllers }
     ensures { result ≡ padded list.now }
 {
-    let mut all = [0u32; MOST_CONTROLLERS];
-    let mut i = 0;
-    while i < list.len() {
-        all[i] = list[i];
-        i += 1;
-    }
+    let mut all = [0; MOST_CONTROLLERS];
+    all[..list.len()].copy_from_slice(list);
     all
 }
 
@@ -84,7 +88,7 @@ fn places(list: &[u32]) -> [u32; MOST_CONTROLLERS]
 fn no_desk() -> Desk
     ensures { result ≡ no_desk }
 {
-    let none = [0u32; MOST_CONTROLLERS];
+    let none = [0; MOST_CONTROLLERS];
     Desk {
         count: 0,
         limit: 0,
@@ -94,26 +98,31 @@ fn no_desk() -> Desk
     }
 }
 
+// The new desk, or the first of checks 11 to 13 that fails.
+pub fn new_desk(limit: u32, assured: &[u32], ceilings: &[u32]) -> Result<Desk, Refusal>
+    ensures { opened_by result ≡ opened limit assured.now ceilings.now }
+{
+    check_opening(limit, assured, ceilings)?;
+    let shares = places(assured);
+    let tops = places(ceilings);
+    Ok(Desk {
+        count: assured.len() as u32,
+        limit,
+        held: [0; MOST_CONTROLLERS],
+        assured: shares,
+        ceiling: tops,
+    })
+}
+
 // Opens a desk with the limit, and for each controller its assured share and its ceiling: checks 11 to 13.
 pub fn open(limit: u32, assured: &[u32], ceilings: &[u32]) -> Opened
     ensures { result ≡ opened limit assured.now ceilings.now }
 {
-    let refusal = open_refusal(limit, assured, ceilings);
-    if refusal != 0 {
-        let desk = no_desk();
-        return Opened { refusal, desk };
-    }
-    let held = [0u32; MOST_CONTROLLERS];
-    let shares = places(assured);
-    let tops = places(ceilings);
-    Opened {
-        refusal: 0,
-        desk: Desk {
-            count: assured.len() as u32,
-            limit,
-            held,
-            assured: shares,
-            ceiling: tops,
+    match new_desk(limit, assured, ceilings) {
+        Ok(desk) => Opened { refusal: 0, desk },
+        Err(refusal) => Opened {
+            refusal: refusal.number(),
+            desk: no_desk(),
         },
     }
 }

@@ -7,19 +7,19 @@ ghost use Rattle.counting.specs.Counting.{only, sum};
 ghost use Rattle.bits.specs.Bits.{bit};
 ghost use Rattle.schedule.specs.Bounds.{must_run};
 ghost use Rattle.tables.specs.Tables.{count_of, modules_of, Fit};
-ghost use Rattle.tables.specs.Part.{part_in};
 ghost use Rattle.placement.specs.Profile.{ProfileOf};
 ghost use Rattle.overlaps.specs.Overlaps.{must_hold, Overlapping};
 
+use bits::Set;
 use tables::{Jobs, Part, Prepared};
 
 // The modules of a job that must have them at minute m, as it starts from minute `first` on and keeps them for so long, and starts so early
 // that its chain ends by the target; 0 where it need not.
-fn must_hold(need: u16, kept: u16, first: u32, tail: u32, target: u16, m: u16) -> u16
+fn must_hold(need: u16, kept: u16, first: u16, tail: u16, target: u16, m: u16) -> u16
     ensures { result ≡ only (must_run first tail target m kept) need }
 {
-    if (target as u64) <= (m as u64) + (tail as u64) {
-        if (m as u64) < (first as u64) + (kept as u64) {
+    if (target as u32) <= (m as u32) + (tail as u32) {
+        if (m as u32) < (first as u32) + (kept as u32) {
             return need;
         }
     }
@@ -33,18 +33,15 @@ fn all_hold(jobs: &Jobs, prepared: &Prepared, set: u32, l: u16, target: u16, m: 
         (λ k. only (bit set k) (must_hold jobs.now prepared.now l target m k)) }
 {
     let mut total: u16 = 0;
-    let mut todo = bits::below32(set, tables::count(jobs));
-    while todo != 0 {
-        let k = bits::lowest32(todo);
+    for k in set.below(jobs.count()).members() {
         total += must_hold(
-            tables::need(jobs, k),
-            tables::kept(jobs, k),
+            jobs.need(k),
+            jobs.kept(k),
             heads::first_start(prepared, l, k),
-            tables::tail(prepared, k),
+            prepared.tails[k],
             target,
             m,
         );
-        todo = bits::without_lowest32(todo);
     }
     total
 }
@@ -61,11 +58,11 @@ fn no_room_at(
     target: u16,
     m: u16,
 ) -> bool
-    requires { (Fit jobs.now) × ((ProfileOf (part_in part.now) gone free (modules_of jobs.now) l) × (l ≤ m)) }
-    ensures { result ≡ true → Overlapping jobs.now prepared.now (part_in part.now) l target }
+    requires { (Fit jobs.now) × ((ProfileOf part.now gone free (modules_of jobs.now) l) × (l ≤ m)) }
+    ensures { result ≡ true → Overlapping jobs.now prepared.now part.now l target }
 {
-    let ended = placement::advance(part, gone, free, tables::modules(jobs), m);
-    ended.free < all_hold(jobs, prepared, tables::unplaced(part), l, target, m)
+    let ended = placement::advance(part, gone, free, jobs.modules(), m);
+    ended.free < all_hold(jobs, prepared, part.unplaced, l, target, m)
 }
 
 // Whether that is so at the last minute at which job k can start, where it has its modules then wherever it starts.
@@ -79,19 +76,19 @@ fn no_room_for(
     target: u16,
     k: usize,
 ) -> bool
-    requires { (Fit jobs.now) × ((ProfileOf (part_in part.now) gone free (modules_of jobs.now) l) × (k < most_jobs)) }
-    ensures { result ≡ true → Overlapping jobs.now prepared.now (part_in part.now) l target }
+    requires { (Fit jobs.now) × ((ProfileOf part.now gone free (modules_of jobs.now) l) × (k < most_jobs)) }
+    ensures { result ≡ true → Overlapping jobs.now prepared.now part.now l target }
 {
-    let tail = tables::tail(prepared, k);
-    if (target as u32) < tail {
+    let tail = prepared.tails[k];
+    if target < tail {
         return false;
     }
-    let m = target - (tail as u16);
+    let m = target - tail;
     if m < l {
         return false;
     }
     let first = heads::first_start(prepared, l, k);
-    if (first as u64) + (tables::kept(jobs, k) as u64) <= (m as u64) {
+    if (first as u32) + (jobs.kept(k) as u32) <= (m as u32) {
         return false;
     }
     no_room_at(jobs, prepared, part, gone, free, l, target, m)
@@ -107,16 +104,13 @@ pub fn overlapping(
     l: u16,
     target: u16,
 ) -> bool
-    requires { (Fit jobs.now) × (ProfileOf (part_in part.now) gone free (modules_of jobs.now) l) }
-    ensures { result ≡ true → Overlapping jobs.now prepared.now (part_in part.now) l target }
+    requires { (Fit jobs.now) × (ProfileOf part.now gone free (modules_of jobs.now) l) }
+    ensures { result ≡ true → Overlapping jobs.now prepared.now part.now l target }
 {
-    let mut todo = bits::below32(tables::unplaced(part), tables::count(jobs));
-    while todo != 0 {
-        let k = bits::lowest32(todo);
+    for k in part.unplaced.below(jobs.count()).members() {
         if no_room_for(jobs, prepared, part, gone, free, l, target, k) {
             return true;
         }
-        todo = bits::without_lowest32(todo);
     }
     false
 }

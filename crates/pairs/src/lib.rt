@@ -6,6 +6,8 @@ ghost use Rattle.figures.specs.Figures.{most_jobs};
 ghost use Rattle.bits.specs.Bits.{with_bit};
 ghost use Rattle.pairs.specs.Pairs.{AreAlike, MaySwap};
 
+use bits::Set;
+
 // Whether the jobs are alike, and whatever waits for job 2 waits for job 1.
 pub fn alike(need1: u16, need2: u16, minutes1: u16, minutes2: u16, later1: u32, later2: u32) -> bool
     ensures { result ≡ true → AreAlike need1 need2 minutes1 minutes2 later1 later2 }
@@ -45,7 +47,7 @@ pub fn joined(set: u32, passed: bool, i: usize) -> u32
     ensures { result ≡ cond passed (with_bit set i) set }
 {
     if passed {
-        return bits::set32(set, i);
+        return set.with(i);
     }
     set
 }

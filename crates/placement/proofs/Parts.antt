@@ -29,10 +29,11 @@ use Rattle.schedule.proofs.Starts.{Ready, ready_says, ready_when, start_may, not
 use Rattle.schedule.proofs.Sound.{part_sound}
 use Rattle.schedule.proofs.Occupied.{room-sum}
 use Rattle.schedule.proofs.Jumps.{start_here}
+use Rattle.tables.specs.declared.Jobs.{Jobs}
 use Rattle.tables.proofs.Ends.{ends_short}
 use Rattle.schedule.proofs.Prefixes.{part_count, part_more, follows_more}
 use Rattle.tables.specs.Tables.{sheet_of, need_at, minutes_at, kept_at, most_kept, arrival_at, earlier_at, count_of, modules_of, changeover_of, Fit}
-use Rattle.tables.specs.Part.{Part}
+use Rattle.tables.specs.declared.Part.{Part}
 use Rattle.tables.proofs.Laws.{job_area}
 use Rattle.placement.specs.Profile.{held_at, held_after, held_from, held_of, held_since}
 use Rattle.placement.specs.Part.{waits, StartFor, Figures, IsPart, Placeable, Placed, is_ready, FirstPart}
@@ -42,7 +43,7 @@ use Rattle.placement.proofs.Inserts.{inserted-sum}
 abbrev last_free : ℕ
 last_free = last_end + longest_changeover
 
-module _ (t : List ℕ) (fit : Fit t) where
+module _ (t : Jobs) (fit : Fit t) where
   abbrev S : Sheet
   S = sheet_of t
 
@@ -58,6 +59,7 @@ module _ (t : List ℕ) (fit : Fit t) where
     follows = tt;
     figures = record {
       size = f.size;
+      places = f.places;
       low = rw f.unplaced (omega (arith, pow_pos jobs));
       set = λ i l. rw f.unplaced (all_bits jobs i l);
       sizes = rw (f.placed, f.unplaced) (omega (arith, ones-ones jobs));
@@ -248,6 +250,7 @@ module _ (t : List ℕ) (fit : Fit t) where
             room = omega (arith, occupied_is (start_of S P j), room-sum S P sound j (start_of S P j) g);
             area = area-le;
             size = F.size;
+            places = F.places;
           }
 
       pub fewer : suc (ones (without_bit p.unplaced j)) ≡ ones p.unplaced
@@ -315,6 +318,7 @@ module _ (t : List ℕ) (fit : Fit t) where
           profile = rw h.last h.profile;
           by_end = next_by_end;
           size = h.size;
+          places = h.places;
         }
 
         -- Placing a job that may come next gives the theory's part-plan with it.

@@ -7,13 +7,16 @@ use Rattle.figures.specs.Figures.{most_jobs, most_modules}
 use Rattle.bits.specs.Bits.{bit, without_bit}
 use Rattle.schedule.specs.Plan.{Sheet, finish}
 use Rattle.schedule.specs.ListPlan.{PartPlan, no_jobs, Follows, part_of}
-use Rattle.tables.specs.Tables.{whole_at, need_at, minutes_at, kept_at, arrival_at, earlier_at, count_of, modules_of, changeover_of}
-use Rattle.tables.specs.Part.{Part, part_size, part_in, word_of}
+use Rattle.tables.specs.declared.Jobs.{Jobs}
+use Rattle.tables.specs.Tables.{need_at, minutes_at, kept_at, arrival_at, earlier_at, count_of, modules_of, changeover_of}
+use Rattle.tables.specs.declared.Part.{Part}
+use Rattle.tables.specs.Part.{word_of}
 use Rattle.placement.specs.Profile.{held_of, ProfileOf, FirstRoomOf, Inserted}
 
 -- p has the figures of the theory's part-plan P
 pub record Figures (S : Sheet) (P : PartPlan) (p : Part) : Type 0 where
-  pub size : length p.ends ≡ part_size
+  pub size : length p.ends ≡ most_jobs
+  pub places : length p.order ≡ most_jobs
   -- "Sets of jobs are kept one bit to a job"
   pub low : p.unplaced < 2 ^ S.jobs
   pub set : (i : ℕ) → i < S.jobs → bit p.unplaced i ≡ not (P.placed i)
@@ -38,8 +41,9 @@ pub record IsPart (S : Sheet) (w : List ℕ) (p : Part) : Type 0 where
 -- ---- one job more, by the figures alone
 
 -- job j of the table t can be placed at minute `start`
-pub record Placeable (t : List ℕ) (p : Part) (j start : ℕ) : Type 0 where
-  pub size : length p.ends ≡ part_size
+pub record Placeable (t : Jobs) (p : Part) (j start : ℕ) : Type 0 where
+  pub size : length p.ends ≡ most_jobs
+  pub places : length p.order ≡ most_jobs
   pub job : j < most_jobs
   pub count : p.placed < most_jobs
   pub later : p.last ≤ start
@@ -51,36 +55,21 @@ pub record Placeable (t : List ℕ) (p : Part) (j start : ℕ) : Type 0 where
   pub room : held_of p start + need_at t j ≤ modules_of t
   pub area : need_at t j * kept_at t j ≤ p.left
 
--- r has the single numbers of a part-plan, in their order
-pub record Numbers (last free placed gone unplaced left : ℕ) (r : List ℕ) : Type 0 where
-  pub last_is : get_or r 0 0 ≡ last
-  pub free_is : get_or r 1 0 ≡ free
-  pub placed_is : get_or r 2 0 ≡ placed
-  pub gone_is : get_or r 3 0 ≡ gone
-  pub unplaced_is : whole_at r 4 ≡ unplaced
-  pub left_is : whole_at r 6 ≡ left
-
--- the single numbers of p with job j placed there
-pub record NumbersWith (t : List ℕ) (p : Part) (j start : ℕ) (r : List ℕ) : Type 0 where
-  pub last : get_or r 0 0 ≡ start
-  -- how many have given theirs back by then, and how many modules are free beside the new job
-  pub ended : ProfileOf p (get_or r 3 0) (get_or r 1 0 + need_at t j) (modules_of t) start
-  pub placed : get_or r 2 0 ≡ p.placed + 1
-  pub unplaced : whole_at r 4 ≡ without_bit p.unplaced j
-  pub left : whole_at r 6 ≡ p.left - need_at t j * kept_at t j
-
--- the lists of the table p with job j, which ends at `end` and keeps `width` modules until minute `until`
-pub record ListsWith (p : List ℕ) (j end until width : ℕ) (r : List ℕ) : Type 0 where
-  pub size : length r ≡ part_size
-  pub here : get_or r j 0 ≡ end
-  pub ends : (i : ℕ) → i < most_jobs → i ≢ j → get_or r i 0 ≡ get_or p i 0
-  pub lists : Inserted (part_in p) (part_in r) until width
-  pub order : (k : ℕ) → k < (part_in p).placed → get_or (part_in r).order k 0 ≡ get_or (part_in p).order k 0
-  pub job : get_or (part_in r).order (part_in p).placed 0 ≡ j
+-- the lists of p with job j, which ends at `end` and keeps `width` modules until minute `until`; the single numbers are as before
+pub record ListsWith (p : Part) (j end until width : ℕ) (r : Part) : Type 0 where
+  pub size : length r.ends ≡ length p.ends
+  pub places : length r.order ≡ length p.order
+  pub here : get_or r.ends j 0 ≡ end
+  pub ends : (i : ℕ) → i < most_jobs → i ≢ j → get_or r.ends i 0 ≡ get_or p.ends i 0
+  pub lists : Inserted p r until width
+  pub order : (k : ℕ) → k < p.placed → get_or r.order k 0 ≡ get_or p.order k 0
+  pub job : get_or r.order p.placed 0 ≡ j
+  pub single : (r.placed ≡ p.placed) × (r.unplaced ≡ p.unplaced)
 
 -- r is p with job j placed there
-pub record Placed (t : List ℕ) (p : Part) (j start : ℕ) (r : Part) : Type 0 where
-  pub size : length r.ends ≡ part_size
+pub record Placed (t : Jobs) (p : Part) (j start : ℕ) (r : Part) : Type 0 where
+  pub size : length r.ends ≡ most_jobs
+  pub places : length r.order ≡ most_jobs
   pub unplaced : r.unplaced ≡ without_bit p.unplaced j
   pub left : r.left ≡ p.left - need_at t j * kept_at t j
   pub last : r.last ≡ start
@@ -98,18 +87,19 @@ abbrev pub waits : List ℕ → ℕ → ℕ → ℕ → ℕ
 waits ends set jobs t = max t (largest jobs (λ i. only (bit set i) (get_or ends i 0)))
 
 -- r is the start of job j: the first minute, from the last start, its arrival and the ends of its earlier jobs on, at which its modules are free
-abbrev pub StartFor : List ℕ → Part → ℕ → ℕ → Type 0
+abbrev pub StartFor : Jobs → Part → ℕ → ℕ → Type 0
 StartFor t p j r =
     FirstRoomOf p (modules_of t) (need_at t j) (waits p.ends (earlier_at t j) (count_of t) (max p.last (arrival_at t j))) r
 
 -- job j is unplaced, and none of its earlier jobs is
-abbrev pub is_ready : List ℕ → Part → ℕ → Bool
+abbrev pub is_ready : Jobs → Part → ℕ → Bool
 is_ready t p j = bit p.unplaced j && eqb (bit_and (earlier_at t j) p.unplaced) 0
 
 -- ---- no job is placed
 
-pub record FirstPart (t : List ℕ) (p : Part) : Type 0 where
-  pub size : length p.ends ≡ part_size
+pub record FirstPart (t : Jobs) (p : Part) : Type 0 where
+  pub size : length p.ends ≡ most_jobs
+  pub places : length p.order ≡ most_jobs
   pub unplaced : p.unplaced ≡ 2 ^ count_of t - 1
   pub left : p.left ≡ sum (count_of t) (λ i. need_at t i * kept_at t i)
   pub last : p.last ≡ 0

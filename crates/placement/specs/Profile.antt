@@ -1,9 +1,8 @@
 -- The placed jobs sorted by their ends: the k-th gives back held k modules at minute until k, its end plus the changeover.
-use Rattle.std.specs.Prelude.{◌≡◌, ◌⊎◌, List, ℕ, ◌+◌, ◌-◌, ◌*◌, ◌≤◌, ◌<◌, ltb, leb, length, get_or}
+use Rattle.std.specs.Prelude.{◌≡◌, List, ℕ, ◌+◌, ◌-◌, ◌*◌, ◌≤◌, ◌<◌, ltb, leb, get_or}
 use Rattle.counting.specs.Counting.{only, sum}
 use Rattle.figures.specs.Figures.{most_jobs}
-use Rattle.tables.specs.Tables.{list_from}
-use Rattle.tables.specs.Part.{Part}
+use Rattle.tables.specs.declared.Part.{Part}
 use Rattle.placement.specs.declared.Ended.{Ended}
 
 -- the modules that are held at minute t
@@ -51,12 +50,6 @@ pub record PutIn (list list' : List ℕ) (at count x : ℕ) : Type 0 where
   pub below : (k : ℕ) → k < at → get_or list' k 0 ≡ get_or list k 0
   pub here : get_or list' at 0 ≡ x
   pub above : (k : ℕ) → at ≤ k → k < count → get_or list' (k + 1) 0 ≡ get_or list k 0
-
--- the same in a table's list of numbers from place `base` on; nothing else of the table changes
-pub record PutFrom (base : ℕ) (table table' : List ℕ) (at count x : ℕ) : Type 0 where
-  pub list : PutIn (list_from base table) (list_from base table') at count x
-  pub outside : (k : ℕ) → (k < base) ⊎ (base + most_jobs ≤ k) → get_or table' k 0 ≡ get_or table k 0
-  pub size : length table' ≡ length table
 
 -- ---- of a part-plan
 

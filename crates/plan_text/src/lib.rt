@@ -13,6 +13,7 @@ use figures::MOST_JOBS;
 use labels::label_in;
 use sheet::Reading;
 use text::Text;
+use words::Number;
 
 // The length of the longest card.
 pub const LONGEST_CARD: usize = (ROW_SIZE + 1) * MOST_JOBS + TRAILER_SIZE;
@@ -34,9 +35,9 @@ fn with_row(text: Text, sheet: &[u8], card: &[u8], found: Reading, j: usize, dep
     ensures { result ≡ adding text (row_line sheet.now card.now departure j) }
 {
     let at = ROW_SIZE * j;
-    let start = words::read16(card, at);
-    let end = words::read16(card, at + ROW_END);
-    let modules = words::read64(card, at + ROW_MODULES);
+    let start = u16::read(card, at);
+    let end = u16::read(card, at + ROW_END);
+    let modules = u64::read(card, at + ROW_MODULES);
     let label = label_in(sheet, found, j);
     with_line(text, label, start, end, departure, modules)
 }
@@ -48,11 +49,9 @@ fn with_rows(text: Text, sheet: &[u8], card: &[u8], found: Reading) -> Text
 {
     let jobs = found.count;
     let mut next = text;
-    let mut j: usize = 0;
-    while j < jobs {
+    for j in 0..jobs {
         let job = found.jobs[j];
         next = with_row(next, sheet, card, found, j, job.departure);
-        j += 1;
     }
     next
 }
@@ -74,7 +73,7 @@ pub fn plan_lines(sheet: &[u8], card: &[u8]) -> Text
 {
     let found = sheet::read(sheet);
     let jobs = found.count;
-    let end = words::read16(card, (ROW_SIZE + 1) * jobs + TRAILER_END);
+    let end = u16::read(card, (ROW_SIZE + 1) * jobs + TRAILER_END);
     let text = plan_line(end, jobs as u32, found.modules);
     with_rows(text, sheet, card, found)
 }

@@ -3,20 +3,20 @@ use mathlib.Core.Path.{◌≡◌, refl, sym, ◌∙◌}
 use mathlib.Core.Logic.{◌↔◌}
 use mathlib.Core.Bool.{Bool, true, false, cond}
 use mathlib.Core.List.{List}
+use Rattle.std.specs.Prelude.{Ok}
 use Prim.Native.Nat.{ℕ, ◌<◌}
 use lib.Dec.{eqb}
 use borrow.Author.Tests.{eqb-true}
 use Rattle.schedule.specs.Plan.{Plan, Valid, over_wide, Circular}
 use Rattle.schedule.proofs.Existence.{has_plan}
+use Rattle.tables.specs.declared.Jobs.{Jobs}
 use Rattle.tables.specs.Tables.{sheet_of, Fit}
 use Rattle.checking.specs.Checking.{first_failing, FirstFails, NoneFails}
 use Rattle.checking.proofs.Order.{all_passed, none_failing, both_passed, first_in_front, first-behind, refused_exactly, answered_exactly}
 use Rattle.sheet.specs.Read.{read_checks, read_refusal, reading}
-use Rattle.sheet.proofs.Answers.{read_number}
 use Rattle.job_table.specs.Table.{FitJobs, TableOf}
 use Rattle.planable.specs.Planable.{sheet_in, no_order, order_checks, order_refusal, planable_checks, planable_refusal}
-use Rattle.planable.specs.declared.Checked.{Checked}
-use Rattle.planable.specs.Results.{ReadOf, CheckedOf}
+use Rattle.planable.specs.Results.{ReadOf}
 use Rattle.schedule.proofs.Same.{SameJobs, marks_of, circular_same}
 use Rattle.planable.proofs.Circles.{ordered_when, refusal_same}
 use Rattle.planable.proofs.Tables.{lasting_read, same_jobs, jobs_fit, fit-table}
@@ -76,13 +76,13 @@ planable_when s = (there, back)
 -- ---- the table
 
 -- what is known of the table of a sheet that passes
-pub record Ready (s t : List ℕ) : Type 0 where
+pub record Ready (s : List ℕ) (t : Jobs) : Type 0 where
   pub reads : read_refusal s ≡ 0
   pub fit : Fit t
   pub free : ¬ Circular (sheet_of t)
   pub same : SameJobs (sheet_of t) (sheet_in s)
 
-pub ready-table : (s t : List ℕ) → planable_refusal s ≡ 0 → TableOf (reading s) t → Ready s t
+pub ready-table : (s : List ℕ) (t : Jobs) → planable_refusal s ≡ 0 → TableOf (reading s) t → Ready s t
 ready-table s t e h =
     let p = passes s e in
     let same = same_jobs s p.reads t h in
@@ -97,35 +97,20 @@ ready-table s t e h =
 
 module _ (s : List ℕ) where
   -- a sheet that does not read
-  pub not_read : (t : List ℕ) → ((reading s).refusal ≡ 0 → ⊥) → ReadOf s (record { refusal = (reading s).refusal; jobs = t })
-  not_read t h = record { refusal = read_number s; table = λ z. absurd (h z) }
+  pub turned_away : (k : ℕ) → k ≡ read_refusal s → (k ≡ 0 → ⊥) → k ≡ planable_refusal s
+  unfolding planable_refusal
+  turned_away k e h = e ∙ sym (first_in_front (read_checks s) (order_checks (sheet_in s)) (λ z. h (e ∙ z)))
 
-  pub reads_well : (reading s).refusal ≡ 0 → read_refusal s ≡ 0
-  reads_well z = sym (read_number s) ∙ z
+  -- one that does
+  module _ (t : Jobs) (f : ReadOf s (Ok t)) where
+    pub was_read : read_refusal s ≡ 0
+    was_read = sym f.refusal
 
-  pub is_read : (reading s).refusal ≡ 0 → (t : List ℕ) → TableOf (reading s) t → ReadOf s (record { refusal = 0; jobs = t })
-  is_read z t h = record { refusal = sym (reads_well z); table = λ y. h }
+    pub same_read : SameJobs (sheet_of t) (sheet_in s)
+    same_read = same_jobs s was_read t f.table
 
-  module _ (r : Checked) (f : ReadOf s r) where
-    pub turned_away : (r.refusal ≡ 0 → ⊥) → CheckedOf s r
-    unfolding planable_refusal
-    turned_away h = record {
-      refusal = f.refusal ∙ sym (first_in_front (read_checks s) (order_checks (sheet_in s)) (λ z. h (f.refusal ∙ z)));
-      table = f.table;
-    }
+    pub jobs_read : FitJobs t
+    jobs_read = jobs_fit s was_read t f.table
 
-    module _ (z : r.refusal ≡ 0) where
-      pub was_read : read_refusal s ≡ 0
-      was_read = sym f.refusal ∙ z
-
-      pub same_read : SameJobs (sheet_of r.jobs) (sheet_in s)
-      same_read = same_jobs s was_read r.jobs (f.table z)
-
-      pub jobs_read : FitJobs r.jobs
-      jobs_read = jobs_fit s was_read r.jobs (f.table z)
-
-      pub checked : (k : ℕ) → k ≡ order_refusal (sheet_of r.jobs) → CheckedOf s (record { refusal = k; jobs = r.jobs })
-      checked k e = record {
-        refusal = e ∙ refusal_same same_read ∙ sym (behind-reading s was_read);
-        table = λ y. f.table z;
-      }
+    pub checked : (k : ℕ) → k ≡ order_refusal (sheet_of t) → k ≡ planable_refusal s
+    checked k e = e ∙ refusal_same same_read ∙ sym (behind-reading s was_read)

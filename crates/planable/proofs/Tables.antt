@@ -9,6 +9,7 @@ use Rattle.figures.specs.Figures.{most_jobs, most_modules, longest_changeover}
 use Rattle.bits.specs.Bits.{bit}
 use Rattle.schedule.specs.Plan.{over_wide, Lasting, Needing}
 use Rattle.schedule.proofs.Existence.{narrow_says}
+use Rattle.tables.specs.declared.Jobs.{Jobs}
 use Rattle.tables.specs.Tables as tables
 use Rattle.tables.specs.Tables.{sheet_of, Fit}
 use Rattle.sheet_format.specs.Format.{jobs_in, count_of, job_of}
@@ -58,7 +59,7 @@ module _ (s : List ℕ) (e : read_refusal s ≡ 0) where
 
   -- ---- in a table
 
-  module _ (t : List ℕ) (h : TableOf r t) where
+  module _ (t : Jobs) (h : TableOf r t) where
     pub same_jobs : SameJobs (sheet_of t) (sheet_in s)
     same_jobs = record {
       jobs = h.count;
@@ -72,7 +73,6 @@ module _ (s : List ℕ) (e : read_refusal s ≡ 0) where
 
     pub jobs_fit : FitJobs t
     jobs_fit = record {
-      size = h.size;
       few = omega (arith, few_read, h.count);
       lasting = λ j l. omega (arith, same_jobs.minutes j l, (job_read j (low l)).minutes-some);
       short = λ j l. omega (arith, same_jobs.minutes j l, (job_read j (low l)).minutes_most);

@@ -17,6 +17,7 @@ use Rattle.schedule.specs.TieRule.{Best, best_order, end_of}
 use Rattle.schedule.proofs.Orders.{best_order_lem}
 use Rattle.schedule.proofs.Existence.{narrow_says, has_plan}
 use Rattle.schedule.proofs.Theorems.{best_earliest}
+use Rattle.tables.specs.declared.Jobs.{Jobs}
 use Rattle.tables.specs.Tables.{sheet_of}
 use Rattle.card.specs.Card.{card_size, card_of}
 use Rattle.card.specs.Decoding.{plan_on, Decodes}
@@ -134,10 +135,10 @@ module _ (s card : List ℕ) (e : plan_refusal s (length card) ≡ 0) where
 
   -- ---- by a table of the sheet
 
-  abbrev table : (t : List ℕ) × TableOf (reading s) t
+  abbrev table : (t : Jobs) × TableOf (reading s) t
   table = has-table (reading s) (few_read s p.reads)
 
-  abbrev t : List ℕ
+  abbrev t : Jobs
   t = table.0
 
   abbrev ready : Ready s t

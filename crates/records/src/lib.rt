@@ -4,17 +4,19 @@
 ghost use Rattle.std.specs.Prelude.{◌≡◌, ◌+◌, ◌*◌, ◌≤◌, length};
 ghost use Rattle.counting.specs.Counting.{joined};
 ghost use Rattle.checking.specs.Checking.{first_failing};
+ghost use Rattle.checking.specs.Refusals.{refusal_number};
 ghost use Rattle.sheet_format.specs.Figures.{most_jobs, record_size};
-ghost use Rattle.sheet_format.specs.Format.{no_job, no_jobs, jobs_in, label_lengths};
+ghost use Rattle.sheet_format.specs.Format.{no_jobs, jobs_in, label_lengths};
 ghost use Rattle.sheet_format.specs.Format.{record_at, record_bytes};
 ghost use Rattle.sheet_format.specs.Checks.{some_faulty, content_checks};
 
+use checking::Refusal;
 use figures::MOST_JOBS;
 use label_check::wrong_labels;
-use sheet_format::checks::{either, faulty};
+use sheet_format::checks::faulty;
 use sheet_format::layout::RECORD_SIZE;
 use sheet_format::{Job, label_length};
-use words::{read16, read32, write16, write32};
+use words::Number;
 
 // What the writer's pass over its jobs finds.
 #[derive(Drop)]
@@ -23,24 +25,11 @@ pub struct Surveyed {
     pub faulty: bool,
 }
 
-fn no_job() -> Job
-    ensures { result ≡ no_job }
-{
-    Job {
-        label_len: 0,
-        modules: 0,
-        minutes: 0,
-        earlier: 0,
-        departure: 0,
-        arrival: 0,
-    }
-}
-
 // A list without jobs: every place 0.
 pub fn no_jobs() -> [Job; MOST_JOBS]
     ensures { result ≡ no_jobs }
 {
-    [no_job(); MOST_JOBS]
+    [Job::default(); MOST_JOBS]
 }
 
 // The job of the record that begins at `at`.
@@ -51,10 +40,10 @@ pub fn read_one(s: &[u8], at: usize) -> Job
     Job {
         label_len: s[at],
         modules: s[at + 1],
-        minutes: read16(s, at + 2),
-        earlier: read32(s, at + 4),
-        departure: read16(s, at + 8),
-        arrival: read16(s, at + 10),
+        minutes: u16::read(s, at + 2),
+        earlier: u32::read(s, at + 4),
+        departure: u16::read(s, at + 8),
+        arrival: u16::read(s, at + 10),
     }
 }
 
@@ -64,10 +53,8 @@ pub fn label_start(jobs: [Job; MOST_JOBS], job: usize) -> usize
     ensures { (result ≡ label_lengths job (jobs_in jobs)) × (result ≤ 255 * job) }
 {
     let mut total: usize = 0;
-    let mut i = 0;
-    while i < job {
+    for i in 0..job {
         total += label_length(jobs[i]);
-        i += 1;
     }
     total
 }
@@ -79,12 +66,9 @@ pub fn survey(jobs: [Job; MOST_JOBS], count: usize) -> Surveyed
 {
     let mut total: usize = 0;
     let mut found = false;
-    let mut i = 0;
-    while i < count {
-        let job = jobs[i];
-        total += label_length(job);
-        found = either(found, faulty(count, job));
-        i += 1;
+    for i in 0..count {
+        total += label_length(jobs[i]);
+        found |= faulty(count, jobs[i]);
     }
     Surveyed {
         total,
@@ -93,26 +77,27 @@ pub fn survey(jobs: [Job; MOST_JOBS], count: usize) -> Surveyed
 }
 
 // The first of 5 to 7 that fails, from what the pass over the jobs found.
-pub fn content_refusal(
+#[tactic(auto, unfolding(checking::specs::Checking::first_failing))]
+pub fn check_content(
     jobs: [Job; MOST_JOBS],
     count: usize,
     faulty: bool,
     total: usize,
     labels: &[u8],
-) -> u32
+) -> Result<(), Refusal>
     requires { (count ≤ most_jobs) × (faulty ≡ some_faulty count (jobs_in jobs)) × (total ≡ label_lengths count (jobs_in jobs)) }
-    ensures { result ≡ first_failing (content_checks count (jobs_in jobs) labels.now) }
+    ensures { refusal_number result ≡ first_failing (content_checks count (jobs_in jobs) labels.now) }
 {
     if faulty {
-        return 5;
+        return Err(Refusal::WrongRecord);
     }
     if total != labels.len() {
-        return 6;
+        return Err(Refusal::LabelLengths);
     }
     if wrong_labels(jobs, count, labels) {
-        return 7;
+        return Err(Refusal::WrongLabel);
     }
-    0
+    Ok(())
 }
 
 // A record, into its own bytes.
@@ -122,10 +107,10 @@ fn write_one(part: &mut [u8], job: Job)
 {
     part[0] = job.label_len;
     part[1] = job.modules;
-    write16(part, 2, job.minutes);
-    write32(part, 4, job.earlier);
-    write16(part, 8, job.departure);
-    write16(part, 10, job.arrival);
+    u16::write(part, 2, job.minutes);
+    u32::write(part, 4, job.earlier);
+    u16::write(part, 8, job.departure);
+    u16::write(part, 10, job.arrival);
 }
 
 // The records of the first `count` jobs, one behind another.
@@ -133,11 +118,9 @@ pub fn write_all(part: &mut [u8], jobs: [Job; MOST_JOBS], count: usize)
     requires { (count ≤ most_jobs) × (length part.old ≡ record_size * count) }
     ensures { part.new ≡ joined count (λ i. record_bytes (jobs_in jobs i)) }
 {
-    let mut i = 0;
-    while i < count {
+    for i in 0..count {
         let at = RECORD_SIZE * i;
         let to = at + RECORD_SIZE;
         write_one(&mut part[at..to], jobs[i]);
-        i += 1;
     }
 }

@@ -12,13 +12,14 @@ use Rattle.counting.specs.Counting.{only, largest}
 use Rattle.counting.proofs.Tests.{same_or_not, only-le}
 use Rattle.counting.proofs.Ranges.{largest-le, largest_same}
 use Rattle.bits.specs.Bits.{bit}
+use Rattle.tables.specs.declared.Jobs.{Jobs}
 use Rattle.tables.specs.Tables.{sheet_of, minutes_at, earlier_at, count_of, Fit}
 use Rattle.tables.proofs.Laws.{zeros}
 use Rattle.relations.specs.Relations.{ChainsOf}
 use Rattle.schedule.specs.Bounds.{chain}
 
 -- a chain of k jobs takes 1440 minutes a job at the most
-pub chain_short : (t : List ℕ) → Fit t → (k j : ℕ) → j < count_of t → chain (sheet_of t) k j ≤ 1440 * k
+pub chain_short : (t : Jobs) → Fit t → (k j : ℕ) → j < count_of t → chain (sheet_of t) k j ≤ 1440 * k
 unfolding chain
 chain_short t fit zero j l = zero-le
 chain_short t fit (suc k) j l =
@@ -27,11 +28,11 @@ chain_short t fit (suc k) j l =
     omega (arith, fit.short j l)
 
 -- the longest chain behind job j, by the chains of other jobs
-abbrev longest_to : List ℕ → List ℕ → ℕ → ℕ
+abbrev longest_to : Jobs → List ℕ → ℕ → ℕ
 longest_to t tails j = largest (count_of t) (λ i. only (bit (earlier_at t i) j) (get_or tails i 0))
 
 -- what is found for the first n jobs
-pub record Lengthening (t : List ℕ) (k : ℕ) (tails next : List ℕ) (n : ℕ) : Type 0 where
+pub record Lengthening (t : Jobs) (k : ℕ) (tails next : List ℕ) (n : ℕ) : Type 0 where
   pub fit : Fit t
   pub old : ChainsOf t tails k
   pub low : k < 20
@@ -39,7 +40,7 @@ pub record Lengthening (t : List ℕ) (k : ℕ) (tails next : List ℕ) (n : ℕ
   pub size : length next ≡ 20
   pub each : (j : ℕ) → j < n → get_or next j 0 ≡ chain (sheet_of t) (k + 1) j
 
-pub lengthening-none : {t : List ℕ} {k : ℕ} {tails : List ℕ} (next : List ℕ)
+pub lengthening-none : {t : Jobs} {k : ℕ} {tails : List ℕ} (next : List ℕ)
     → Fit t → ChainsOf t tails k → k < 20 → length next ≡ 20 → Lengthening t k tails next 0
 lengthening-none next f c l e = record {
   fit = f;
@@ -50,7 +51,7 @@ lengthening-none next f c l e = record {
   each = λ j m. absurd (not-suc-le-zero m);
 }
 
-module _ {t : List ℕ} {k : ℕ} {tails next : List ℕ} {n : ℕ} (h : Lengthening t k tails next n) where
+module _ {t : Jobs} {k : ℕ} {tails next : List ℕ} {n : ℕ} (h : Lengthening t k tails next n) where
   -- the longest chain behind a job
   pub behind_short : longest_to t tails n ≤ 27360
   behind_short =
@@ -83,11 +84,11 @@ module _ {t : List ℕ} {k : ℕ} {tails next : List ℕ} {n : ℕ} (h : Lengthe
   lengthening_all l = record { each = λ j m. h.each j (omega arith) }
 
 -- no chain yet
-pub chains-none : (t : List ℕ) → ChainsOf t (replicate 20 0) 0
+pub chains-none : (t : Jobs) → ChainsOf t (replicate 20 0) 0
 unfolding chain
 chains-none t = record { each = λ j l. zeros 20 j }
 
 -- a list that has the same at the jobs' places
-pub chains_same : {t a : List ℕ} {k : ℕ} (b : List ℕ) → count_of t ≤ 20 → ((j : ℕ) → j < 20 → get_or b j 0 ≡ get_or a j 0)
+pub chains_same : {t : Jobs} {a : List ℕ} {k : ℕ} (b : List ℕ) → count_of t ≤ 20 → ((j : ℕ) → j < 20 → get_or b j 0 ≡ get_or a j 0)
     → ChainsOf t a k → ChainsOf t b k
 chains_same b few same h = record { each = λ j l. same j (omega arith) ∙ h.each j l }

@@ -16,6 +16,7 @@ use Rattle.bits.specs.Bits.{bit, with_bit}
 use Rattle.bits.proofs.Digits.{bit-none, bit-and}
 use Rattle.bits.proofs.Members.{bit_with}
 use Rattle.relations.specs.declared.Row.{Row}
+use Rattle.tables.specs.declared.Jobs.{Jobs}
 use Rattle.tables.specs.Tables.{need_at, minutes_at, count_of, modules_of}
 use Rattle.relations.specs.Relations.{Laters, WaitsToo, Alike, Swapping, RowOf, row_at, Related, PairPut, with_row}
 
@@ -24,7 +25,7 @@ subset : (a b : ℕ) → bit_and a b ≡ a → (k : ℕ) → bit a k ≡ true �
 subset a b e k h = and_right (bit a k) (bit b k) (sym (bit-and a b k) ∙ ap (λ (x : ℕ). bit x k) e ∙ h)
 
 -- whatever waits for a waits for b, by the sets of later jobs
-waits_too : (t later : List ℕ) → Laters t later → (a b : ℕ) → a < count_of t → b < count_of t
+waits_too : (t : Jobs) (later : List ℕ) → Laters t later → (a b : ℕ) → a < count_of t → b < count_of t
     → bit_and (get_or later a 0) (get_or later b 0) ≡ get_or later a 0 → WaitsToo t a b
 waits_too t later h a b x y e k m w = sym (h b k y m) ∙ subset (get_or later a 0) (get_or later b 0) e k (h a k x m ∙ w)
 
@@ -60,7 +61,7 @@ put-or x i false e f = inl (e, f refl)
 
 -- ---- the row of one job
 
-module _ (t later : List ℕ) (j : ℕ) (l : j < count_of t) (h : Laters t later) where
+module _ (t : Jobs) (later : List ℕ) (j : ℕ) (l : j < count_of t) (h : Laters t later) where
   pub row-none : RowOf t j 0 (record { alike = 0; swapping = 0; beside = 0 })
   row-none = record {
     alike = λ i b. clash (bit 0 i) b (bit-none i);
@@ -106,11 +107,11 @@ module _ (t later : List ℕ) (j : ℕ) (l : j < count_of t) (h : Laters t later
 
 -- ---- the rows of the first n jobs
 
-pub record RelatedTo (t : List ℕ) (n : ℕ) (all : List ℕ) : Type 0 where
+pub record RelatedTo (t : Jobs) (n : ℕ) (all : List ℕ) : Type 0 where
   pub size : length all ≡ 60
   pub each : (j : ℕ) → j < n → RowOf t j (count_of t) (row_at all j)
 
-pub related-none : {t : List ℕ} (all : List ℕ) → length all ≡ 60
+pub related-none : {t : Jobs} (all : List ℕ) → length all ≡ 60
     → RelatedTo t 0 all
 related-none all e = record { size = e; each = λ j l. absurd (not-suc-le-zero l) }
 
@@ -161,7 +162,7 @@ module _ (all : List ℕ) (n : ℕ) (row : Row) (size : length all ≡ 60) (l : 
     other_place (j * 3 + 2) (λ e. omega arith) (λ e. omega arith) (λ e. omega arith),
   ) refl
 
-  pub related_more : {t : List ℕ} → RelatedTo t n all
+  pub related_more : {t : Jobs} → RelatedTo t n all
       → RowOf t n (count_of t) row → RelatedTo t (n + 1) (with_row all n row)
   related_more {t} h r = record {
     size = with_row_size;
@@ -176,7 +177,7 @@ module _ (all : List ℕ) (n : ℕ) (row : Row) (size : length all ≡ 60) (l : 
       go j k (inr d) = subst (Is j) (sym (with_row_other j (omega arith))) (h.each j (omega arith))
 
 -- a list that has the same at the places of the rows
-pub related_same : (t a b : List ℕ) → count_of t ≤ 20 → ((p : ℕ) → p < 60 → get_or b p 0 ≡ get_or a p 0) → Related t a → Related t b
+pub related_same : (t : Jobs) (a b : List ℕ) → count_of t ≤ 20 → ((p : ℕ) → p < 60 → get_or b p 0 ≡ get_or a p 0) → Related t a → Related t b
 related_same t a b few same h j l = subst (RowOf t j (count_of t)) (sym row) (h j l)
   where
     row : row_at b j ≡ row_at a j

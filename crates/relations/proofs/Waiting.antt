@@ -10,18 +10,19 @@ use lib.Seq.{get_or-set_same, get_or-set_other}
 use Rattle.counting.proofs.Tests.{same_or_not}
 use Rattle.bits.specs.Bits.{bit}
 use Rattle.bits.proofs.Sets.{bit-set_of}
+use Rattle.tables.specs.declared.Jobs.{Jobs}
 use Rattle.tables.specs.Tables.{earlier_at, count_of}
 use Rattle.relations.specs.Relations.{LaterOf}
 
 -- the first n jobs' sets
-pub record LatersTo (t : List ℕ) (n : ℕ) (later : List ℕ) : Type 0 where
+pub record LatersTo (t : Jobs) (n : ℕ) (later : List ℕ) : Type 0 where
   pub size : length later ≡ 20
   pub each : (i k : ℕ) → i < n → k < count_of t → bit (get_or later i 0) k ≡ bit (earlier_at t k) i
 
-pub laters-none : (t later : List ℕ) → length later ≡ 20 → LatersTo t 0 later
+pub laters-none : (t : Jobs) (later : List ℕ) → length later ≡ 20 → LatersTo t 0 later
 laters-none t later e = record { size = e; each = λ i k l. absurd (not-suc-le-zero l) }
 
-pub laters_more : {t : List ℕ} {n s : ℕ} {later : List ℕ} → LatersTo t n later → n < 20 → LaterOf t n (count_of t) s
+pub laters_more : {t : Jobs} {n s : ℕ} {later : List ℕ} → LatersTo t n later → n < 20 → LaterOf t n (count_of t) s
     → LatersTo t (n + 1) (set later n s)
 laters_more {t} {n} {s} {later} h l f = record {
   size = length-set later n s ∙ h.size;

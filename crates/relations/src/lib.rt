@@ -9,6 +9,7 @@ ghost use Rattle.bits.specs.Bits.{bit, with_bit};
 ghost use Rattle.tables.specs.Tables.{earlier_at, count_of, Fit};
 ghost use Rattle.relations.specs.Relations.{ChainsOf, Laters, LaterOf, all_places, PairPut, RowOf, with_row, Related};
 
+use bits::Set;
 use figures::MOST_JOBS;
 use tables::Jobs;
 
@@ -19,7 +20,7 @@ fn behind(tail: u16, set: u32, j: usize) -> u16
     requires { j < most_jobs }
     ensures { result ≡ only (bit set j) tail }
 {
-    if bits::test32(set, j) {
+    if set.has(j) {
         return tail;
     }
     0
@@ -31,12 +32,10 @@ fn longest_behind(tails: &[u16; MOST_JOBS], jobs: &Jobs, j: usize) -> u16
     ensures { result ≡ largest (count_of jobs.now)
         (λ i. only (bit (earlier_at jobs.now i) j) (get_or tails.now i 0)) }
 {
-    let n = tables::count(jobs);
+    let n = jobs.count();
     let mut r: u16 = 0;
-    let mut i: usize = 0;
-    while i < n {
-        r = counting::larger(r, behind(tails[i], tables::earlier(jobs, i), j));
-        i += 1;
+    for i in 0..n {
+        r = r.max(behind(tails[i], jobs.earlier(i), j));
     }
     r
 }
@@ -52,12 +51,10 @@ fn lengthen(jobs: &Jobs, tails: Tails, k: usize) -> Tails
     requires { (Fit jobs.now) × ((ChainsOf jobs.now tails.at k) × (k < most_jobs)) }
     ensures { ChainsOf jobs.now result.at (k + 1) }
 {
-    let n = tables::count(jobs);
+    let n = jobs.count();
     let mut next = [0u16; MOST_JOBS];
-    let mut j: usize = 0;
-    while j < n {
-        next[j] = tables::minutes(jobs, j) + longest_behind(&tails.at, jobs, j);
-        j += 1;
+    for j in 0..n {
+        next[j] = jobs.minutes(j) + longest_behind(&tails.at, jobs, j);
     }
     Tails { at: next }
 }
@@ -67,14 +64,12 @@ pub fn chains(jobs: &Jobs) -> Tails
     requires { Fit jobs.now }
     ensures { ChainsOf jobs.now result.at (count_of jobs.now) }
 {
-    let n = tables::count(jobs);
+    let n = jobs.count();
     let mut tails = Tails {
         at: [0u16; MOST_JOBS],
     };
-    let mut k: usize = 0;
-    while k < n {
+    for k in 0..n {
         tails = lengthen(jobs, tails, k);
-        k += 1;
     }
     tails
 }
@@ -86,8 +81,8 @@ fn with_later(set: u32, earlier: u32, i: usize, k: usize) -> u32
     requires { (i < most_jobs) × (k < most_jobs) }
     ensures { result ≡ cond (bit earlier i) (with_bit set k) set }
 {
-    if bits::test32(earlier, i) {
-        return bits::set32(set, k);
+    if earlier.has(i) {
+        return set.with(k);
     }
     set
 }
@@ -97,12 +92,10 @@ fn later_of(jobs: &Jobs, i: usize) -> u32
     requires { (count_of jobs.now ≤ most_jobs) × (i < most_jobs) }
     ensures { LaterOf jobs.now i (count_of jobs.now) result }
 {
-    let n = tables::count(jobs);
+    let n = jobs.count();
     let mut set: u32 = 0;
-    let mut k: usize = 0;
-    while k < n {
-        set = with_later(set, tables::earlier(jobs, k), i, k);
-        k += 1;
+    for k in 0..n {
+        set = with_later(set, jobs.earlier(k), i, k);
     }
     set
 }
@@ -117,12 +110,10 @@ fn later_jobs(jobs: &Jobs) -> LaterJobs
     requires { count_of jobs.now ≤ most_jobs }
     ensures { Laters jobs.now result.of }
 {
-    let n = tables::count(jobs);
+    let n = jobs.count();
     let mut of = [0u32; MOST_JOBS];
-    let mut i: usize = 0;
-    while i < n {
+    for i in 0..n {
         of[i] = later_of(jobs, i);
-        i += 1;
     }
     LaterJobs { of }
 }
@@ -142,20 +133,20 @@ fn with_pair(row: Row, jobs: &Jobs, later: &[u32; MOST_JOBS], i: usize, j: usize
     requires { (i < most_jobs) × (j < most_jobs) }
     ensures { PairPut row jobs.now later.now i j result }
 {
-    let need1 = tables::need(jobs, i);
-    let need2 = tables::need(jobs, j);
+    let need1 = jobs.need(i);
+    let need2 = jobs.need(j);
     let later1 = later[i];
     let later2 = later[j];
     let a = pairs::alike(
         need1,
         need2,
-        tables::minutes(jobs, i),
-        tables::minutes(jobs, j),
+        jobs.minutes(i),
+        jobs.minutes(j),
         later1,
         later2,
     );
     let s = pairs::may_swap(need1, need2, later1, later2);
-    let b = pairs::fits_beside(need1, need2, tables::modules(jobs), i, j);
+    let b = pairs::fits_beside(need1, need2, jobs.modules(), i, j);
     Row {
         alike: pairs::joined(row.alike, a, i),
         swapping: pairs::joined(row.swapping, s, i),
@@ -168,16 +159,14 @@ fn row_of(jobs: &Jobs, later: &[u32; MOST_JOBS], j: usize) -> Row
     requires { (Laters jobs.now later.now) × ((count_of jobs.now ≤ most_jobs) × (j < count_of jobs.now)) }
     ensures { RowOf jobs.now j (count_of jobs.now) result }
 {
-    let n = tables::count(jobs);
+    let n = jobs.count();
     let mut row = Row {
         alike: 0,
         swapping: 0,
         beside: 0,
     };
-    let mut i: usize = 0;
-    while i < n {
+    for i in 0..n {
         row = with_pair(row, jobs, later, i, j);
-        i += 1;
     }
     row
 }
@@ -212,13 +201,11 @@ pub fn relate(jobs: &Jobs) -> Relations
 {
     let laters = later_jobs(jobs);
     let later = laters.of;
-    let n = tables::count(jobs);
+    let n = jobs.count();
     let mut all = Relations { of: [0u32; ROWS] };
-    let mut j: usize = 0;
-    while j < n {
+    for j in 0..n {
         let row = row_of(jobs, &later, j);
         all = with_row(all, j, row);
-        j += 1;
     }
     all
 }

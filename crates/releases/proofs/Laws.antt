@@ -16,6 +16,7 @@ use Rattle.bits.specs.Bits.{bit, without_bit, set_of}
 use Rattle.bits.proofs.Digits.{bit-and}
 use Rattle.bits.proofs.Members.{bit_without}
 use Rattle.bits.proofs.Walks.{walk_first}
+use Rattle.tables.specs.declared.Jobs.{Jobs}
 use Rattle.tables.specs.Tables.{minutes_at, earlier_at, count_of, Fit}
 use Rattle.weights.specs.Weights.{Put}
 use Rattle.releases.specs.Releases.{first_at, Starting, Releases}
@@ -23,14 +24,14 @@ use Rattle.releases.specs.Releases.{first_at, Starting, Releases}
 -- ---- the last end of a set
 
 -- no later than any minute by which all members of the set have ended; some of them are still to come
-pub record Ending (t release : List ℕ) (set latest todo : ℕ) : Type 0 where
+pub record Ending (t : Jobs) (release : List ℕ) (set latest todo : ℕ) : Type 0 where
   pub inside : (i : ℕ) → bit todo i ≡ true → bit set i ≡ true
   pub by : (x : ℕ) → ((i : ℕ) → bit set i ≡ true → get_or release i 0 + minutes_at t i ≤ x) → latest ≤ x
 
-pub ending-none : (t release : List ℕ) (set : ℕ) → Ending t release set 0 set
+pub ending-none : (t : Jobs) (release : List ℕ) (set : ℕ) → Ending t release set 0 set
 ending-none t release set = record { inside = λ i b. b; by = λ x h. zero-le }
 
-pub ending_more : {t release : List ℕ} {set latest todo : ℕ} → Ending t release set latest todo → (i e : ℕ) → bit todo i ≡ true
+pub ending_more : {t : Jobs} {release : List ℕ} {set latest todo : ℕ} → Ending t release set latest todo → (i e : ℕ) → bit todo i ≡ true
     → e ≤ get_or release i 0 + minutes_at t i → Ending t release set (max latest e) (without_bit todo i)
 ending_more {todo = todo} h i e b l = record {
   inside = λ k m. h.inside k (and_left (bit todo k) _ (sym (bit_without todo i k) ∙ m));
@@ -40,13 +41,13 @@ ending_more {todo = todo} h i e b l = record {
 -- ---- one release
 
 -- the jobs of a set that must have ended before job k, below n
-abbrev pub before : List ℕ → ℕ → ℕ → ℕ → ℕ
+abbrev pub before : Jobs → ℕ → ℕ → ℕ → ℕ
 before t set k n = set_of n (bit (bit_and (earlier_at t k) set))
 
-pub before_below : (t : List ℕ) (set k n i : ℕ) → bit (before t set k n) i ≡ true → i < n
+pub before_below : (t : Jobs) (set k n i : ℕ) → bit (before t set k n) i ≡ true → i < n
 before_below t set k n i b = (walk_first n (bit_and (earlier_at t k) set)).below i b
 
-pub before_is : (t : List ℕ) (set k n i : ℕ) → bit (before t set k n) i ≡ true
+pub before_is : (t : Jobs) (set k n i : ℕ) → bit (before t set k n) i ≡ true
     → (bit set i ≡ true) × (bit (earlier_at t k) i ≡ true)
 before_is t set k n i b =
     let both = sym (bit-and (earlier_at t k) set i) ∙ (walk_first n (bit_and (earlier_at t k) set)).inside i b in
@@ -54,7 +55,7 @@ before_is t set k n i b =
 
 -- ---- all releases
 
-pub firsts : {t at release : List ℕ} {set l : ℕ} {old : List ℕ} → Fit t → Put (λ k. k) old release most_jobs (first_at at l)
+pub firsts : {t : Jobs} {at release : List ℕ} {set l : ℕ} {old : List ℕ} → Fit t → Put (λ k. k) old release most_jobs (first_at at l)
     → ((k : ℕ) → k < count_of t → l ≤ get_or at k 0) → Releases t at set l release
 unfolding first_at
 firsts {t} {at} {release} {set} {l} fit put starts = record {
@@ -67,7 +68,7 @@ firsts {t} {at} {release} {set} {l} fit put starts = record {
     low k m (inl e) = rw e (le_refl l)
     low k m (inr e) = rw e (starts k m)
 
-pub raised_more : {t at release : List ℕ} {s l : ℕ} → Releases t at s l release → (k r : ℕ) → k < count_of t → k < length release
+pub raised_more : {t : Jobs} {at release : List ℕ} {s l : ℕ} → Releases t at s l release → (k r : ℕ) → k < count_of t → k < length release
     → get_or release k 0 ≤ r
     → ((x : ℕ) → get_or release k 0 ≤ x → ((i : ℕ) → i < count_of t → bit s i ≡ true → bit (earlier_at t k) i ≡ true
     → get_or release i 0 + minutes_at t i ≤ x) → r ≤ x)

@@ -8,6 +8,7 @@ ghost use Rattle.tables.specs.Tables.{minutes_at, earlier_at, count_of, Fit};
 ghost use Rattle.weights.specs.Weights.{Put};
 ghost use Rattle.releases.specs.Releases.{first_at, Releases};
 
+use bits::Set;
 use figures::{MOST_JOBS, NO_MINUTE};
 use tables::Jobs;
 use values::Figures;
@@ -29,10 +30,8 @@ fn firsts_of(at: &[u16; MOST_JOBS], least: u16) -> Figures
     ensures { Put (λ k. k) (replicate most_jobs 0) result.of most_jobs (first_at at.now least) }
 {
     let mut next = [0u16; MOST_JOBS];
-    let mut k: usize = 0;
-    while k < MOST_JOBS {
+    for k in 0..MOST_JOBS {
         next[k] = first_of(at[k], least);
-        k += 1;
     }
     Figures { of: next }
 }
@@ -61,11 +60,8 @@ fn ended(release: &[u16; MOST_JOBS], jobs: &Jobs, set: u32) -> u16
     ensures { (x : ℕ) → ((i : ℕ) → bit set i ≡ true → get_or release.now i 0 + minutes_at jobs.now i ≤ x) → result ≤ x }
 {
     let mut latest: u16 = 0;
-    let mut todo = set;
-    while todo != 0 {
-        let i = bits::lowest32(todo);
-        latest = counting::larger(latest, end_of(release[i], tables::minutes(jobs, i)));
-        todo = bits::without_lowest32(todo);
+    for i in set.members() {
+        latest = latest.max(end_of(release[i], jobs.minutes(i)));
     }
     latest
 }
@@ -77,10 +73,10 @@ fn raised(release: &[u16; MOST_JOBS], jobs: &Jobs, set: u32, k: usize) -> u16
         → ((i : ℕ) → i < count_of jobs.now → bit set i ≡ true → bit (earlier_at jobs.now k) i ≡ true
         → get_or release.now i 0 + minutes_at jobs.now i ≤ x) → result ≤ x) }
 {
-    let count = tables::count(jobs);
-    let before = bits::below32(tables::earlier(jobs, k) & set, count);
+    let count = jobs.count();
+    let before = (jobs.earlier(k) & set).below(count);
     let least = ended(release, jobs, before);
-    counting::larger(release[k], least)
+    release[k].max(least)
 }
 
 // The releases of the jobs of a set, none of which starts before its start in `at`, or minute `least` where it may not come next. Waits for jobs
@@ -89,14 +85,12 @@ pub fn releases_of(jobs: &Jobs, set: u32, at: &[u16; MOST_JOBS], least: u16) -> 
     requires { (Fit jobs.now) × ((k : ℕ) → k < count_of jobs.now → least ≤ get_or at.now k 0) }
     ensures { Releases jobs.now at.now set least result.of }
 {
-    let count = tables::count(jobs);
+    let count = jobs.count();
     let first = firsts_of(at, least);
     let mut next = first.of;
-    let mut k: usize = 0;
-    while k < count {
+    for k in 0..count {
         let r = raised(&next, jobs, set, k);
         next[k] = r;
-        k += 1;
     }
     Figures { of: next }
 }

@@ -16,6 +16,7 @@ use Rattle.bits.proofs.Digits.{bit-none, bit-only}
 use Rattle.bits.proofs.Sets.{bit-set_of}
 use Rattle.schedule.specs.Plan.{Sheet, finish}
 use Rattle.schedule.specs.ListPlan.{PartPlan, occupies, free, lowest, place, place_all, part_of}
+use Rattle.tables.specs.declared.Jobs.{Jobs}
 use Rattle.tables.specs.Tables.{sheet_of, need_at, minutes_at, count_of, modules_of, changeover_of}
 use Rattle.tables.proofs.Laws.{zeros}
 use Rattle.replay.specs.declared.Slots.{Slots}
@@ -49,7 +50,7 @@ placed_more xs j v d f g l h here other i = go (eqb i j) refl
     go true e = rw e (ap (λ (k : ℕ). get_or (set xs j v) k 0) (eqb-true i j e) ∙ get_or-set_same xs j v 0 l ∙ here i e)
     go false e = rw e (get_or-set_other xs j i v 0 (eqb-false i j e) ∙ h i ∙ ap (λ (x : ℕ). only (d i) x) (other i e))
 
-module _ (t : List ℕ) where
+module _ (t : Jobs) where
   abbrev S : Sheet
   S = sheet_of t
 

@@ -18,8 +18,9 @@ use Rattle.schedule.specs.ListPlan.{Order, PartPlan, no_jobs, Follows, ready, st
 use Rattle.schedule.proofs.Starts.{ready_says}
 use Rattle.schedule.proofs.Sound.{completes_all, order_completes}
 use Rattle.schedule.proofs.Prefixes.{order_split, part_more}
+use Rattle.tables.specs.declared.Jobs.{Jobs}
 use Rattle.tables.specs.Tables.{sheet_of, minutes_at, count_of, changeover_of, Fit}
-use Rattle.tables.specs.Part.{Part}
+use Rattle.tables.specs.declared.Part.{Part}
 use Rattle.tables.proofs.Ends.{ends_short}
 use Rattle.placement.specs.Part.{StartFor, IsPart, Placeable, Placed}
 use Rattle.placement.proofs.Parts.{start_is, start_short, placeable, placed_part}
@@ -30,13 +31,13 @@ use Rattle.replay.proofs.PlacedSlots.{SlotsOf, slot_more}
 -- ---- one turn: the order's next job is placed
 
 -- job j is the order's k-th
-pub record Turn (t order : List ℕ) (k j : ℕ) : Type 0 where
+pub record Turn (t : Jobs) (order : List ℕ) (k j : ℕ) : Type 0 where
   pub fit : Fit t
   pub whole : Order (sheet_of t) (take (count_of t) order)
   pub inside : k < count_of t
   pub here : j ≡ get_or order k 0
 
-module _ {t order : List ℕ} {k j : ℕ} (turn : Turn t order k j) where
+module _ {t : Jobs} {order : List ℕ} {k j : ℕ} (turn : Turn t order k j) where
   abbrev T : Sheet
   T = sheet_of t
 
@@ -86,7 +87,7 @@ module _ {t order : List ℕ} {k j : ℕ} (turn : Turn t order k j) where
         (subst (λ (X : PartPlan). SlotsOf T X (with_job t s j u)) next (slot_more t (part_of T w) s g j u next_low))
 
 -- the ends with the changeover are small
-pub ends_fit : {t : List ℕ} {s : Slots} (w : List ℕ) → Fit t → Follows (sheet_of t) no_jobs w → SlotsOf (sheet_of t) (part_of (sheet_of t) w) s
+pub ends_fit : {t : Jobs} {s : Slots} (w : List ℕ) → Fit t → Follows (sheet_of t) no_jobs w → SlotsOf (sheet_of t) (part_of (sheet_of t) w) s
     → Ending s (count_of t) (changeover_of t)
 ends_fit {t} w fit f g i l =
     let short = only_within ((part_of (sheet_of t) w).placed i) _ last_end (ends_short t fit w f i l) in

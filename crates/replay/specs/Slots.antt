@@ -5,6 +5,7 @@ use Rattle.counting.specs.Counting.{only}
 use Rattle.bits.specs.Bits.{set_of}
 use Rattle.schedule.specs.Plan.{Sheet, finish}
 use Rattle.schedule.specs.ListPlan.{list_plan}
+use Rattle.tables.specs.declared.Jobs.{Jobs}
 use Rattle.tables.specs.Tables.{need_at, minutes_at, count_of, modules_of, changeover_of}
 use Rattle.free_modules.specs.Lowest.{lowest_outside}
 use Rattle.replay.specs.declared.Slots.{Slots}
@@ -31,7 +32,7 @@ abbrev pub Ending : Slots → ℕ → ℕ → Type 0
 Ending s count rest = (i : ℕ) → i < count → get_or s.end i 0 + rest < 65536
 
 -- the slots with job j placed from minute u on, on the lowest of the modules that are free then
-abbrev pub with_job : List ℕ → Slots → ℕ → ℕ → Slots
+abbrev pub with_job : Jobs → Slots → ℕ → ℕ → Slots
 with_job t s j u = with_slot s j u (u + minutes_at t j) (lowest_outside (busy_at s (count_of t) (changeover_of t) u) (modules_of t) (need_at t j))
 
 -- the slots of the list plan of the order o

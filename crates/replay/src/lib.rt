@@ -10,7 +10,7 @@ ghost use Rattle.replay.specs.Slots.{with_slot, busy_at, Ending, with_job, Repla
 use figures::MOST_JOBS;
 use tables::Jobs;
 
-// Each job's start, end and module set, at the job's place.
+// Each job's start, end and module set, at the job's place: three lists, as the laws of the card and of the slacks read them.
 #[derive(Clone, Copy)]
 pub struct Slots {
     pub start: [u16; MOST_JOBS],
@@ -35,11 +35,9 @@ fn busy_at(slots: Slots, count: usize, rest: u16, t: u16) -> u64
     requires { (count ≤ most_jobs) × (Ending slots count rest) }
     ensures { result ≡ busy_at slots count rest t }
 {
-    let mut set: u64 = 0;
-    let mut i: usize = 0;
-    while i < count {
+    let mut set = 0;
+    for i in 0..count {
         set = free_modules::with_busy(set, slots.modules[i], slots.end[i] + rest, t);
-        i += 1;
     }
     set
 }
@@ -50,11 +48,11 @@ fn with_job(slots: Slots, jobs: &Jobs, j: usize, start: u16) -> Slots
         × ((j < most_jobs) × (start + minutes_at jobs.now j < 65536)) }
     ensures { result ≡ with_job jobs.now slots j start }
 {
-    let want = tables::need(jobs, j);
-    let lasts = tables::minutes(jobs, j);
-    let rest = tables::changeover(jobs);
-    let busy = busy_at(slots, tables::count(jobs), rest, start);
-    let set = free_modules::lowest_free(busy, tables::modules(jobs), want);
+    let want = jobs.need(j);
+    let lasts = jobs.minutes(j);
+    let rest = jobs.changeover();
+    let busy = busy_at(slots, jobs.count(), rest, start);
+    let set = free_modules::lowest_free(busy, jobs.modules(), want);
     with_slot(slots, j, start, start + lasts, set)
 }
 
@@ -63,20 +61,18 @@ pub fn replay(jobs: &Jobs, order: &[u8; MOST_JOBS]) -> Slots
     requires { (Fit jobs.now) × (Order (sheet_of jobs.now) (take (count_of jobs.now) order.now)) }
     ensures { Replayed (sheet_of jobs.now) (take (count_of jobs.now) order.now) result }
 {
-    let count = tables::count(jobs);
+    let count = jobs.count();
     let mut slots = Slots {
         start: [0u16; MOST_JOBS],
         end: [0u16; MOST_JOBS],
         modules: [0u64; MOST_JOBS],
     };
     let mut part = placement::first_part(jobs);
-    let mut k: usize = 0;
-    while k < count {
-        let j = counting::index(order[k]);
+    for k in 0..count {
+        let j = usize::from(order[k]);
         let start = placement::start_of(jobs, &part, j);
         slots = with_job(slots, jobs, j, start);
         placement::place(&mut part, jobs, j, start);
-        k += 1;
     }
     slots
 }

@@ -16,9 +16,8 @@ pub fn report(sheet: &[u8], work: &mut [u8]) -> Text
     ensures work { work.new ≡ memory_after sheet.now longest_card work.old }
 {
     let mut card = [0u8; LONGEST_CARD];
-    let number = planner::plan(sheet, &mut card, work);
-    if number != 0 {
-        return plan_text::refused_line(number);
+    match planner::plan(sheet, &mut card, work) {
+        Ok(()) => plan_text::plan_lines(sheet, &card),
+        Err(refusal) => plan_text::refused_line(refusal.number()),
     }
-    plan_text::plan_lines(sheet, &card)
 }

@@ -11,9 +11,14 @@ use Rattle.checking.specs.Checking.{first_failing}
 use Rattle.checking.proofs.Order.{all_passed, first_in_front, first-behind}
 use Rattle.schedule.specs.Plan.{Sheet}
 use Rattle.schedule.proofs.Same.{SameJobs}
+use Rattle.tables.specs.declared.Jobs.{Jobs}
 use Rattle.tables.specs.Tables as tables
 use Rattle.sheet_format.specs.Figures.{longest_sheet}
-use Rattle.planable.specs.declared.Checked.{Checked}
+use Rattle.std.specs.Prelude.{Ok, Err}
+use Rattle.checking.specs.declared.Refusal.{Refusal}
+use Rattle.checking.specs.Refusals.{number_of}
+use Rattle.checking.proofs.Numbers.{number-some}
+use Rattle.runner.specs.Results.{started_by}
 use Rattle.planable.specs.Planable.{sheet_in, planable_checks, planable_refusal}
 use Rattle.planable.specs.Results.{CheckedOf}
 use Rattle.planable.proofs.Planable.{Ready, ready-table}
@@ -22,7 +27,7 @@ use Rattle.desk.specs.declared.Desk.{Desk}
 use Rattle.desk.specs.Desk.{holding, assured_share}
 use Rattle.desk.specs.Checks.{not_of_desk}
 use Rattle.runner.specs.declared.Runner.{Runner}
-use Rattle.runner.specs.Runner.{longest_card, new_runner, no_runner, wrong_size, run_checks, start_refusal, started}
+use Rattle.runner.specs.Runner.{longest_card, new_runner, wrong_size, run_checks, start_refusal, started}
 use Rattle.runner.proofs.Passes.{start_says, sheet-room, card-room}
 
 -- the checks of the desk, the size and the card are the same for sheets that say the same
@@ -42,37 +47,35 @@ module _ (s card : List ℕ) (d : Desk) (c size : ℕ) where
   unfolding start_refusal planable_refusal
   front_passed z = first-behind (planable_checks s) (run_checks (sheet_in s) card d c size) (all_passed (planable_checks s) refl z)
 
-  refused : (k : ℕ) → k ≡ start_refusal s card d c size → k ≢ 0 → (r : Runner) → r ≡ no_runner
-      → record { refusal = k; runner = r } ≡ started s card d c size
+  refused : (e : Refusal) → number_of e ≡ start_refusal s card d c size → started_by (Err e) ≡ started s card d c size
   unfolding started
-  refused k e n r z = rw (sym e, ne_eqb k 0 n, z) refl
+  refused e q = rw (sym q, ne_eqb (number_of e) 0 (number-some e)) refl
 
   -- from the front of the planning calls
-  module _ (r : Checked) (f : CheckedOf s r) where
-    pub not_planable : r.refusal ≢ 0 → (x : Runner) → x ≡ no_runner → record { refusal = r.refusal; runner = x } ≡ started s card d c size
-    not_planable n = refused r.refusal (f.refusal ∙ sym (front-refused (λ z. n (f.refusal ∙ z)))) n
+  pub not_planable : (e : Refusal) → CheckedOf s (Err e) → started_by (Err e) ≡ started s card d c size
+  not_planable e f = refused e (f.refusal ∙ sym (front-refused (λ z. number-some e (f.refusal ∙ z))))
 
-    module _ (z : r.refusal ≡ 0) where
-      passed : planable_refusal s ≡ 0
-      passed = sym f.refusal ∙ z
+  module _ (t : Jobs) (f : CheckedOf s (Ok t)) where
+    passed : planable_refusal s ≡ 0
+    passed = sym f.refusal
 
-      pub ready : Ready s r.jobs
-      ready = ready-table s r.jobs passed (f.table z)
+    pub ready : Ready s t
+    ready = ready-table s t passed f.table
 
-      -- and the checks behind it
-      module _ (k : ℕ) (e : k ≡ first_failing (run_checks (tables.sheet_of r.jobs) card d c size)) where
-        number : k ≡ start_refusal s card d c size
-        number = e ∙ run_same ready.same card d c size ∙ sym (front_passed passed)
+    -- and the checks behind it
+    number : (k : ℕ) → k ≡ first_failing (run_checks (tables.sheet_of t) card d c size) → k ≡ start_refusal s card d c size
+    number k e = e ∙ run_same ready.same card d c size ∙ sym (front_passed passed)
 
-        pub not_startable : k ≢ 0 → (x : Runner) → x ≡ no_runner → record { refusal = k; runner = x } ≡ started s card d c size
-        not_startable = refused k number
+    pub not_startable : (e : Refusal) → number_of e ≡ first_failing (run_checks (tables.sheet_of t) card d c size)
+        → started_by (Err e) ≡ started s card d c size
+    not_startable e q = refused e (number (number_of e) q)
 
-        module _ (y : k ≡ 0) where
-          pub rooms : (length s ≤ longest_sheet) × (length card ≤ longest_card)
-          rooms =
-              let p = start_says s card d c size (sym number ∙ y) in
-              (sheet-room s card d c size p, card-room s card d c size p)
+    module _ (y : 0 ≡ first_failing (run_checks (tables.sheet_of t) card d c size)) where
+      pub rooms : (length s ≤ longest_sheet) × (length card ≤ longest_card)
+      rooms =
+          let p = start_says s card d c size (sym (number 0 y)) in
+          (sheet-room s card d c size p, card-room s card d c size p)
 
-          pub startable : (x : Runner) → x ≡ new_runner s card c size → record { refusal = 0; runner = x } ≡ started s card d c size
-          unfolding started
-          startable x w = rw (sym number ∙ y, w) refl
+      pub startable : (x : Runner) → x ≡ new_runner s card c size → started_by (Ok x) ≡ started s card d c size
+      unfolding started
+      startable x w = rw (sym (number 0 y), w) refl

@@ -8,6 +8,7 @@ use native.Mathlib.Omega.{arith}
 use native.Mathlib.Nat.{mul-le-mul}
 use lib.Dec.{leb}
 use borrow.Author.Tests.{ne_eqb, lt-leb, le-leb}
+use Rattle.tables.specs.declared.Jobs.{Jobs}
 use Rattle.tables.specs.Tables as tables
 use Rattle.planable.proofs.Planable.{Ready, ready-table}
 use Rattle.card.specs.Card.{card_size}
@@ -48,7 +49,7 @@ module _ (d : Desk) (r : Runner) where
     unfolding runner_ok
     not-kept e = wrong_runner (rw e refl)
 
-  module _ (t : List ℕ) (h : Stepping d r t) where
+  module _ (t : Jobs) (h : Stepping d r t) where
     kept : Kept r
     kept = kept_says r h.kept
 

@@ -5,6 +5,7 @@
 ghost use Rattle.std.specs.Prelude.{◌≡◌, cond, ◌&&◌, ◌||◌, ◌+◌, ◌≤◌, ◌<◌, ltb, leb, eqb, length, get_or};
 ghost use Rattle.counting.specs.Counting.{every};
 ghost use Rattle.checking.specs.Checking.{first_failing};
+ghost use Rattle.checking.specs.Refusals.{refusal_number};
 ghost use Rattle.tables.specs.Tables.{sheet_of, modules_of, Fit};
 ghost use Rattle.sheet_format.specs.Figures.{longest_sheet};
 ghost use Rattle.card_check.specs.Test.{card_fits};
@@ -12,14 +13,15 @@ ghost use Rattle.desk.specs.Desk.{most_power, most_controllers};
 ghost use Rattle.desk.specs.Checks.{in_range};
 ghost use Rattle.assurance.specs.Following.{plan_need};
 ghost use Rattle.runner.specs.Runner.{longest_card, largest_size, in_places, new_runner, no_runner, with_minute, not_ready, run_checks, started, zeros_behind, stepped};
-ghost use Rattle.runner.specs.Results.{KeptOf, Stepping};
+ghost use Rattle.runner.specs.Results.{KeptOf, started_by, Stepping};
 
 use card::{ROW_SIZE, TRAILER_SIZE};
+use checking::Refusal;
 use desk::{Desk, MOST_CONTROLLERS, MOST_POWER};
 use figures::MOST_JOBS;
 use minutes::Turn;
 use sheet_format::layout::LONGEST_SHEET;
-use tables::{JOB_PLACES, Jobs};
+use tables::Jobs;
 
 // The longest card.
 pub const LONGEST_CARD: usize = (ROW_SIZE + 1) * MOST_JOBS + TRAILER_SIZE;
@@ -62,13 +64,6 @@ pub struct Stepped {
     pub runner: Runner,
 }
 
-// Whether what a runner keeps would start on some desk, and if so its sheet's job table.
-#[derive(Drop)]
-pub struct Kept {
-    pub ok: bool,
-    pub jobs: [u16; JOB_PLACES],
-}
-
 // ---- the start
 
 // Whether s is a module size.
@@ -83,7 +78,7 @@ fn plan_need(jobs: &Jobs, size: u32) -> u32
     requires { (Fit jobs.now) × (size ≤ largest_size) }
     ensures { result ≡ plan_need (sheet_of jobs.now) size }
 {
-    (tables::modules(jobs) as u32) * size
+    (jobs.modules() as u32) * size
 }
 
 // Whether the controller is assured less than the plan needs, or holds something.
@@ -92,49 +87,42 @@ fn not_ready(jobs: &Jobs, desk: Desk, controller: u32, size: u32) -> bool
     ensures { result ≡ not_ready desk controller (sheet_of jobs.now) size }
 {
     let place = controller as usize;
-    if desk.assured[place] < plan_need(jobs, size) {
-        return true;
-    }
-    desk.held[place] != 0
+    desk.assured[place] < plan_need(jobs, size) || desk.held[place] != 0
 }
 
-// The first of checks 14, 24, 25 and 26 that fails, 0 where none does.
-fn run_refusal(jobs: &Jobs, card: &[u8], desk: Desk, controller: u32, size: u32) -> u32
+// Checks 14, 24, 25 and 26.
+fn check_start(
+    jobs: &Jobs,
+    card: &[u8],
+    desk: Desk,
+    controller: u32,
+    size: u32,
+) -> Result<(), Refusal>
     requires { Fit jobs.now }
-    ensures { result ≡ first_failing (run_checks (sheet_of jobs.now) card.now desk controller size) }
+    ensures { refusal_number result ≡ first_failing (run_checks (sheet_of jobs.now) card.now desk controller size) }
 {
     if desk.look(controller).refusal != 0 {
-        return 14;
+        return Err(Refusal::NotThere);
     }
     if !size_ok(size) {
-        return 24;
+        return Err(Refusal::ModuleSize);
     }
     if not_ready(jobs, desk, controller, size) {
-        return 25;
+        return Err(Refusal::WrongController);
     }
     if !card_check::fits(jobs, card) {
-        return 26;
+        return Err(Refusal::WrongCard);
     }
-    0
+    Ok(())
 }
 
-// The bytes of a sheet in places, 0 past the last.
-fn sheet_places(sheet: &[u8]) -> [u8; LONGEST_SHEET]
-    requires { length sheet.now ≤ longest_sheet }
-    ensures { result ≡ in_places longest_sheet sheet.now }
+// The bytes in N places, 0 past the last.
+fn in_places<const N: usize>(bytes: &[u8]) -> [u8; N]
+    requires { length bytes.now ≤ N }
+    ensures { result ≡ in_places N bytes.now }
 {
-    let mut places = [0u8; LONGEST_SHEET];
-    words::copy(&mut places[..sheet.len()], sheet);
-    places
-}
-
-// The bytes of a card in places, 0 past the last.
-fn card_places(card: &[u8]) -> [u8; LONGEST_CARD]
-    requires { length card.now ≤ longest_card }
-    ensures { result ≡ in_places longest_card card.now }
-{
-    let mut places = [0u8; LONGEST_CARD];
-    words::copy(&mut places[..card.len()], card);
+    let mut places = [0; N];
+    places[..bytes.len()].copy_from_slice(bytes);
     places
 }
 
@@ -143,8 +131,8 @@ fn new_runner(sheet: &[u8], card: &[u8], controller: u32, size: u32) -> Runner
     requires { (length sheet.now ≤ longest_sheet) × (length card.now ≤ longest_card) }
     ensures { result ≡ new_runner sheet.now card.now controller size }
 {
-    let kept_sheet = sheet_places(sheet);
-    let kept_card = card_places(card);
+    let kept_sheet = in_places::<LONGEST_SHEET>(sheet);
+    let kept_card = in_places::<LONGEST_CARD>(card);
     Runner {
         controller,
         size,
@@ -171,29 +159,32 @@ fn no_runner() -> Runner
     }
 }
 
+// The runner behind an accepted start, or the first check that fails.
+fn first_runner(
+    sheet: &[u8],
+    card: &[u8],
+    desk: Desk,
+    controller: u32,
+    size: u32,
+) -> Result<Runner, Refusal>
+    ensures { started_by result ≡ started sheet.now card.now desk controller size }
+{
+    let jobs = planable::front(sheet)?;
+    check_start(&jobs, card, desk, controller, size)?;
+    Ok(new_runner(sheet, card, controller, size))
+}
+
 // Starts a runner for the controller, with modules of this size in hundreds of watts: planning's checks without 10, then 14, 24, 25 and
 // 26. The desk is only read.
 pub fn start(sheet: &[u8], card: &[u8], desk: Desk, controller: u32, size: u32) -> Started
     ensures { result ≡ started sheet.now card.now desk controller size }
 {
-    let checked = planable::front(sheet);
-    let refusal = checked.refusal;
-    if refusal != 0 {
-        return Started {
-            refusal,
+    match first_runner(sheet, card, desk, controller, size) {
+        Ok(runner) => Started { refusal: 0, runner },
+        Err(refusal) => Started {
+            refusal: refusal.number(),
             runner: no_runner(),
-        };
-    }
-    let refused = run_refusal(&checked.jobs, card, desk, controller, size);
-    if refused != 0 {
-        return Started {
-            refusal: refused,
-            runner: no_runner(),
-        };
-    }
-    Started {
-        refusal: 0,
-        runner: new_runner(sheet, card, controller, size),
+        },
     }
 }
 
@@ -204,27 +195,14 @@ fn used_or_zero(places: &[u8], used: usize, i: usize) -> bool
     requires { i < length places.now }
     ensures { result ≡ ltb i used || eqb (get_or places.now i 0) 0 }
 {
-    if i < used {
-        return true;
-    }
-    places[i] == 0
+    i < used || places[i] == 0
 }
 
 // Whether so many places are used, and those behind are 0.
 fn zeros_behind(places: &[u8], used: usize) -> bool
     ensures { result ≡ zeros_behind (length places.now) used places.now }
 {
-    if places.len() < used {
-        return false;
-    }
-    let mut i: usize = 0;
-    while i < places.len() {
-        if !used_or_zero(places, used, i) {
-            return false;
-        }
-        i += 1;
-    }
-    true
+    used <= places.len() && (0..places.len()).all(|i| used_or_zero(places, used, i))
 }
 
 // Whether a runner with these figures and this card would start on some desk, for the sheet of the table.
@@ -235,16 +213,10 @@ fn kept_fits(jobs: &Jobs, card: &[u8], controller: u32, size: u32) -> bool
         && (in_range 1 largest_size size
         && (leb (plan_need (sheet_of jobs.now) size) most_power && card_fits (sheet_of jobs.now) card.now)) }
 {
-    if MOST_CONTROLLERS as u32 <= controller {
-        return false;
-    }
-    if !size_ok(size) {
-        return false;
-    }
-    if MOST_POWER < plan_need(jobs, size) {
-        return false;
-    }
-    card_check::fits(jobs, card)
+    controller < MOST_CONTROLLERS as u32
+        && size_ok(size)
+        && plan_need(jobs, size) <= MOST_POWER
+        && card_check::fits(jobs, card)
 }
 
 // Whether the bytes of sheet and card are as many as the runner says, with 0 behind.
@@ -252,43 +224,32 @@ fn places_ok(runner: Runner) -> bool
     ensures { result
         ≡ zeros_behind longest_sheet runner.sheet_len runner.sheet && zeros_behind longest_card runner.card_len runner.card }
 {
-    let sheet = runner.sheet;
-    if !zeros_behind(&sheet, runner.sheet_len) {
-        return false;
-    }
-    let card = runner.card;
-    zeros_behind(&card, runner.card_len)
+    zeros_behind(&runner.sheet, runner.sheet_len) && zeros_behind(&runner.card, runner.card_len)
 }
 
-// Tests what a runner keeps.
-fn test_kept(runner: Runner) -> Kept
+// The job table of the sheet that a runner keeps, where what it keeps would start on some desk.
+fn test_kept(runner: Runner) -> Option<Jobs>
     ensures { KeptOf runner result }
 {
-    let none = [0u16; JOB_PLACES];
     if !places_ok(runner) {
-        return Kept {
-            ok: false,
-            jobs: none,
-        };
+        return None;
     }
     let sheet = runner.sheet;
-    let checked = planable::front(&sheet[..runner.sheet_len]);
-    if checked.refusal != 0 {
-        return Kept {
-            ok: false,
-            jobs: none,
-        };
-    }
-    let jobs = checked.jobs;
     let card = runner.card;
-    Kept {
-        ok: kept_fits(
-            &jobs,
-            &card[..runner.card_len],
-            runner.controller,
-            runner.size,
-        ),
-        jobs,
+    match planable::front(&sheet[..runner.sheet_len]) {
+        Ok(jobs) => {
+            if kept_fits(
+                &jobs,
+                &card[..runner.card_len],
+                runner.controller,
+                runner.size,
+            ) {
+                Some(jobs)
+            } else {
+                None
+            }
+        }
+        Err(_) => None,
     }
 }
 
@@ -296,10 +257,9 @@ fn test_kept(runner: Runner) -> Kept
 fn next_minute(mut runner: Runner, last: u32) -> Runner
     ensures { result ≡ cond (leb last runner.minute) runner (with_minute runner (runner.minute + 1)) }
 {
-    if last <= runner.minute {
-        return runner;
+    if runner.minute < last {
+        runner.minute += 1;
     }
-    runner.minute += 1;
     runner
 }
 
@@ -312,7 +272,7 @@ fn step_kept(runner: Runner, desk: Desk, jobs: &Jobs) -> Stepped
     let last = minutes::last_minute(jobs, &card[..runner.card_len]);
     if last < runner.minute {
         return Stepped {
-            refusal: 14,
+            refusal: Refusal::NotThere.number(),
             desk,
             runner,
         };
@@ -346,18 +306,17 @@ pub fn step(runner: Runner, desk: Desk) -> Stepped
 {
     if desk.look(runner.controller).refusal != 0 {
         return Stepped {
-            refusal: 14,
+            refusal: Refusal::NotThere.number(),
             desk,
             runner,
         };
     }
-    let kept = test_kept(runner);
-    if !kept.ok {
-        return Stepped {
-            refusal: 14,
+    match test_kept(runner) {
+        Some(jobs) => step_kept(runner, desk, &jobs),
+        None => Stepped {
+            refusal: Refusal::NotThere.number(),
             desk,
             runner,
-        };
+        },
     }
-    step_kept(runner, desk, &kept.jobs)
 }

@@ -11,6 +11,8 @@ use lib.Count.{ones}
 use lib.ListN.{length, get_or, set, length-set}
 use lib.Seq.{get_or-set_same, get_or-set_other}
 use borrow.Author.Tests.{eqb-true, eq-eqb, ne_eqb, not-false}
+use Rattle.tables.specs.declared.Jobs.{Jobs}
+use Rattle.tables.specs.declared.Prepared.{Prepared}
 use Rattle.counting.specs.Counting.{only}
 use Rattle.counting.proofs.Tests.{true-or-false, clash, same_or_not}
 use Rattle.bits.specs.Bits.{bit}
@@ -27,8 +29,8 @@ use Rattle.schedule.proofs.Alike.{alike_cut}
 use Rattle.schedule.proofs.Swaps.{swap_cut}
 use Rattle.schedule.proofs.Blocks.{block_cut}
 use Rattle.tables.specs.Tables.{sheet_of, arrival_at, earlier_at, count_of}
-use Rattle.tables.specs.Prepared.{related_in}
-use Rattle.tables.specs.Part.{Part, word_of}
+use Rattle.tables.specs.declared.Part.{Part}
+use Rattle.tables.specs.Part.{word_of}
 use Rattle.placement.specs.Part.{Placeable, Placed}
 use Rattle.relations.specs.Relations.{Alike, Swapping}
 use Rattle.candidates.specs.Candidates.{JobStart}
@@ -38,7 +40,7 @@ use Rattle.branching.specs.declared.Behind.{Behind}
 use Rattle.branching.specs.Branching.{settled_now, AllAwaited, AllArrived, EndsInBlock, PassedOver}
 use Rattle.search.specs.Search.{Fails, SettledAt, SameStart, SettledSo, Searching, TriedSo, Choosing}
 
-module _ {t prepared : List ℕ} {part : Part} {target : ℕ} {memory settled slate : List ℕ} {same tried job at : ℕ}
+module _ {t : Jobs} {prepared : Prepared} {part : Part} {target : ℕ} {memory settled slate : List ℕ} {same tried job at : ℕ}
     (s : Searching t prepared part target memory settled slate same) (choosing : Choosing t part target tried job at) where
   abbrev S : Sheet
   S = sheet_of t
@@ -240,7 +242,7 @@ module _ {t prepared : List ℕ} {part : Part} {target : ℕ} {memory settled sl
       here = all_here;
     })
 
-  pub passed_cut : PassedOver t (related_in prepared) part settled same tried at job → Fails S target (w ++ (job ∷ []))
+  pub passed_cut : PassedOver t prepared.related part settled same tried at job → Fails S target (w ++ (job ∷ []))
   passed_cut (inl (i, h, b)) = let pair = (s.going.tabled.related job l).alike i b in come_first i pair.0 h pair.1
   passed_cut (inr (inl (z, b))) = same-minute (sym z) (s.settled_so.same_start job l b)
   passed_cut (inr (inr (inl (i, m, b, (e, (p, x)))))) = swapped i m ((s.going.tabled.related job l).swapping i b).1 e p x

@@ -8,6 +8,8 @@ use native.Mathlib.Omega.{arith}
 use native.Mathlib.Nat.{not-suc-le-zero}
 use lib.ListN.{length, get_or, take, length-append}
 use lib.Seq.{get_or_at, get_or-take}
+use Rattle.tables.specs.declared.Jobs.{Jobs}
+use Rattle.tables.specs.declared.Prepared.{Prepared}
 use Rattle.counting.proofs.Tests.{last-or_below, less-or-not}
 use Rattle.schedule.specs.Plan.{Sheet}
 use Rattle.schedule.specs.ListPlan.{Order, ready, part_of}
@@ -17,7 +19,8 @@ use Rattle.schedule.proofs.Starts.{ready_says}
 use Rattle.schedule.proofs.Prefixes.{next-ready}
 use Rattle.schedule.proofs.Places.{before_upto}
 use Rattle.tables.specs.Tables.{sheet_of, count_of, Fit}
-use Rattle.tables.specs.Part.{Part, word_of}
+use Rattle.tables.specs.declared.Part.{Part}
+use Rattle.tables.specs.Part.{word_of}
 use Rattle.placement.specs.Part.{FirstPart, Placed}
 use Rattle.placement.proofs.Parts.{start_short}
 use Rattle.candidates.specs.Candidates.{Known, theory_part, JobStart}
@@ -28,7 +31,7 @@ use Rattle.search.specs.Search.{Remembered, Fails, Outcome, Lowest, Going, Placi
 
 -- ---- one job tried at a place
 
-module _ {t prepared : List ℕ} {part : Part} {target : ℕ} {memory : List ℕ}
+module _ {t : Jobs} {prepared : Prepared} {part : Part} {target : ℕ} {memory : List ℕ}
     (g : Going t prepared part target memory) {j s : ℕ} (l : j < count_of t)
     (start : JobStart t part j s) where
   -- a job that may not come next leads nowhere
@@ -171,13 +174,13 @@ placing_first {S} {r} h = record { lowest = h; begins = (take S.jobs r.order, re
 -- ---- a turn of the loop
 
 -- k jobs of the order stand in their places
-pub record Standing (t prepared : List ℕ) (part : Part) (best : Found) (memory : List ℕ) (k : ℕ) : Type 0 where
+pub record Standing (t : Jobs) (prepared : Prepared) (part : Part) (best : Found) (memory : List ℕ) (k : ℕ) : Type 0 where
   pub inside : k ≤ count_of t
   pub going : Going t prepared part best.end memory
   pub count : part.placed ≡ k
   pub placing : Placing (sheet_of t) (word_of part) best
 
-pub stands_first : {t prepared : List ℕ} {part : Part} {least : Found} {memory : List ℕ} → Fit t → Tabled t prepared → FirstPart t part
+pub stands_first : {t : Jobs} {prepared : Prepared} {part : Part} {least : Found} {memory : List ℕ} → Fit t → Tabled t prepared → FirstPart t part
     → Lowest (sheet_of t) least → Remembered (sheet_of t) memory (suc least.end) → Standing t prepared part least memory 0
 stands_first {t} {part = part} {least} fit tabled first h m = record {
   inside = zero-le;
@@ -186,7 +189,7 @@ stands_first {t} {part = part} {least} fit tabled first h m = record {
   placing = rw (first_word t part fit first) (placing_first h);
 }
 
-module _ {t prepared : List ℕ} {part : Part} {best : Found} {memory : List ℕ} {k : ℕ}
+module _ {t : Jobs} {prepared : Prepared} {part : Part} {best : Found} {memory : List ℕ} {k : ℕ}
     (h : Standing t prepared part best memory k) (l : k < count_of t) where
   pub stands_below : part.placed < count_of t
   stands_below = omega (arith, h.count)
@@ -217,6 +220,6 @@ module _ {t prepared : List ℕ} {part : Part} {best : Found} {memory : List ℕ
       same : word_of part ++ (get_or r.order part.placed 0 ∷ []) ≡ word_of next
       same = ap (λ (x : ℕ). word_of part ++ (x ∷ [])) (ap (λ (n : ℕ). get_or r.order n 0) h.count ∙ sym e) ∙ sym word
 
-pub stands_all : {t prepared : List ℕ} {part : Part} {best : Found} {memory : List ℕ} {k : ℕ} → Standing t prepared part best memory k
+pub stands_all : {t : Jobs} {prepared : Prepared} {part : Part} {best : Found} {memory : List ℕ} {k : ℕ} → Standing t prepared part best memory k
     → count_of t ≤ k → TieRuled (sheet_of t) best
 stands_all h e = placing_best h.placing (omega (arith, word-length h.going.known, h.count, h.inside))

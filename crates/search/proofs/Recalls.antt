@@ -16,8 +16,10 @@ use Rattle.schedule.specs.TieRule.{end_of}
 use Rattle.schedule.specs.Beginnings.{CannotBeat}
 use Rattle.schedule.specs.PartPlans.{NoneBefore}
 use Rattle.schedule.proofs.Cuts.{ahead_cut}
+use Rattle.tables.specs.declared.Jobs.{Jobs}
 use Rattle.tables.specs.Tables.{sheet_of, count_of}
-use Rattle.tables.specs.Part.{Part, word_of}
+use Rattle.tables.specs.declared.Part.{Part}
+use Rattle.tables.specs.Part.{word_of}
 use Rattle.placement.proofs.Parts.{left-count}
 use Rattle.memory.specs.Entries.{Entry, entries, entry_at, end_at, EntryOf, Hit, Adds}
 use Rattle.memory.proofs.Slots.{zero_sets}
@@ -49,7 +51,7 @@ some_ones : (x : ℕ) → 0 < ones x → 0 < x
 some_ones ℕ.zero h = absurd (omega (arith, ones_none))
 some_ones (suc x) h = omega arith
 
-module _ {t : List ℕ} {part : Part} (known : Known t part) where
+module _ {t : Jobs} {part : Part} (known : Known t part) where
   abbrev S : Sheet
   S = sheet_of t
 

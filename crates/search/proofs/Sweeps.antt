@@ -20,8 +20,10 @@ use Rattle.schedule.specs.ListPlan.{PartPlan, ready, start_of, part_of}
 use Rattle.schedule.proofs.Starts.{ready_says}
 use Rattle.schedule.proofs.Idle.{idle_cut}
 use Rattle.schedule.proofs.Alone.{alone_cut}
+use Rattle.tables.specs.declared.Jobs.{Jobs}
 use Rattle.tables.specs.Tables.{sheet_of, need_at, count_of, modules_of}
-use Rattle.tables.specs.Part.{Part, word_of}
+use Rattle.tables.specs.declared.Part.{Part}
+use Rattle.tables.specs.Part.{word_of}
 use Rattle.placement.proofs.Parts.{start_short}
 use Rattle.candidates.specs.declared.Choice.{Choice}
 use Rattle.relations.specs.Relations.{row_at, Related}
@@ -63,7 +65,7 @@ found_below {S = S} {target = target} v j {r} {left} h ends = record {
     either (inr n) z s = absurd (s n)
 
 -- those of the first set that are no longer left lead nowhere, and c is the next
-pub record Sweep (t : List ℕ) (part : Part) (target : ℕ) (at : List ℕ) (first left tried : ℕ) (c : Choice) : Type 0 where
+pub record Sweep (t : Jobs) (part : Part) (target : ℕ) (at : List ℕ) (first left tried : ℕ) (c : Choice) : Type 0 where
   pub choice : ChoiceOf at left (count_of t) c
   pub before : TriedSo t part target tried c.start
   pub gone : (j : ℕ) → j < count_of t → bit first j ≡ true → bit left j ≡ false
@@ -80,7 +82,7 @@ chosen_in {left = left} {c = c} h l = ones_without left c.job (h.some l).1.0
 pub chosen_low : {at : List ℕ} {left jobs : ℕ} {c : Choice} → ChoiceOf at left jobs c → ¬ (c.start ≡ 65535) → c.start < 65535
 chosen_low h n = omega (arith, h.low, n)
 
-module _ {t : List ℕ} {part : Part} (known : Known t part)
+module _ {t : Jobs} {part : Part} (known : Known t part)
     {at : List ℕ} {least : ℕ} (starts : JobStarts t part at least) where
   abbrev S : Sheet
   S = sheet_of t

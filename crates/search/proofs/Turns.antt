@@ -12,8 +12,10 @@ use Rattle.schedule.specs.ListPlan.{Order, PartPlan, ready}
 use Rattle.schedule.specs.Beginnings.{Begins, CannotBeat}
 use Rattle.schedule.proofs.Starts.{ready_says}
 use Rattle.schedule.proofs.Cuts.{children_cut}
+use Rattle.tables.specs.declared.Jobs.{Jobs}
 use Rattle.tables.specs.Tables.{sheet_of, count_of}
-use Rattle.tables.specs.Part.{Part, word_of}
+use Rattle.tables.specs.declared.Part.{Part}
+use Rattle.tables.specs.Part.{word_of}
 use Rattle.placement.proofs.Parts.{left-count}
 use Rattle.memory.specs.Entries.{Hit, Adds}
 use Rattle.candidates.specs.Candidates.{Known, theory_part, JobStarts}
@@ -24,7 +26,7 @@ use Rattle.listing.proofs.Listing.{whole, end_is, word_is, finished_order}
 use Rattle.search.proofs.Recalls.{remembered_adds, hit_cut}
 use Rattle.search.specs.Search.{Remembered, Fails, Outcome}
 
-module _ {t : List ℕ} {part : Part} (known : Known t part) where
+module _ {t : Jobs} {part : Part} (known : Known t part) where
   abbrev S : Sheet
   S = sheet_of t
 
@@ -46,10 +48,10 @@ module _ {t : List ℕ} {part : Part} (known : Known t part) where
     pub visit_leaf : {target : ℕ} {r : Found} {left : ℕ} → Finished part jobs target r → Outcome S target w r left
     unfolding CannotBeat
     visit_leaf {target} {r} f = record {
-      size = f.order.size;
+      size = ap length f.order ∙ known.is.figures.places;
       hit = λ h. record {
         order = (finished_order known all f).order;
-        begins = ([], word_is known all r.order f.order ∙ sym (append-nil w));
+        begins = ([], word_is known all f.order ∙ sym (append-nil w));
         end = (finished_order known all f).end;
         within = ltb-false target r.end (not-true _ (sym f.hit ∙ h));
       };

@@ -8,6 +8,8 @@ use native.Mathlib.Omega.{arith}
 use lib.Dec.{ltb}
 use lib.ListN.{replicate, length-replicate}
 use borrow.Author.Tests.{ltb-true, lt-ltb}
+use Rattle.tables.specs.declared.Jobs.{Jobs}
+use Rattle.tables.specs.declared.Prepared.{Prepared}
 use Rattle.counting.specs.Counting.{only}
 use Rattle.counting.proofs.Tests.{true-or-false, clash, less-or-not}
 use Rattle.bits.specs.Bits.{bit}
@@ -19,7 +21,7 @@ use Rattle.schedule.specs.Ends.{EarliestEnd, EndsBy}
 use Rattle.schedule.specs.Beginnings.{CannotBeat}
 use Rattle.schedule.proofs.Theorems.{earliest_of_orders, order_ends_by, none_ends_by}
 use Rattle.tables.specs.Tables.{sheet_of, Fit}
-use Rattle.tables.specs.Part.{Part}
+use Rattle.tables.specs.declared.Part.{Part}
 use Rattle.tables.proofs.Laws.{zeros}
 use Rattle.placement.specs.Part.{FirstPart}
 use Rattle.candidates.proofs.Children.{first_known}
@@ -46,7 +48,7 @@ kept_is : {S : Sheet} {best : Found} → OrderOf S best → OrderOf S (kept_as b
 kept_is h = record { size = h.size; order = h.order; end = h.end; low = h.low }
 
 -- an order that is to end by the target
-pub enter : {t prepared : List ℕ} {part : Part} {memory : List ℕ} (target : ℕ) → Fit t → Tabled t prepared → target < 65535
+pub enter : {t : Jobs} {prepared : Prepared} {part : Part} {memory : List ℕ} (target : ℕ) → Fit t → Tabled t prepared → target < 65535
     → Remembered (sheet_of t) memory (suc target) → FirstPart t part → Going t prepared part target memory
 enter {t} {part = part} target fit tabled low m first =
     record { low = low; known = first_known t part fit first; tabled = tabled; remembered = m }
@@ -68,7 +70,7 @@ lower_hit {S} {best} {r} memory target s l o e m =
 -- ---- a target that is rounded
 
 -- no order ends between the two
-module _ (t : List ℕ) (target goal : ℕ) where
+module _ (t : Jobs) (target goal : ℕ) where
   abbrev S : Sheet
   S = sheet_of t
 
@@ -105,12 +107,12 @@ none_by m h s o d = m.miss h s o d (o, refl)
 -- ---- a turn of the loop
 
 -- while earlier ends are looked for, an order and what is remembered; then no order ends earlier
-pub record Turn (t prepared : List ℕ) (best : Found) (memory : List ℕ) (left : ℕ) : Type 0 where
+pub record Turn (t : Jobs) (prepared : Prepared) (best : Found) (memory : List ℕ) (left : ℕ) : Type 0 where
   pub state : Lowering t prepared best memory
   pub done : best.hit ≡ false → ¬ (left ≡ 0) → (o : List ℕ) → Order (sheet_of t) o
       → best.end ≤ end_of (sheet_of t) o
 
-pub turn_next : {t prepared : List ℕ} {best r : Found} {memory : List ℕ} {left : ℕ}
+pub turn_next : {t : Jobs} {prepared : Prepared} {best r : Found} {memory : List ℕ} {left : ℕ}
     (memory' : List ℕ) → Lowering t prepared best memory
     → Lowered (sheet_of t) best r left → Remembered (sheet_of t) memory' r.end
     → Turn t prepared r memory' left
@@ -127,7 +129,7 @@ turn_less {S} {best} {r} l e = rw e (go (true-or-false r.hit))
     go (inl h) = rw h (omega (arith, l.hit h))
     go (inr h) = rw h (omega (arith, (l.miss h).0))
 
-pub turn_last : {t prepared : List ℕ} {best : Found} {memory : List ℕ} {left : ℕ} → Turn t prepared best memory left
+pub turn_last : {t : Jobs} {prepared : Prepared} {best : Found} {memory : List ℕ} {left : ℕ} → Turn t prepared best memory left
     → best.hit ≡ false → LowestIf (sheet_of t) best left
 turn_last t e = record { is = t.state.best_is; least = t.done e }
 
@@ -148,19 +150,19 @@ lowest_of h s = record { is = h.is; least = h.least s }
 -- ---- the questions, of all valid plans
 
 -- the end of an order before which none ends
-pub earliest_end_lem : {t : List ℕ} {r : Found} → Fit t → Lowest (sheet_of t) r → EarliestEnd (sheet_of t) r.end
+pub earliest_end_lem : {t : Jobs} {r : Found} → Fit t → Lowest (sheet_of t) r → EarliestEnd (sheet_of t) r.end
 earliest_end_lem {t} {r} fit h =
     subst (EarliestEnd (sheet_of t)) h.is.end
     (earliest_of_orders (sheet_of t) fit.lasting fit.narrow _ h.is.order (λ p d. omega (arith, h.is.end, h.least p d)))
 
 -- an order that ends by the target already
-pub listed_ends_by : {t : List ℕ} {r : Found} {target : ℕ} → Fit t → OrderOf (sheet_of t) r → r.end ≤ target
+pub listed_ends_by : {t : Jobs} {r : Found} {target : ℕ} → Fit t → OrderOf (sheet_of t) r → r.end ≤ target
     → (true ≡ true) ↔ EndsBy (sheet_of t) target
 listed_ends_by {t} {r} {target} fit h l =
     (λ _. order_ends_by (sheet_of t) fit.lasting fit.narrow _ h.order target (omega (arith, h.end)), λ _. refl)
 
 -- the outcome of the search
-pub found_ends_by : {t : List ℕ} {r : Found} {target left : ℕ} → Fit t → Outcome (sheet_of t) target [] r left → ¬ (left ≡ 0)
+pub found_ends_by : {t : Jobs} {r : Found} {target left : ℕ} → Fit t → Outcome (sheet_of t) target [] r left → ¬ (left ≡ 0)
     → (r.hit ≡ true) ↔ EndsBy (sheet_of t) target
 found_ends_by {t} {r} {target} fit m s = (there, λ some. back some (true-or-false r.hit))
   where

@@ -1,4 +1,6 @@
 -- What the search's figures stand for, and what it keeps true from call to call.
+use Rattle.tables.specs.declared.Jobs.{Jobs}
+use Rattle.tables.specs.declared.Prepared.{Prepared}
 use Rattle.std.specs.Prelude.{◌≡◌, true, false, not, List, [], ◌∷◌, ◌++◌, ℕ, suc, ◌≤◌, ◌<◌, length, get_or, take, replicate}
 use Rattle.counting.specs.Counting.{only}
 use Rattle.bits.specs.Bits.{bit}
@@ -9,7 +11,8 @@ use Rattle.schedule.specs.TieRule.{end_of}
 use Rattle.schedule.specs.Beginnings.{Begins, Before, CannotBeat}
 use Rattle.figures.specs.Figures.{most_jobs, no_minute}
 use Rattle.tables.specs.Tables.{sheet_of, count_of, Fit}
-use Rattle.tables.specs.Part.{Part, word_of}
+use Rattle.tables.specs.declared.Part.{Part}
+use Rattle.tables.specs.Part.{word_of}
 use Rattle.candidates.specs.Candidates.{Known, theory_part, JobStart}
 use Rattle.listing.specs.declared.Found.{Found}
 use Rattle.listing.specs.Listing.{OrderOf}
@@ -85,26 +88,26 @@ pub record SettledSo (S : Sheet) (target : ℕ) (v settled : List ℕ) (same : �
   pub same_start : (x : ℕ) → x < S.jobs → bit same x ≡ true → SameStart S target v x
 
 -- an order that ends by the target is looked for from the part-plan p on
-pub record Going (t prepared : List ℕ) (p : Part) (target : ℕ) (memory : List ℕ) : Type 0 where
+pub record Going (t : Jobs) (prepared : Prepared) (p : Part) (target : ℕ) (memory : List ℕ) : Type 0 where
   pub low : target < no_minute
   pub known : Known t p
   pub tabled : Tabled t prepared
   pub remembered : Remembered (sheet_of t) memory (suc target)
 
 -- the same, where jobs were settled
-pub record Searching (t prepared : List ℕ) (p : Part) (target : ℕ) (memory settled slate : List ℕ) (same : ℕ) : Type 0 where
+pub record Searching (t : Jobs) (prepared : Prepared) (p : Part) (target : ℕ) (memory settled slate : List ℕ) (same : ℕ) : Type 0 where
   pub going : Going t prepared p target memory
   pub slated : length slate ≡ slate_size
   pub settled_so : SettledSo (sheet_of t) target (word_of p) settled same
 
 -- each job of this set may come next, starts no later than `start`, and leads to no order that ends by the target
-abbrev pub TriedSo : List ℕ → Part → ℕ → ℕ → ℕ → Type 0
+abbrev pub TriedSo : Jobs → Part → ℕ → ℕ → ℕ → Type 0
 TriedSo t p target tried start = (x : ℕ) → x < count_of t → bit tried x ≡ true
     → (ready (sheet_of t) (theory_part t p).placed x ≡ true)
     × ((start_of (sheet_of t) (theory_part t p) x ≤ start) × Fails (sheet_of t) target (word_of p ++ (x ∷ [])))
 
 -- job `job`, which starts at `start`, is the next to be tried, and these jobs were tried before
-pub record Choosing (t : List ℕ) (p : Part) (target tried job start : ℕ) : Type 0 where
+pub record Choosing (t : Jobs) (p : Part) (target tried job start : ℕ) : Type 0 where
   pub inside : job < count_of t
   pub starts : JobStart t p job start
   pub may_come : start < no_minute
@@ -117,7 +120,7 @@ abbrev pub kept_as : Found → Found
 kept_as best = record { hit = false; end = best.end; order = best.order }
 
 -- the tables, an order, and what is remembered of orders that end earlier
-pub record Lowering (t prepared : List ℕ) (best : Found) (memory : List ℕ) : Type 0 where
+pub record Lowering (t : Jobs) (prepared : Prepared) (best : Found) (memory : List ℕ) : Type 0 where
   pub fit : Fit t
   pub tabled : Tabled t prepared
   pub best_is : OrderOf (sheet_of t) best

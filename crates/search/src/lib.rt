@@ -8,8 +8,7 @@ ghost use Rattle.schedule.specs.Plan.{Circular};
 ghost use Rattle.schedule.specs.ListPlan.{ready};
 ghost use Rattle.schedule.specs.Ends.{EarliestEnd, EndsBy};
 ghost use Rattle.tables.specs.Tables.{sheet_of, count_of, Fit};
-ghost use Rattle.tables.specs.Part.{part_in, word_of};
-ghost use Rattle.tables.specs.Prepared.{prepared_size};
+ghost use Rattle.tables.specs.Part.{word_of};
 ghost use Rattle.candidates.specs.Candidates.{Known, theory_part, JobStarts};
 ghost use Rattle.listing.specs.Listing.{OrderOf};
 ghost use Rattle.preparing.specs.Preparing.{Tabled};
@@ -17,10 +16,11 @@ ghost use Rattle.fitting.specs.Fitting.{slate_size};
 ghost use Rattle.search.specs.Search.{Unlimited, Outcome, Fails, none_found, SettledSo, Going, Searching, Choosing, Remembered};
 ghost use Rattle.search.specs.Search.{no_limit, kept_as, Lowering, Lowered, Lowest, LowestIf, Placing, TieRuled, NoneBefore, WithinLimit};
 
+use bits::Set;
 use figures::{MOST_JOBS, NO_MINUTE};
 use fitting::{SLATE_PLACES, Slate};
 use listing::Found;
-use tables::{Jobs, PREPARED_PLACES, Part, Prepared};
+use tables::{Jobs, Part, Prepared, UNPREPARED};
 
 // ---- the limit
 
@@ -67,21 +67,15 @@ fn cut_off(
     jobs: &Jobs,
     prepared: &Prepared,
 ) -> bool
-    requires { ((Going jobs.now prepared.now (part_in part.now) target memory.now) × (length slate.old ≡ slate_size))
-        × ((JobStarts jobs.now (part_in part.now) at.now least) × ((part_in part.now).placed < count_of jobs.now)) }
-    ensures fails { result ≡ true → Fails (sheet_of jobs.now) target (word_of (part_in part.now)) }
+    requires { ((Going jobs.now prepared.now part.now target memory.now) × (length slate.old ≡ slate_size))
+        × ((JobStarts jobs.now part.now at.now least) × (part.now.placed < count_of jobs.now)) }
+    ensures fails { result ≡ true → Fails (sheet_of jobs.now) target (word_of part.now) }
     ensures size { length slate.new ≡ length slate.old }
 {
     if bounds::hopeless(jobs, prepared, part, at, least, target) {
         return true;
     }
-    if memory::recall(
-        memory,
-        part,
-        tables::count(jobs),
-        least,
-        tables::changeover(jobs),
-    ) {
+    if memory::recall(memory, part, jobs.count(), least, jobs.changeover()) {
         return true;
     }
     bounds::overfilled(slate, jobs, part, at, least, target)
@@ -102,9 +96,9 @@ fn visit(
     jobs: &Jobs,
     prepared: &Prepared,
 ) -> Found
-    requires { Searching jobs.now prepared.now (part_in part.now) target memory.old settled.old slate.old same }
-    ensures outcome { Outcome (sheet_of jobs.now) target (word_of (part_in part.now)) result left.new }
-    ensures settled { SettledSo (sheet_of jobs.now) target (word_of (part_in part.now)) settled.new same }
+    requires { Searching jobs.now prepared.now part.now target memory.old settled.old slate.old same }
+    ensures outcome { Outcome (sheet_of jobs.now) target (word_of part.now) result left.new }
+    ensures settled { SettledSo (sheet_of jobs.now) target (word_of part.now) settled.new same }
     ensures remembered { Remembered (sheet_of jobs.now) memory.new (suc target) }
     ensures size { length slate.new ≡ length slate.old }
     ensures limit { Unlimited left.old left.new }
@@ -112,8 +106,8 @@ fn visit(
     if used_up(left) {
         return none_found();
     }
-    let count = tables::count(jobs);
-    let unplaced = tables::unplaced(part);
+    let count = jobs.count();
+    let unplaced = part.unplaced;
     if u32::count_ones(unplaced) == 0 {
         return listing::finished(part, count, target);
     }
@@ -154,8 +148,8 @@ fn visit(
         if found.hit || *left == 0 {
             return found;
         }
-        untried = bits::clear32(untried, c.job);
-        tried = bits::set32(tried, c.job);
+        untried = untried.without(c.job);
+        tried = tried.with(c.job);
         c = candidates::next_choice(prepared, &at, untried, count);
     }
     memory::remember(memory, part, count);
@@ -184,10 +178,10 @@ fn try_children(
     prepared: &Prepared,
     trial: Trial,
 ) -> Found
-    requires { (Searching jobs.now prepared.now (part_in part.now) target memory.old settled.old slate.old same)
-        × (Choosing jobs.now (part_in part.now) target trial.tried trial.job trial.start) }
-    ensures outcome { Outcome (sheet_of jobs.now) target (word_of (part_in part.now) ++ (trial.job ∷ [])) result left.new }
-    ensures settled { SettledSo (sheet_of jobs.now) target (word_of (part_in part.now)) settled.new same }
+    requires { (Searching jobs.now prepared.now part.now target memory.old settled.old slate.old same)
+        × (Choosing jobs.now part.now target trial.tried trial.job trial.start) }
+    ensures outcome { Outcome (sheet_of jobs.now) target (word_of part.now ++ (trial.job ∷ [])) result left.new }
+    ensures settled { SettledSo (sheet_of jobs.now) target (word_of part.now) settled.new same }
     ensures remembered { Remembered (sheet_of jobs.now) memory.new (suc target) }
     ensures size { length slate.new ≡ length slate.old }
     ensures limit { Unlimited left.old left.new }
@@ -201,7 +195,7 @@ fn try_children(
     settled[job] = tried;
     let mut child = *part;
     placement::place(&mut child, jobs, job, start);
-    let same_now = branching::settled_now(same, tried, start, tables::last(part));
+    let same_now = branching::settled_now(same, tried, start, part.last);
     visit(
         memory, settled, slate, left, &child, same_now, target, jobs, prepared,
     )
@@ -216,8 +210,8 @@ fn seek(
     jobs: &Jobs,
     prepared: &Prepared,
 ) -> Found
-    requires { Going jobs.now prepared.now (part_in part.now) target memory.old }
-    ensures outcome { Outcome (sheet_of jobs.now) target (word_of (part_in part.now)) result left.new }
+    requires { Going jobs.now prepared.now part.now target memory.old }
+    ensures outcome { Outcome (sheet_of jobs.now) target (word_of part.now) result left.new }
     ensures remembered { Remembered (sheet_of jobs.now) memory.new (suc target) }
     ensures limit { Unlimited left.old left.new }
 {
@@ -315,8 +309,8 @@ fn try_place(
     jobs: &Jobs,
     prepared: &Prepared,
 ) -> Found
-    requires { (Going jobs.now prepared.now (part_in part.now) target memory.old) × (j < count_of jobs.now) }
-    ensures outcome { Outcome (sheet_of jobs.now) target (word_of (part_in part.now) ++ (j ∷ [])) result left.new }
+    requires { (Going jobs.now prepared.now part.now target memory.old) × (j < count_of jobs.now) }
+    ensures outcome { Outcome (sheet_of jobs.now) target (word_of part.now ++ (j ∷ [])) result left.new }
     ensures remembered { Remembered (sheet_of jobs.now) memory.new (suc target) }
     ensures limit { Unlimited left.old left.new }
 {
@@ -339,18 +333,17 @@ fn settle_place(
     jobs: &Jobs,
     prepared: &Prepared,
 ) -> Found
-    requires { (Going jobs.now prepared.now (part_in part.now) best.end memory.old)
-        × ((Placing (sheet_of jobs.now) (word_of (part_in part.now)) best) × ((part_in part.now).placed < count_of jobs.now)) }
+    requires { (Going jobs.now prepared.now part.now best.end memory.old)
+        × ((Placing (sheet_of jobs.now) (word_of part.now) best) × (part.now.placed < count_of jobs.now)) }
     ensures lowest { Lowest (sheet_of jobs.now) result }
     ensures placed { ¬ (left.new ≡ 0) → Placing (sheet_of jobs.now)
-        (word_of (part_in part.now) ++ (get_or result.order (part_in part.now).placed 0 ∷ [])) result }
+        (word_of part.now ++ (get_or result.order part.now.placed 0 ∷ [])) result }
     ensures remembered { Remembered (sheet_of jobs.now) memory.new (suc result.end) }
     ensures limit { Unlimited left.old left.new }
 {
-    let k = tables::placed(part);
-    let stop = counting::index(best.order[k]);
-    let mut j: usize = 0;
-    while j < stop {
+    let k = part.placed;
+    let stop = usize::from(best.order[k]);
+    for j in 0..stop {
         let found = try_place(memory, left, part, j, best.end, jobs, prepared);
         if found.hit {
             return found;
@@ -358,17 +351,16 @@ fn settle_place(
         if *left == 0 {
             return best;
         }
-        j += 1;
     }
     best
 }
 
 // Places the next job of the order.
 fn go_on(part: &mut Part, j: usize, jobs: &Jobs)
-    requires { (Known jobs.now (part_in part.old)) × (ready (sheet_of jobs.now) (theory_part jobs.now (part_in part.old)).placed j ≡ true) }
-    ensures { (Known jobs.now (part_in part.new))
-        × ((word_of (part_in part.new) ≡ word_of (part_in part.old) ++ (j ∷ []))
-        × ((part_in part.new).placed ≡ (part_in part.old).placed + 1)) }
+    requires { (Known jobs.now part.old) × (ready (sheet_of jobs.now) (theory_part jobs.now part.old).placed j ≡ true) }
+    ensures { (Known jobs.now part.new)
+        × ((word_of part.new ≡ word_of part.old ++ (j ∷ []))
+        × (part.new.placed ≡ part.old.placed + 1)) }
 {
     let start = candidates::start_or_none(jobs, part, j);
     placement::place(part, jobs, j, start);
@@ -388,17 +380,15 @@ fn first_order(
     ensures tied { ¬ (left.new ≡ 0) → TieRuled (sheet_of jobs.now) result }
     ensures limit { Unlimited left.old left.new }
 {
-    let count = tables::count(jobs);
+    let count = jobs.count();
     let mut best = least;
     let mut part = placement::first_part(jobs);
-    let mut k: usize = 0;
-    while k < count {
+    for k in 0..count {
         best = settle_place(memory, left, &part, best, jobs, prepared);
         if *left == 0 {
             return best;
         }
-        go_on(&mut part, counting::index(best.order[k]), jobs);
-        k += 1;
+        go_on(&mut part, usize::from(best.order[k]), jobs);
     }
     best
 }
@@ -407,7 +397,7 @@ fn first_order(
 
 // Fills the prepared table, and gives a list plan to begin with.
 fn begin(prepared: &mut Prepared, jobs: &Jobs) -> Found
-    requires { (length prepared.old ≡ prepared_size) × ((Fit jobs.now) × (¬ Circular (sheet_of jobs.now))) }
+    requires { (Fit jobs.now) × (¬ Circular (sheet_of jobs.now)) }
     ensures listed { OrderOf (sheet_of jobs.now) result }
     ensures tabled { Tabled jobs.now prepared.new }
 {
@@ -433,7 +423,7 @@ fn first_share(left: u64) -> u64 {
 // An order that ends first of all, unless the search gave up, and the prepared table. Where that takes a while, more list plans are tried
 // before the search goes on. What the memory held changes nothing.
 fn least_order(memory: &mut [u8], left: &mut u64, prepared: &mut Prepared, jobs: &Jobs) -> Found
-    requires { (length prepared.old ≡ prepared_size) × ((Fit jobs.now) × (¬ Circular (sheet_of jobs.now))) }
+    requires { (Fit jobs.now) × (¬ Circular (sheet_of jobs.now)) }
     ensures lowest { LowestIf (sheet_of jobs.now) result left.new }
     ensures tabled { Tabled jobs.now prepared.new }
     ensures limit { Unlimited left.old left.new }
@@ -455,7 +445,7 @@ pub fn earliest(memory: &mut [u8], jobs: &Jobs) -> u16
     ensures answer { EarliestEnd (sheet_of jobs.now) result }
     ensures cleared { memory.new ≡ replicate (length memory.old) 0 }
 {
-    let mut prepared = [0u32; PREPARED_PLACES];
+    let mut prepared = UNPREPARED;
     let mut left = NO_LIMIT;
     let least = least_order(memory, &mut left, &mut prepared, jobs);
     memory::clear(memory);
@@ -488,7 +478,7 @@ pub fn ends_by(memory: &mut [u8], target: u16, jobs: &Jobs) -> bool
     ensures cleared { memory.new ≡ replicate (length memory.old) 0 }
 {
     memory::clear(memory);
-    let mut prepared = [0u32; PREPARED_PLACES];
+    let mut prepared = UNPREPARED;
     let listed = begin(&mut prepared, jobs);
     let ends = some_ends_by(memory, listed, target, jobs, &prepared);
     memory::clear(memory);
@@ -501,7 +491,7 @@ pub fn run(memory: &mut [u8], jobs: &Jobs) -> Found
     ensures answer { TieRuled (sheet_of jobs.now) result }
     ensures cleared { memory.new ≡ replicate (length memory.old) 0 }
 {
-    let mut prepared = [0u32; PREPARED_PLACES];
+    let mut prepared = UNPREPARED;
     let mut left = NO_LIMIT;
     let least = least_order(memory, &mut left, &mut prepared, jobs);
     memory::clear(memory);
@@ -603,7 +593,7 @@ pub fn run_within(memory: &mut [u8], limit: u64, jobs: &Jobs) -> Within
     ensures unlimited { limit ≡ no_limit → result.exact ≡ true }
     ensures cleared { memory.new ≡ replicate (length memory.old) 0 }
 {
-    let mut prepared = [0u32; PREPARED_PLACES];
+    let mut prepared = UNPREPARED;
     let mut left = limit;
     let least = least_order(memory, &mut left, &mut prepared, jobs);
     if left == 0 {

@@ -2,9 +2,10 @@
 #![tactic(auto)]
 
 ghost use Rattle.std.specs.Prelude.{◌≡◌, eqb, length};
-ghost use Rattle.desk.specs.Calls.{changed};
-ghost use Rattle.share_change.specs.Change.{refused_with, carried_over, taken_over};
+ghost use Rattle.desk.specs.Calls.{changed, answered};
+ghost use Rattle.share_change.specs.Change.{carried_over, taken_over};
 
+use checking::Refusal;
 use desk::{Booked, Desk};
 
 // Whether the list has a figure for each controller of the desk, and no more.
@@ -30,29 +31,33 @@ fn carried_over(running: Desk, new: Desk) -> Desk
     }
 }
 
-// What a refused change answers.
-fn refused(desk: Desk, refusal: u32) -> Booked
-    ensures { result ≡ refused_with desk refusal }
-{
-    Booked { refusal, desk }
-}
-
 // The holdings of the running desk on the figures of a new one, if they fit there: 21 where some place is not right, 22 where the desk
 // cannot be.
-fn taken_over(running: Desk, new: Desk) -> Booked
-    ensures { result ≡ taken_over running new }
+fn taken_over(running: Desk, new: Desk) -> Result<Desk, Refusal>
+    ensures { answered running result ≡ taken_over running new }
 {
     let next = carried_over(running, new);
     if !next.places_ok() {
-        return refused(running, 21);
+        return Err(Refusal::HoldingAboveCeiling);
     }
     if !next.ok() {
-        return refused(running, 22);
+        return Err(Refusal::HoldingsAboveLimit);
     }
-    Booked {
-        refusal: 0,
-        desk: next,
+    Ok(next)
+}
+
+// The desk with the new figures, or the first check that fails.
+fn changed(desk: Desk, limit: u32, assured: &[u32], ceilings: &[u32]) -> Result<Desk, Refusal>
+    ensures { answered desk result ≡ changed desk limit assured.now ceilings.now }
+{
+    if !desk.ok() {
+        return Err(Refusal::NotThere);
     }
+    if !same_number(desk, assured) {
+        return Err(Refusal::ControllerCount);
+    }
+    let new = opening::new_desk(limit, assured, ceilings)?;
+    taken_over(desk, new)
 }
 
 // Gives a running desk a new limit, new shares and new ceilings: checks 14 for the desk, then 11 to 13, 21 and 22. Refused, the desk is as
@@ -60,19 +65,5 @@ fn taken_over(running: Desk, new: Desk) -> Booked
 pub fn change(desk: Desk, limit: u32, assured: &[u32], ceilings: &[u32]) -> Booked
     ensures { result ≡ changed desk limit assured.now ceilings.now }
 {
-    let can_be = desk.ok();
-    let same = same_number(desk, assured);
-    if !can_be {
-        return refused(desk, 14);
-    }
-    if !same {
-        return refused(desk, 11);
-    }
-    let opened = opening::open(limit, assured, ceilings);
-    let refusal = opened.refusal;
-    if refusal != 0 {
-        return refused(desk, refusal);
-    }
-    let new = opened.desk;
-    taken_over(desk, new)
+    desk.answer(changed(desk, limit, assured, ceilings))
 }

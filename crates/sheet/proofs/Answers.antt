@@ -14,8 +14,9 @@ use Rattle.checking.proofs.Order.{all_passed, both_passed, none_failing, first_i
 use Rattle.sheet_format.specs.declared.Job.{Job}
 use Rattle.sheet.specs.declared.Reading.{Reading}
 use Rattle.sheet_format.specs.Figures.{longest_sheet, record_size, trailer_size}
-use Rattle.sheet_format.specs.Format.{job_from, job_of, labels_of, label_lengths, offset_of, count_of, modules_of, changeover_of}
-use Rattle.sheet_format.specs.Format.{cabinet, cabinet_of}
+use Rattle.sheet_format.specs.Format.{job_from, job_of, labels_of, label_lengths, offset_of, count_of}
+use Rattle.sheet_format.specs.Format.{cabinet_of}
+use Rattle.sheet_format.specs.declared.Cabinet.{Cabinet}
 use Rattle.sheet_format.specs.Checks.{faulty, wrong_offset, wrong_labels, figure_checks, content_checks}
 use Rattle.sheet.specs.Read.{read_checks, read_refusal, answered, refused, reading}
 use Rattle.sheet_format.specs.Checks.{trailer_checks}
@@ -56,30 +57,29 @@ module _ (s : List ℕ) where
   content_is n offset k en eo ek = ek ∙ ap₂ (λ (m o : ℕ). first_failing (content_checks m (job_from s o) (take o s))) en eo
 
   -- the answer, from what was found
-  pub answer_is : (n offset N r : ℕ) (jobs : List Job) → n ≡ count_of s → offset ≡ offset_of s → N ≡ modules_of s → r ≡ changeover_of s
+  pub answer_is : (n offset : ℕ) (C : Cabinet) (jobs : List Job) → n ≡ count_of s → offset ≡ offset_of s → C ≡ cabinet_of s
       → jobs ≡ places n (job_from s offset)
-      → ◌≡◌ {A = Reading} (record { refusal = 0; jobs = jobs; count = n; modules = N; changeover = r })
+      → ◌≡◌ {A = Reading} (record { refusal = 0; jobs = jobs; count = n; modules = C.modules; changeover = C.changeover })
       (answered (count_of s) (job_of s) (cabinet_of s))
-  answer_is n offset N r jobs en eo em er ej =
-      ap (λ (js : List Job). record { refusal = 0; jobs = js; count = n; modules = N; changeover = r }) ej
-      ∙ ap₂ (λ (m c : ℕ). answered n (job_from s offset) (cabinet m c)) em er
+  answer_is n offset C jobs en eo ec ej =
+      ap (λ (js : List Job). record { refusal = 0; jobs = js; count = n; modules = C.modules; changeover = C.changeover }) ej
+      ∙ ap (λ (D : Cabinet). answered n (job_from s offset) D) ec
       ∙ ap₂ (λ (m o : ℕ). answered m (job_from s o) (cabinet_of s)) en eo
 
-  refused_is : (k : ℕ) → k ≡ read_refusal s → (k ≡ 0 → ⊥) → refused k ≡ reading s
+  pub refused_is : (k : ℕ) → k ≡ read_refusal s → (k ≡ 0 → ⊥) → refused k ≡ reading s
   unfolding reading
   refused_is k e h = rw (← e, ne_eqb k 0 h)
 
-  pub refused_early : (k : ℕ) → k ≡ first_failing (trailer_checks s) → (k ≡ 0 → ⊥) → refused k ≡ reading s
+  pub refused_early : (k : ℕ) → k ≡ first_failing (trailer_checks s) → (k ≡ 0 → ⊥) → k ≡ read_refusal s
   refused_early k e h =
-      refused_is k (e ∙ sym (first_in_front (trailer_checks s) (content_checks (count_of s) (job_of s) (labels_of s)) (λ z. h (e ∙ z)))) h
+      e ∙ sym (first_in_front (trailer_checks s) (content_checks (count_of s) (job_of s) (labels_of s)) (λ z. h (e ∙ z)))
 
   module _ (early : ℕ) (is : early ≡ first_failing (trailer_checks s)) (passed : early ≡ 0) where
     late : read_refusal s ≡ first_failing (content_checks (count_of s) (job_of s) (labels_of s))
     late = first-behind (trailer_checks s) _ (all_passed (trailer_checks s) refl (sym is ∙ passed))
 
-    pub refused_late : (k : ℕ) → k ≡ first_failing (content_checks (count_of s) (job_of s) (labels_of s)) → (k ≡ 0 → ⊥)
-        → refused k ≡ reading s
-    refused_late k e h = refused_is k (e ∙ sym late) h
+    pub refused_late : (k : ℕ) → k ≡ first_failing (content_checks (count_of s) (job_of s) (labels_of s)) → k ≡ read_refusal s
+    refused_late k e = e ∙ sym late
 
     pub read_whole : (k : ℕ) → k ≡ first_failing (content_checks (count_of s) (job_of s) (labels_of s)) → k ≡ 0
         → answered (count_of s) (job_of s) (cabinet_of s) ≡ reading s

@@ -13,7 +13,8 @@ use Rattle.counting.proofs.Ranges.{any_none, none_any}
 use Rattle.checking.specs.Checking.{first_failing}
 use Rattle.checking.proofs.Order.{all_passed, first-behind}
 use Rattle.sheet_format.specs.declared.Job.{Job}
-use Rattle.sheet_format.specs.Format.{label_length, label_lengths, label_in, offset_of, count_of, job_of, labels_of, Cabinet}
+use Rattle.sheet_format.specs.Format.{label_length, label_lengths, label_in, offset_of, count_of, job_of, labels_of}
+use Rattle.sheet_format.specs.declared.Cabinet.{Cabinet}
 use Rattle.sheet_format.specs.Checks.{faulty, some_faulty, wrong_label, wrong_labels, too_short, figure_checks, trailer_checks, content_checks}
 use Rattle.sheet_format.specs.Checks.{WrongLabel, LegalLabel}
 use Rattle.sheet_format.proofs.Bounds.{legal}

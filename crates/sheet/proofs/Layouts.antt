@@ -12,7 +12,8 @@ use Rattle.sheet_format.specs.declared.Job.{Job}
 use Rattle.sheet_format.specs.Figures.{record_size}
 use Rattle.words.specs.Words.{number_at}
 use Rattle.words.proofs.Numbers.{number_behind}
-use Rattle.sheet_format.specs.Format.{record_at, record_bytes, trailer_bytes, sheet_bytes, Cabinet}
+use Rattle.sheet_format.specs.Format.{record_at, record_bytes, trailer_bytes, sheet_bytes}
+use Rattle.sheet_format.specs.declared.Cabinet.{Cabinet}
 use Rattle.sheet_format.specs.Format.{trailer_at, offset_of, count_of, modules_of, changeover_of, cabinet, cabinet_of, job_of, labels_of}
 use Rattle.sheet_format.proofs.Parts.{length_records}
 use Rattle.sheet_format.proofs.Digits.{TrailerHolds, record_read, trailer_read, record-behind}

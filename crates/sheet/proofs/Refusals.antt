@@ -10,7 +10,8 @@ use borrow.Author.Tests.{eqb-true, ne_eqb}
 use Rattle.checking.specs.Checking.{FirstFails, NoneFails}
 use Rattle.checking.proofs.Order.{refused_exactly, answered_exactly}
 use Rattle.sheet_format.specs.declared.Job.{Job}
-use Rattle.sheet_format.specs.Format.{sheet_bytes, Cabinet}
+use Rattle.sheet_format.specs.Format.{sheet_bytes}
+use Rattle.sheet_format.specs.declared.Cabinet.{Cabinet}
 use Rattle.sheet.specs.declared.Written.{Written}
 use Rattle.sheet.specs.Read.{read_checks, read_refusal, refused, reading}
 use Rattle.sheet.specs.Label.{label_checks, label_refusal, label_place}

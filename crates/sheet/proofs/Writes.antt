@@ -15,7 +15,8 @@ use Rattle.checking.proofs.Order.{all_passed, both_passed, none_failing, first_i
 use Rattle.sheet_format.specs.declared.Job.{Job}
 use Rattle.sheet.specs.declared.Written.{Written}
 use Rattle.sheet_format.specs.Figures.{record_size, trailer_size, longest_label}
-use Rattle.sheet_format.specs.Format.{record_bytes, trailer_bytes, sheet_bytes, label_length, label_lengths, Cabinet}
+use Rattle.sheet_format.specs.Format.{record_bytes, trailer_bytes, sheet_bytes, label_length, label_lengths}
+use Rattle.sheet_format.specs.declared.Cabinet.{Cabinet}
 use Rattle.sheet_format.specs.Checks.{faulty, wrong_labels, too_short, figure_checks, content_checks}
 use Rattle.sheet.specs.Write.{over, write_checks, write_refusal, write_answer, write_leaves}
 use Rattle.sheet_format.proofs.Bounds.{legal}

@@ -13,7 +13,8 @@ use Rattle.counting.proofs.Ranges.{none_any}
 use Rattle.checking.proofs.Order.{none_failing, together_passed}
 use Rattle.sheet_format.specs.declared.Job.{Job}
 use Rattle.sheet_format.specs.Figures.{longest_sheet, record_size, trailer_size}
-use Rattle.sheet_format.specs.Format.{record_bytes, trailer_bytes, label_length, label_lengths, sheet_bytes, Cabinet}
+use Rattle.sheet_format.specs.Format.{record_bytes, trailer_bytes, label_length, label_lengths, sheet_bytes}
+use Rattle.sheet_format.specs.declared.Cabinet.{Cabinet}
 use Rattle.sheet_format.specs.Format.{offset_of, count_of, cabinet_of, job_of, labels_of, label_in}
 use Rattle.sheet_format.specs.Checks.{faulty, wrong_offset, wrong_labels, figure_checks, trailer_checks, content_checks}
 use Rattle.sheet_format.proofs.Bounds.{not-outside}

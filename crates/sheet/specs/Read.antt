@@ -1,9 +1,12 @@
 -- What reading answers (S-12: the job records in order, n, N and the changeover).
-use Rattle.std.specs.Prelude.{cond, List, ◌++◌, ℕ, eqb}
+use Rattle.std.specs.Prelude.{◌≡◌, cond, List, ◌++◌, ℕ, eqb, Result, IfOk}
 use Rattle.checking.specs.Checking.{Check, first_failing}
+use Rattle.checking.specs.Refusals.{refusal_number}
+use Rattle.checking.specs.declared.Refusal.{Refusal}
 use Rattle.sheet_format.specs.declared.Job.{Job}
 use Rattle.sheet.specs.declared.Reading.{Reading}
-use Rattle.sheet_format.specs.Format.{no_jobs, places, job_of, labels_of, count_of, Cabinet, cabinet_of}
+use Rattle.sheet_format.specs.Format.{no_jobs, places, job_of, labels_of, count_of, cabinet_of}
+use Rattle.sheet_format.specs.declared.Cabinet.{Cabinet}
 use Rattle.sheet_format.specs.Checks.{trailer_checks, content_checks}
 
 -- reading checks 1, 2, 3, 19 and 4 to 7
@@ -23,3 +26,8 @@ refused k = record { refusal = k; jobs = no_jobs; count = 0; modules = 0; change
 
 unfoldable pub reading : List ℕ → Reading
 reading s = cond (eqb (read_refusal s) 0) (answered (count_of s) (job_of s) (cabinet_of s)) (refused (read_refusal s))
+
+-- r is the first refusal of the bytes s, or what reading answers of them
+pub record ReadingOf (s : List ℕ) (r : Result Reading Refusal) : Type 0 where
+  pub refusal : refusal_number r ≡ read_refusal s
+  pub answer : IfOk r (λ x. x ≡ reading s)

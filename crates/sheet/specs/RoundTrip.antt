@@ -2,7 +2,8 @@
 use Rattle.std.specs.Prelude.{List, ℕ, take}
 use Rattle.counting.specs.Counting.{joined}
 use Rattle.sheet_format.specs.declared.Job.{Job}
-use Rattle.sheet_format.specs.Format.{jobs_in, Cabinet, cabinet}
+use Rattle.sheet_format.specs.Format.{jobs_in, cabinet}
+use Rattle.sheet_format.specs.declared.Cabinet.{Cabinet}
 use Rattle.sheet.specs.declared.Reading.{Reading}
 use Rattle.sheet.specs.declared.Written.{Written}
 use Rattle.sheet.specs.Label.{label_of}

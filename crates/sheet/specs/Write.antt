@@ -3,7 +3,8 @@ use Rattle.std.specs.Prelude.{cond, List, [], ◌∷◌, ◌++◌, ℕ, eqb, len
 use Rattle.checking.specs.Checking.{Check, first_failing}
 use Rattle.sheet_format.specs.declared.Job.{Job}
 use Rattle.sheet.specs.declared.Written.{Written}
-use Rattle.sheet_format.specs.Format.{sheet_bytes, Cabinet}
+use Rattle.sheet_format.specs.Format.{sheet_bytes}
+use Rattle.sheet_format.specs.declared.Cabinet.{Cabinet}
 use Rattle.sheet_format.specs.Checks.{figure_checks, content_checks, too_short}
 
 -- writing checks 2, 3, 19, 5, 6, 7, 10; the last against the room in the lent buffer

@@ -3,19 +3,21 @@
 
 ghost use Rattle.std.specs.Prelude.{◌≡◌, ◌+◌, ◌*◌, ◌≤◌, length};
 ghost use Rattle.checking.specs.Checking.{first_failing};
+ghost use Rattle.checking.specs.Refusals.{refusal_number};
 ghost use Rattle.sheet_format.specs.Figures.{most_jobs, record_size, trailer_size, longest_label};
-ghost use Rattle.sheet_format.specs.Format.{jobs_in, sheet_bytes, offset_of, count_of, modules_of, changeover_of, cabinet};
+ghost use Rattle.sheet_format.specs.Format.{jobs_in, sheet_bytes, offset_of, count_of, cabinet_of, cabinet};
 ghost use Rattle.sheet_format.specs.Checks.{trailer_checks};
-ghost use Rattle.sheet.specs.Read.{refused, reading};
+ghost use Rattle.sheet.specs.Read.{refused, reading, ReadingOf};
 ghost use Rattle.sheet.specs.Write.{over, write_refusal, write_answer, write_leaves};
 
+use checking::Refusal;
 use figures::MOST_JOBS;
 use label_check::wrong_between;
 use records::{no_jobs, read_one};
 pub use sheet_format::Job;
-use sheet_format::checks::{either, faulty};
-use sheet_format::label_length;
+use sheet_format::checks::{check_figures, faulty};
 use sheet_format::layout::{RECORD_SIZE, TRAILER_SIZE};
+use sheet_format::{Cabinet, label_length};
 
 // What reading answers: refusal 0 with the jobs, n, N and the changeover, or the number of the refusal with all else 0.
 #[repr(C)]
@@ -61,82 +63,83 @@ pub fn refused(refusal: u32) -> Reading
 
 // One pass over the records, each with its label: what reading answers where 1 to 4 and 19 pass. A label is looked at where it ends within the
 // labels; where one does not, 6 fails.
-fn read_records(sheet: &[u8], offset: usize, count: usize, modules: u16, changeover: u16) -> Reading
+fn read_records(
+    sheet: &[u8],
+    offset: usize,
+    count: usize,
+    cabinet: Cabinet,
+) -> Result<Reading, Refusal>
     requires { (first_failing (trailer_checks sheet.now) ≡ 0)
         × (offset ≡ offset_of sheet.now) × (count ≡ count_of sheet.now)
-        × (modules ≡ modules_of sheet.now) × (changeover ≡ changeover_of sheet.now) }
-    ensures { result ≡ reading sheet.now }
+        × (cabinet ≡ cabinet_of sheet.now) }
+    ensures { ReadingOf sheet.now result }
 {
     let jobs = no_jobs();
     let mut answer = Reading {
         refusal: 0,
         jobs,
         count,
-        modules,
-        changeover,
+        modules: cabinet.modules,
+        changeover: cabinet.changeover,
     };
     let mut total: usize = 0;
     let mut wrong = false;
-    let mut i = 0;
-    while i < count {
+    for i in 0..count {
         let job = read_one(sheet, offset + RECORD_SIZE * i);
         if faulty(count, job) {
-            return refused(5);
+            return Err(Refusal::WrongRecord);
         }
         answer.jobs[i] = job;
         let to = total + label_length(job);
-        wrong = either(wrong, wrong_between(&sheet[..offset], total, to));
+        wrong |= wrong_between(&sheet[..offset], total, to);
         total = to;
-        i += 1;
     }
     if total != offset {
-        return refused(6);
+        return Err(Refusal::LabelLengths);
     }
     if wrong {
-        return refused(7);
+        return Err(Refusal::WrongLabel);
     }
-    answer
+    Ok(answer)
 }
 
-// The jobs of a sheet, or the first refusal of 1, 2, 3, 19 and 4 to 7.
+// The jobs of a sheet, n, N and the changeover, or the first refusal of 1, 2, 3, 19 and 4 to 7.
+pub fn try_read(sheet: &[u8]) -> Result<Reading, Refusal>
+    ensures { ReadingOf sheet.now result }
+{
+    trailer::check(sheet)?;
+    let offset = trailer::offset(sheet) as usize;
+    let count = trailer::count(sheet) as usize;
+    read_records(sheet, offset, count, trailer::cabinet(sheet))
+}
+
+// The same as one answer, for callers in C.
 pub fn read(sheet: &[u8]) -> Reading
     ensures { result ≡ reading sheet.now }
 {
-    let early = trailer::refusal(sheet);
-    if early != 0 {
-        return refused(early);
+    match try_read(sheet) {
+        Ok(answer) => answer,
+        Err(refusal) => refused(refusal.number()),
     }
-    let offset = trailer::offset(sheet) as usize;
-    let count = trailer::count(sheet) as usize;
-    let modules = trailer::modules(sheet);
-    let changeover = trailer::changeover(sheet);
-    read_records(sheet, offset, count, modules, changeover)
 }
 
-// The first refusal of 2, 3, 19, 5, 6, 7 and 10, for a lent buffer of `room` bytes, or 0.
-fn write_refusal(
+// The first refusal of 2, 3, 19, 5, 6, 7 and 10, for a lent buffer of `room` bytes.
+fn check_writing(
     jobs: [Job; MOST_JOBS],
     count: usize,
     labels: &[u8],
-    modules: u16,
-    changeover: u16,
+    cabinet: Cabinet,
     room: usize,
-) -> u32
-    ensures { result ≡ write_refusal (jobs_in jobs) count labels.now (cabinet modules changeover) room }
+) -> Result<(), Refusal>
+    ensures { refusal_number result ≡ write_refusal (jobs_in jobs) count labels.now cabinet room }
 {
-    let wrong = sheet_format::checks::figures_refusal(count, modules, changeover);
-    if wrong != 0 {
-        return wrong;
-    }
+    check_figures(count, cabinet)?;
     let found = records::survey(jobs, count);
-    let refusal = records::content_refusal(jobs, count, found.faulty, found.total, labels);
-    if refusal != 0 {
-        return refusal;
-    }
+    records::check_content(jobs, count, found.faulty, found.total, labels)?;
     if room < labels.len() + RECORD_SIZE * count + TRAILER_SIZE {
-        return 10;
+        return Err(Refusal::ShortBuffer);
     }
-    0
+    Ok(())
 }
 
 // Labels, records and trailer, each into its own part of the buffer, one behind another; the length of the three.
@@ -144,27 +147,20 @@ fn write_parts(
     jobs: [Job; MOST_JOBS],
     count: usize,
     labels: &[u8],
-    modules: u16,
-    changeover: u16,
+    cabinet: Cabinet,
     out: &mut [u8],
 ) -> usize
     requires { (count ≤ most_jobs) × (length labels.now ≤ count * longest_label)
         × (length labels.now + record_size * count + trailer_size ≤ length out.old) }
     ensures { (result ≡ length labels.now + record_size * count + trailer_size)
-        × (out.new ≡ over (sheet_bytes (jobs_in jobs) count labels.now (cabinet modules changeover)) out.old) }
+        × (out.new ≡ over (sheet_bytes (jobs_in jobs) count labels.now cabinet) out.old) }
 {
     let offset = labels.len();
     let end = offset + RECORD_SIZE * count;
     let length = end + TRAILER_SIZE;
-    words::copy(&mut out[..offset], labels);
+    out[..offset].copy_from_slice(labels);
     records::write_all(&mut out[offset..end], jobs, count);
-    trailer::write(
-        &mut out[end..length],
-        offset as u32,
-        count as u16,
-        modules,
-        changeover,
-    );
+    trailer::write(&mut out[end..length], offset as u32, count as u16, cabinet);
     length
 }
 
@@ -180,12 +176,18 @@ pub fn write(
     ensures { (result ≡ write_answer (jobs_in jobs) count labels.now (cabinet modules changeover) out.old)
         × (out.new ≡ write_leaves (jobs_in jobs) count labels.now (cabinet modules changeover) out.old) }
 {
-    let refusal = write_refusal(jobs, count, labels, modules, changeover, out.len());
-    if refusal != 0 {
-        return Written { refusal, length: 0 };
-    }
-    Written {
-        refusal: 0,
-        length: write_parts(jobs, count, labels, modules, changeover, out),
+    let cabinet = Cabinet {
+        modules,
+        changeover,
+    };
+    match check_writing(jobs, count, labels, cabinet, out.len()) {
+        Ok(()) => Written {
+            refusal: 0,
+            length: write_parts(jobs, count, labels, cabinet, out),
+        },
+        Err(refusal) => Written {
+            refusal: refusal.number(),
+            length: 0,
+        },
     }
 }

@@ -14,7 +14,8 @@ use Rattle.words.proofs.Bytes.{segment}
 use Rattle.words.proofs.Numbers.{number_first, number_next, number_last, number_behind, bytes_each}
 use Rattle.sheet_format.specs.declared.Job.{Job}
 use Rattle.sheet_format.specs.Figures.{most_jobs, record_size, trailer_size}
-use Rattle.sheet_format.specs.Format.{record_at, record_bytes, trailer_bytes, Cabinet, cabinet}
+use Rattle.sheet_format.specs.Format.{record_at, record_bytes, trailer_bytes, cabinet}
+use Rattle.sheet_format.specs.declared.Cabinet.{Cabinet}
 use Rattle.sheet_format.specs.Checks.{faulty}
 use Rattle.sheet_format.proofs.Bounds.{legal}
 

@@ -14,7 +14,8 @@ use Rattle.words.proofs.Bytes.{bytes-length}
 use Rattle.words.proofs.Writes.{written_next, three_numbers}
 use Rattle.words.proofs.Parts.{next_part}
 use Rattle.sheet_format.specs.Figures.{record_size, trailer_size}
-use Rattle.sheet_format.specs.Format.{record_bytes, trailer_bytes, Cabinet}
+use Rattle.sheet_format.specs.Format.{record_bytes, trailer_bytes}
+use Rattle.sheet_format.specs.declared.Cabinet.{Cabinet}
 
 -- the first n bytes are p, and four numbers fill the rest
 pub four_numbers : (l p s t u v w : List ℕ) (n h i j k a b c d : ℕ) → length p ≡ n → length l ≡ n + h + i + j + k → s ≡ p ++ drop n l

@@ -1,5 +1,5 @@
 -- Which of 1, 2, 3, 19 and 4 a trailer gets, and what 2, 3 and 19 say where they pass.
-use mathlib.Core.Path.{◌≡◌, refl, sym, ap, ◌∙◌}
+use mathlib.Core.Path.{◌≡◌, refl, sym, ap, ap₂, ◌∙◌}
 use mathlib.Core.Bool.{false, not, cond}
 use mathlib.Core.List.{List, [], ◌∷◌}
 use Prim.Native.Nat.{ℕ, ◌+◌, ◌*◌, ◌≤◌}
@@ -8,7 +8,8 @@ use borrow.Author.Tests.{ltb-false, le-ltb, eq-eqb, ne_eqb}
 use Rattle.checking.specs.Checking.{first_failing}
 use Rattle.checking.proofs.Order.{Passed, all_passed, first_in_front, first-behind}
 use Rattle.sheet_format.specs.Figures.{most_jobs, most_modules, longest_changeover, longest_sheet, record_size, trailer_size}
-use Rattle.sheet_format.specs.Format.{offset_of, count_of, modules_of, changeover_of, Cabinet, cabinet, cabinet_of}
+use Rattle.sheet_format.specs.Format.{offset_of, count_of, cabinet_of}
+use Rattle.sheet_format.specs.declared.Cabinet.{Cabinet}
 use Rattle.sheet_format.specs.Checks.{wrong_length, wrong_offset, figure_checks, trailer_checks}
 use Rattle.sheet_format.proofs.Bounds.{inside, not-outside}
 
@@ -40,9 +41,9 @@ pub long-enough : (s : List ℕ) → wrong_length s ≡ false → trailer_size �
 long-enough s e = (inside trailer_size longest_sheet (length s) e).0
 
 -- the checks of figures that were read from the trailer
-pub figures_are : (s : List ℕ) (k n N r : ℕ) → n ≡ count_of s → N ≡ modules_of s → r ≡ changeover_of s
-    → k ≡ first_failing (figure_checks n (cabinet N r)) → k ≡ first_failing (figure_checks (count_of s) (cabinet_of s))
-figures_are s k n N r a b c e = rw (← a, ← b, ← c) e
+pub figures_are : (s : List ℕ) (k n : ℕ) (C : Cabinet) → n ≡ count_of s → C ≡ cabinet_of s
+    → k ≡ first_failing (figure_checks n C) → k ≡ first_failing (figure_checks (count_of s) (cabinet_of s))
+figures_are s k n C a b e = e ∙ ap₂ (λ (m : ℕ) (D : Cabinet). first_failing (figure_checks m D)) a b
 
 module _ (s : List ℕ) (size : wrong_length s ≡ false) (k : ℕ) (is : k ≡ first_failing (figure_checks (count_of s) (cabinet_of s))) where
   pub refused_figures : (k ≡ 0 → ⊥) → k ≡ first_failing (trailer_checks s)

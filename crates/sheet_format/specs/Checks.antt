@@ -6,7 +6,8 @@ use Rattle.sheet_format.specs.declared.Job.{Job}
 use Rattle.sheet_format.specs.Figures.{most_jobs, most_modules, longest_changeover, longest_sheet, record_size, trailer_size, longest_label}
 use Rattle.sheet_format.specs.Figures.{first_label_byte, last_label_byte, space, widest_job, most_minutes, last_departure, last_arrival}
 use Rattle.words.specs.Words.{byte_at}
-use Rattle.sheet_format.specs.Format.{label_length, label_lengths, label_in, offset_of, count_of, Cabinet, cabinet_of}
+use Rattle.sheet_format.specs.Format.{label_length, label_lengths, label_in, offset_of, count_of, cabinet_of}
+use Rattle.sheet_format.specs.declared.Cabinet.{Cabinet}
 
 -- x is not one of low to high
 unfoldable pub outside : ℕ → ℕ → ℕ → Bool

@@ -4,6 +4,7 @@ use Rattle.counting.specs.Counting.{sum, joined}
 use Rattle.words.specs.Words.{byte_at, u16_at, u32_at, bytes_of}
 use Rattle.sheet_format.specs.declared.Job.{Job}
 use Rattle.sheet_format.specs.Figures.{most_jobs, record_size, trailer_size}
+use Rattle.sheet_format.specs.declared.Cabinet.{Cabinet}
 
 -- ---- a record: label length (1 byte), modules needed (1), minutes (2), earlier jobs (4), departure (2), arrival (2)
 
@@ -46,11 +47,7 @@ modules_of s = u16_at s (trailer_at s + 6)
 abbrev pub changeover_of : List ℕ → ℕ
 changeover_of s = u16_at s (trailer_at s + 8)
 
--- what a sheet says of the cabinet: its modules N, and the minutes that a module rests between two jobs
-pub record Cabinet : Type 0 where
-  pub modules : ℕ
-  pub changeover : ℕ
-
+-- what a sheet says of the cabinet
 abbrev pub cabinet : ℕ → ℕ → Cabinet
 cabinet modules changeover = record { modules = modules; changeover = changeover }
 

@@ -10,7 +10,7 @@ pub mod layout;
 
 // A job, in the widths of its record.
 #[repr(C)]
-#[derive(Clone, Copy)]
+#[derive(Clone, Copy, Default)]
 pub struct Job {
     pub label_len: u8,
     pub modules: u8,
@@ -18,6 +18,13 @@ pub struct Job {
     pub earlier: u32,
     pub departure: u16,
     pub arrival: u16,
+}
+
+// What a sheet says of the cabinet: its modules N, and the minutes that a module rests between two jobs.
+#[derive(Clone, Copy)]
+pub struct Cabinet {
+    pub modules: u16,
+    pub changeover: u16,
 }
 
 // The length of a job's label; the contract hands its bound to the callers.

@@ -13,14 +13,15 @@ use Rattle.counting.proofs.Joins.{joined_same}
 use Rattle.checking.specs.Checking.{Check, first_failing}
 use Rattle.sheet_format.specs.declared.Job.{Job}
 use Rattle.sheet_format.specs.Figures.{most_jobs}
-use Rattle.sheet_format.specs.Format.{record_bytes, trailer_bytes, sheet_bytes, jobs_in, places, Cabinet}
+use Rattle.sheet_format.specs.Format.{record_bytes, trailer_bytes, sheet_bytes, jobs_in, places}
+use Rattle.sheet_format.specs.declared.Cabinet.{Cabinet}
 use Rattle.sheet_format.specs.Checks.{figure_checks, too_short}
 use Rattle.sheet_format.proofs.Lists.{job_in-place}
 use Rattle.sheet_format.proofs.Cuts.{content_same}
 use Rattle.sheet.specs.declared.Written.{Written}
 use Rattle.sheet.specs.Write.{over, write_refusal, write_answer, write_leaves}
 use Rattle.sheet.proofs.Writes.{refused_answer, refused_leaves}
-use Rattle.sheet_list.specs.Gather.{listed, gathered}
+use Rattle.sheet_list.specs.Gather.{gathered}
 
 module _ (f g : ℕ → Job) (n : ℕ) (same : (i : ℕ) → i < n → f i ≡ g i) (labels : List ℕ) (C : Cabinet) where
   sheet_same : sheet_bytes f n labels C ≡ sheet_bytes g n labels C
@@ -59,10 +60,9 @@ module _ (js : List Job) (labels : List ℕ) (C : Cabinet) (out : List ℕ) wher
   n = length js
 
   abbrev f : ℕ → Job
-  f = jobs_in (gathered js).list
+  f = jobs_in (gathered js)
 
   in_place : n ≤ most_jobs → (i : ℕ) → i < n → f i ≡ jobs_in js i
-  unfolding listed
   in_place h i l =
       let e : min n most_jobs ≡ n = omega arith in
       ap (λ (m : ℕ). jobs_in (places m (jobs_in js)) i) e ∙ job_in-place n (jobs_in js) i l

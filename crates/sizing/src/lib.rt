@@ -7,10 +7,12 @@ ghost use Rattle.schedule.specs.Cabinets.{with_modules};
 ghost use Rattle.tables.specs.Tables.{sheet_of, count_of};
 ghost use Rattle.job_table.specs.Table.{FitJobs};
 ghost use Rattle.card.specs.Card.{card_size};
+ghost use Rattle.checking.specs.Refusals.{number_of, refusal_number};
 ghost use Rattle.planner.specs.Planning.{best_card};
 ghost use Rattle.cabinets.specs.Counts.{least_count, Askable};
 ghost use Rattle.sizing.specs.Sizing.{count_refusal, size_answer, size_card_after, size_work_after};
 
+use checking::Refusal;
 use tables::Jobs;
 
 // What is answered: refusal 0 with the count, or the number of the refusal with 0.
@@ -21,21 +23,31 @@ pub struct Sized {
     pub modules: u16,
 }
 
-// The number of a sheet that reads: 9, 20 or 10, or 0. No lent memory is written.
-fn count_refusal(jobs: &Jobs, by: u16, room: usize) -> u32
+// What a refused call answers.
+fn refused(refusal: Refusal) -> Sized
+    ensures { (result.refusal ≡ number_of refusal) × (result.modules ≡ 0) }
+{
+    Sized {
+        refusal: refusal.number(),
+        modules: 0,
+    }
+}
+
+// The first of 9, 20 and 10 that fails, of a sheet that reads. No lent memory is written.
+fn check_count(jobs: &Jobs, by: u16, room: usize) -> Result<(), Refusal>
     requires { FitJobs jobs.now }
-    ensures { result ≡ count_refusal (sheet_of jobs.now) by room }
+    ensures { refusal_number result ≡ count_refusal (sheet_of jobs.now) by room }
 {
     if circles::circular(jobs) {
-        return 9;
+        return Err(Refusal::Circular);
     }
     if cabinets::none_serves(by, jobs) {
-        return 20;
+        return Err(Refusal::NoCountServes);
     }
     if planner::too_short(jobs, room) {
-        return 10;
+        return Err(Refusal::ShortBuffer);
     }
-    0
+    Ok(())
 }
 
 // The least count, and its card at the front of the lent bytes; the working memory is left all zero.
@@ -61,24 +73,15 @@ pub fn size(sheet: &[u8], by: u16, card: &mut [u8], work: &mut [u8]) -> Sized
     ensures card { card.new ≡ size_card_after sheet.now by card.old }
     ensures work { work.new ≡ size_work_after sheet.now by (length card.old) work.old }
 {
-    let read = planable::read_table(sheet);
-    let refusal = read.refusal;
-    if refusal != 0 {
-        return Sized {
-            refusal,
-            modules: 0,
-        };
+    let jobs = match planable::read_table(sheet) {
+        Ok(jobs) => jobs,
+        Err(refusal) => return refused(refusal),
+    };
+    if let Err(refusal) = check_count(&jobs, by, card.len()) {
+        return refused(refusal);
     }
-    let refusal = count_refusal(&read.jobs, by, card.len());
-    if refusal != 0 {
-        return Sized {
-            refusal,
-            modules: 0,
-        };
-    }
-    let modules = write_least(card, work, by, &read.jobs);
     Sized {
         refusal: 0,
-        modules,
+        modules: write_least(card, work, by, &jobs),
     }
 }

@@ -8,6 +8,7 @@ use lib.ListN.{get_or, take}
 use Rattle.schedule.specs.Plan.{Sheet, Plan}
 use Rattle.schedule.specs.ListPlan.{Order, list_plan}
 use Rattle.schedule.proofs.Same.{SameJobs, plan_same}
+use Rattle.tables.specs.declared.Jobs.{Jobs}
 use Rattle.tables.specs.Tables.{sheet_of, count_of, Fit}
 use Rattle.listing.specs.declared.Found.{Found}
 use Rattle.search.specs.Search.{TieRuled}
@@ -26,7 +27,7 @@ use Rattle.slack.specs.Parts.{PlannedStarts, entry_from, slacks_from, SlacksOf}
 use Rattle.slack.proofs.Places.{places_same}
 
 -- the starts of the best order's replay are the planned ones
-pub starts_are : (t : List ℕ) → Fit t → (r : Found) → TieRuled (sheet_of t) r → (s : Slots) → Replayed (sheet_of t) (take (count_of t) r.order) s
+pub starts_are : (t : Jobs) → Fit t → (r : Found) → TieRuled (sheet_of t) r → (s : Slots) → Replayed (sheet_of t) (take (count_of t) r.order) s
     → PlannedStarts (sheet_of t) s.start
 starts_are t fit r ruled s h =
     let o = take (count_of t) r.order in
@@ -39,7 +40,7 @@ starts_are t fit r ruled s h =
 
 -- ---- of a table
 
-module _ (t departures latest starts implied : List ℕ) (l : LatestStarts t departures latest) (p : PlannedStarts (sheet_of t) starts)
+module _ (t : Jobs) (departures latest starts implied : List ℕ) (l : LatestStarts t departures latest) (p : PlannedStarts (sheet_of t) starts)
     (m : ImpliedTo (sheet_of t) (count_of t) implied) where
   abbrev S : Sheet
   S = sheet_of t

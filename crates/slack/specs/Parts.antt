@@ -4,6 +4,7 @@ use Rattle.figures.specs.Figures.{last_end}
 use Rattle.schedule.specs.Plan.{Sheet}
 use Rattle.schedule.specs.ListPlan.{list_plan}
 use Rattle.schedule.specs.TieRule.{Best}
+use Rattle.tables.specs.declared.Jobs.{Jobs}
 use Rattle.tables.specs.Tables.{sheet_of}
 use Rattle.latest.specs.Counted.{minute_zero, departure_at}
 use Rattle.slack.specs.declared.JobSlack.{JobSlack}
@@ -42,6 +43,6 @@ slacks_from latest starts implied n = record {
 }
 
 -- the slacks of a table beside the tie rule's plan
-abbrev pub SlacksOf : List ℕ → List ℕ → Slacks → Type 0
+abbrev pub SlacksOf : Jobs → List ℕ → Slacks → Type 0
 SlacksOf t departures r =
     (order : List ℕ) × Best (sheet_of t) order × (r ≡ slacks_in (sheet_of t) (departure_at departures) (list_plan (sheet_of t) order))

@@ -76,11 +76,8 @@ fn departures_of(sheet: &[u8]) -> Minutes
 {
     let found = sheet::read(sheet);
     let mut of = [0u16; MOST_JOBS];
-    let mut j: usize = 0;
-    while j < found.count {
-        let job = found.jobs[j];
-        of[j] = job.departure;
-        j += 1;
+    for j in 0..found.count {
+        of[j] = found.jobs[j].departure;
     }
     Minutes { of }
 }
@@ -122,11 +119,8 @@ fn entries(
 {
     let mut answer = no_slacks(0);
     answer.count = count;
-    let mut j: usize = 0;
-    while j < count {
-        let one = entry(latest[j], starts[j], implied[j]);
-        answer.jobs[j] = one;
-        j += 1;
+    for j in 0..count {
+        answer.jobs[j] = entry(latest[j], starts[j], implied[j]);
     }
     answer
 }
@@ -143,7 +137,7 @@ fn slacks_of(jobs: &Jobs, departures: &[u16; MOST_JOBS], work: &mut [u8]) -> Sla
     let latest = last.of;
     let marks = marks::implied_marks(jobs);
     let implied = marks.of;
-    entries(&latest, &starts, &implied, tables::count(jobs))
+    entries(&latest, &starts, &implied, jobs.count())
 }
 
 // An entry for each job, or the first refusal of 1 to 9 and 19. Answered, the working memory is all zero; refused, it is as before.
@@ -151,12 +145,8 @@ pub fn slack(sheet: &[u8], work: &mut [u8]) -> Slacks
     ensures answer { result ≡ slacks sheet.now }
     ensures work { work.new ≡ work_after (planable_refusal sheet.now) work.old }
 {
-    let checked = planable::front(sheet);
-    let refusal = checked.refusal;
-    if refusal != 0 {
-        return no_slacks(refusal);
+    match planable::front(sheet) {
+        Ok(jobs) => slacks_of(&jobs, &departures_of(sheet).of, work),
+        Err(refusal) => no_slacks(refusal.number()),
     }
-    let departing = departures_of(sheet);
-    let departures = departing.of;
-    slacks_of(&checked.jobs, &departures, work)
 }

@@ -13,12 +13,13 @@ use Rattle.bits.specs.Bits.{bit, with_bit, without_bit, set_of}
 use Rattle.bits.proofs.Digits.{bit-none}
 use Rattle.bits.proofs.Members.{bit_with}
 use Rattle.bits.proofs.Walks.{Walk, walk_first, walk_none, walk_next, walk_gone}
+use Rattle.tables.specs.declared.Jobs.{Jobs}
 use Rattle.tables.specs.Tables.{kept_at, count_of}
 use Rattle.starting.specs.Starting.{EndOfOne, AllEarly}
 
 -- ---- a minute by which a job can have ended and rested
 
-pub or_ends : (t at : List ℕ) (j r : ℕ) → j < count_of t → EndOfOne t at r → EndOfOne t at (min r (get_or at j 0 + kept_at t j))
+pub or_ends : (t : Jobs) (at : List ℕ) (j r : ℕ) → j < count_of t → EndOfOne t at r → EndOfOne t at (min r (get_or at j 0 + kept_at t j))
 or_ends t at j r l h = go (less-or-not r (get_or at j 0 + kept_at t j)) h
   where
     go : (r < get_or at j 0 + kept_at t j) ⊎ (get_or at j 0 + kept_at t j ≤ r) → EndOfOne t at r

@@ -2,6 +2,7 @@
 use Rattle.std.specs.Prelude.{◌≡◌, ◌⊎◌, true, List, ℕ, ◌+◌, ◌<◌, get_or}
 use Rattle.std.specs.Int.Bits.{bit_and}
 use Rattle.bits.specs.Bits.{bit}
+use Rattle.tables.specs.declared.Jobs.{Jobs}
 use Rattle.tables.specs.Tables.{kept_at, count_of}
 use Rattle.relations.specs.Relations.{row_at}
 
@@ -14,7 +15,7 @@ abbrev pub no_end : ℕ
 no_end = 131070
 
 -- r is a minute by which one of the jobs can have ended and rested, or no end
-abbrev pub EndOfOne : List ℕ → List ℕ → ℕ → Type 0
+abbrev pub EndOfOne : Jobs → List ℕ → ℕ → Type 0
 EndOfOne t at r = (r ≡ no_end) ⊎ ((i : ℕ) × (i < count_of t) × (r ≡ get_or at i 0 + kept_at t i))
 
 -- r has the jobs of the set that start before minute `end`

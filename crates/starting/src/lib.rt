@@ -6,9 +6,9 @@ ghost use Rattle.std.specs.Prelude.{◌≡◌, true, cond, ◌+◌, ◌<◌, ◌
 ghost use Rattle.figures.specs.Figures.{most_jobs};
 ghost use Rattle.bits.specs.Bits.{with_bit};
 ghost use Rattle.tables.specs.Tables.{kept_at, count_of};
-ghost use Rattle.tables.specs.Prepared.{related_in};
 ghost use Rattle.starting.specs.Starting.{Alone, EndOfOne, AllEarly};
 
+use bits::Set;
 use figures::MOST_JOBS;
 use relations::ROW;
 use tables::{Jobs, Prepared};
@@ -16,12 +16,12 @@ use tables::{Jobs, Prepared};
 // Whether job i, of the set, starts first and can run beside no other job of it.
 fn alone_at(prepared: &Prepared, start: u16, least: u16, set: u32, i: usize) -> bool
     requires { i < most_jobs }
-    ensures { result ≡ true → (start ≡ least) × Alone (related_in prepared.now) set i }
+    ensures { result ≡ true → (start ≡ least) × Alone prepared.now.related set i }
 {
     if start != least {
         return false;
     }
-    set & tables::related(prepared, i * ROW + 2) == 0
+    set & prepared.related[i * ROW + 2] == 0
 }
 
 // A job of the set that starts first and can run beside no other, or `count` where there is none.
@@ -33,15 +33,12 @@ pub fn first_alone(
     count: usize,
 ) -> usize
     requires { count ≤ most_jobs }
-    ensures { result < count → (get_or at.now result 0 ≡ least) × Alone (related_in prepared.now) set result }
+    ensures { result < count → (get_or at.now result 0 ≡ least) × Alone prepared.now.related set result }
 {
-    let mut todo = bits::below32(set, count);
-    while todo != 0 {
-        let i = bits::lowest32(todo);
+    for i in set.below(count).members() {
         if alone_at(prepared, at[i], least, set, i) {
             return i;
         }
-        todo = bits::without_lowest32(todo);
     }
     count
 }
@@ -51,7 +48,7 @@ fn or_ends(jobs: &Jobs, r: u32, start: u16, j: usize) -> u32
     requires { j < most_jobs }
     ensures { result ≡ min r (start + kept_at jobs.now j) }
 {
-    let end = (start as u32) + (tables::kept(jobs, j) as u32);
+    let end = (start as u32) + (jobs.kept(j) as u32);
     if r <= end { r } else { end }
 }
 
@@ -64,11 +61,8 @@ pub fn first_end(jobs: &Jobs, at: &[u16; MOST_JOBS], set: u32) -> u32
     ensures { EndOfOne jobs.now at.now result }
 {
     let mut r: u32 = NO_END;
-    let mut todo = bits::below32(set, tables::count(jobs));
-    while todo != 0 {
-        let j = bits::lowest32(todo);
+    for j in set.below(jobs.count()).members() {
         r = or_ends(jobs, r, at[j], j);
-        todo = bits::without_lowest32(todo);
     }
     r
 }
@@ -79,7 +73,7 @@ fn with_early(r: u32, start: u16, end: u32, j: usize) -> u32
     ensures { result ≡ cond (ltb start end) (with_bit r j) r }
 {
     if (start as u32) < end {
-        return bits::set32(r, j);
+        return r.with(j);
     }
     r
 }
@@ -90,11 +84,8 @@ pub fn early(at: &[u16; MOST_JOBS], end: u32, set: u32, count: usize) -> u32
     ensures { AllEarly at.now end set count result }
 {
     let mut r: u32 = 0;
-    let mut todo = bits::below32(set, count);
-    while todo != 0 {
-        let j = bits::lowest32(todo);
+    for j in set.below(count).members() {
         r = with_early(r, at[j], end, j);
-        todo = bits::without_lowest32(todo);
     }
     r
 }

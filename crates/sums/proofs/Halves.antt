@@ -13,6 +13,7 @@ use Rattle.counting.proofs.Sums.{sum_same, sum-add}
 use Rattle.counting.proofs.Ranges.{le-largest, largest-le, every-at}
 use Rattle.figures.specs.Figures.{most_jobs}
 use Rattle.bits.specs.Bits.{bit}
+use Rattle.tables.specs.declared.Jobs.{Jobs}
 use Rattle.tables.specs.Tables.{kept_at, count_of}
 use Rattle.choices.specs.Choices.{together, SumsOf, longest}
 use Rattle.sums.specs.Sums.{longest_pair, RoundedToSum}
@@ -42,7 +43,7 @@ one_half true k x l = go (bit low_jobs k) (bit high_jobs k) (every-at most_jobs 
     go true q e = rw (not-true q e) (omega arith)
     go false q e = rw e (omega arith)
 
-module _ {t : List ℕ} {low : List ℕ} {lows : ℕ} {high : List ℕ} {highs : ℕ}
+module _ {t : Jobs} {low : List ℕ} {lows : ℕ} {high : List ℕ} {highs : ℕ}
     (a : SumsOf t low_jobs (count_of t) low lows) (b : SumsOf t high_jobs (count_of t) high highs) (x : ℕ) where
   -- what the i-th low sum and a high one give together
   with_low : ℕ → ℕ

@@ -12,11 +12,12 @@ use Rattle.counting.proofs.Tests.{last-or_below}
 use Rattle.counting.proofs.Sums.{sum_same}
 use Rattle.schedule.proofs.EndSums.{end-sum}
 use Rattle.schedule.proofs.Multiples.{multiple_below, end_multiple}
+use Rattle.tables.specs.declared.Jobs.{Jobs}
 use Rattle.tables.specs.Tables.{minutes_at, arrival_at, kept_at, count_of, changeover_of, sheet_of, Fit}
 use Rattle.choices.specs.Choices.{together}
 use Rattle.sums.specs.Sums.{Rounded, AllHere, Step, RoundedToSum}
 
-module _ (t : List ℕ) (fit : Fit t) (x r : ℕ) where
+module _ (t : Jobs) (fit : Fit t) (x r : ℕ) where
   -- without a rest a job keeps its modules for its minutes
   minutes-together : changeover_of t ≡ 0 → (X : ℕ → Bool) → sum (count_of t) (λ k. only (X k) (minutes_at t k)) ≡ together t (count_of t) X
   minutes-together none X = sum_same (count_of t) _ _ (λ k l.
@@ -32,7 +33,7 @@ module _ (t : List ℕ) (fit : Fit t) (x r : ℕ) where
         omega (arith, e.1, same, h.none_between e.0 (omega (arith, e.1, same)));
   }
 
-pub by-steps : (t : List ℕ) → Fit t → (x g : ℕ) → 0 < g → Step t (count_of t) g → Rounded t x (x / g * g)
+pub by-steps : (t : Jobs) → Fit t → (x g : ℕ) → 0 < g → Step t (count_of t) g → Rounded t x (x / g * g)
 by-steps t fit x g some h = record {
   below = div-mul-le_self x g;
   none_between = λ o d l.
@@ -41,7 +42,7 @@ by-steps t fit x g some h = record {
 }
 
 -- one job more
-pub step_more : (t : List ℕ) (n g a b : ℕ) → Step t n g → a ∣ g → a ∣ minutes_at t n → b ∣ a → b ∣ arrival_at t n → Step t (n + 1) b
+pub step_more : (t : Jobs) (n g a b : ℕ) → Step t n g → a ∣ g → a ∣ minutes_at t n → b ∣ a → b ∣ arrival_at t n → Step t (n + 1) b
 step_more t n g a b h p q r s = record {
   rests = dvd_trans b d h.rests;
   minutes = λ j l. minutes j (last-or_below n j (omega arith));
@@ -59,7 +60,7 @@ step_more t n g a b h p q r s = record {
     arrivals j (inl e) = rw e s
     arrivals j (inr m) = dvd_trans b d (h.arrivals j m)
 
-pub here_more : (t : List ℕ) (n : ℕ) → AllHere t n → arrival_at t n ≡ 0 → AllHere t (n + 1)
+pub here_more : (t : Jobs) (n : ℕ) → AllHere t n → arrival_at t n ≡ 0 → AllHere t (n + 1)
 here_more t n h z j l = go (last-or_below n j (omega arith))
   where
     go : (j ≡ n) ⊎ (j < n) → arrival_at t j ≡ 0

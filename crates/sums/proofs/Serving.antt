@@ -13,8 +13,9 @@ use Rattle.counting.specs.Counting.{only, sum}
 use Rattle.counting.proofs.Tests.{less-or-not}
 use Rattle.counting.proofs.Sums.{sum_same, sum-zero, le-sum}
 use Rattle.figures.specs.Figures.{most_modules}
+use Rattle.tables.specs.declared.Jobs.{Jobs}
 use Rattle.tables.specs.Tables.{count_of, modules_of, Fit}
-use Rattle.tables.specs.Part.{Part}
+use Rattle.tables.specs.declared.Part.{Part}
 use Rattle.placement.specs.Profile.{held_of, held_from}
 use Rattle.placement.proofs.Profiles.{held-at-le, held_from-le}
 use Rattle.choices.specs.Choices.{SumsOf, longest}
@@ -75,7 +76,7 @@ module _ {sums : List ℕ} {count : ℕ} {p : Part} {gone C total i : ℕ} (s : 
 
 -- ---- the whole bound
 
-module _ {t : List ℕ} {p : Part} {gone free l : ℕ} (fit : Fit t) (r : Running t p gone free l) where
+module _ {t : Jobs} {p : Part} {gone free l : ℕ} (fit : Fit t) (r : Running t p gone free l) where
   -- a job that runs holds no more than all modules
   pub running_narrow : Narrow p gone
   unfolding held_from

@@ -2,14 +2,15 @@
 use Rattle.std.specs.Prelude.{Bool, List, ℕ, ◌+◌, ◌-◌, ◌*◌, ◌≤◌, ◌<◌, ltb, leb, get_or}
 use Rattle.counting.specs.Counting.{only, sum}
 use Rattle.figures.specs.Figures.{most_jobs, most_modules}
+use Rattle.tables.specs.declared.Jobs.{Jobs}
 use Rattle.tables.specs.Tables.{count_of, modules_of}
-use Rattle.tables.specs.Part.{Part}
+use Rattle.tables.specs.declared.Part.{Part}
 use Rattle.placement.specs.Profile.{held_of, ProfileOf}
 use Rattle.choices.specs.Choices.{together, Within}
 
 -- the first placed jobs, `gone` in number, have given back their modules by minute l and none of the others has, and so many modules are
 -- free then
-pub record Running (t : List ℕ) (p : Part) (gone free l : ℕ) : Type 0 where
+pub record Running (t : Jobs) (p : Part) (gone free l : ℕ) : Type 0 where
   pub profile : ProfileOf p gone free (modules_of t) l
   pub live : (k : ℕ) → gone ≤ k → k < p.placed → l < get_or p.until k 0
 
@@ -38,7 +39,7 @@ most_served = most_jobs * cabinet_serves
 
 -- even if each module serves unplaced jobs for as long as sums of their kept minutes allow, from minute l, or from when the placed job that
 -- holds it gives it back, up to minute C, some of their module-minutes stay unserved
-pub record Unserved (t : List ℕ) (p : Part) (l C : ℕ) : Type 0 where
+pub record Unserved (t : Jobs) (p : Part) (l C : ℕ) : Type 0 where
   pub reach : ℕ → ℕ
   pub rises : (a b : ℕ) → a ≤ b → reach a ≤ reach b
   pub bounds : (X : ℕ → Bool) (x : ℕ) → Within X p.unplaced → together t (count_of t) X ≤ x → together t (count_of t) X ≤ reach x

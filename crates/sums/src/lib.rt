@@ -6,11 +6,11 @@ ghost use Rattle.std.specs.Int.{◌∣◌};
 ghost use Rattle.counting.specs.Counting.{only};
 ghost use Rattle.figures.specs.Figures.{most_jobs};
 ghost use Rattle.tables.specs.Tables.{kept_at, most_kept, count_of, Fit};
-ghost use Rattle.tables.specs.Part.{part_in};
 ghost use Rattle.choices.specs.Choices.{longest};
 ghost use Rattle.sums.specs.Sums.{longest_pair, Rounded, AllHere, Step, RoundedToSum};
 ghost use Rattle.sums.specs.Serving.{Running, Narrow, served_from, most_served, Unserved};
 
+use bits::Set;
 use choices::{longest_fit, subset_sums};
 use tables::{Jobs, Part};
 
@@ -33,10 +33,8 @@ fn longest_pair(low: &[u16], lows: usize, high: &[u16], highs: usize, x: u16) ->
     ensures { result ≡ longest_pair low.now lows high.now highs x }
 {
     let mut r: u16 = 0;
-    let mut i: usize = 0;
-    while i < lows {
-        r = counting::larger(r, paired(high, highs, low[i], x));
-        i += 1;
+    for i in 0..lows {
+        r = r.max(paired(high, highs, low[i], x));
     }
     r
 }
@@ -88,13 +86,11 @@ fn step_of(jobs: &Jobs) -> u16
     requires { count_of jobs.now ≤ most_jobs }
     ensures { Step jobs.now (count_of jobs.now) result }
 {
-    let count = tables::count(jobs);
-    let mut step = tables::changeover(jobs);
-    let mut i: usize = 0;
-    while i < count {
-        step = divisor(step, tables::minutes(jobs, i));
-        step = divisor(step, tables::arrival(jobs, i));
-        i += 1;
+    let count = jobs.count();
+    let mut step = jobs.changeover();
+    for i in 0..count {
+        step = divisor(step, jobs.minutes(i));
+        step = divisor(step, jobs.arrival(i));
     }
     step
 }
@@ -116,13 +112,11 @@ fn all_here(jobs: &Jobs) -> bool
     requires { count_of jobs.now ≤ most_jobs }
     ensures { result ≡ true → AllHere jobs.now (count_of jobs.now) }
 {
-    let count = tables::count(jobs);
-    let mut i: usize = 0;
-    while i < count {
-        if tables::arrival(jobs, i) != 0 {
+    let count = jobs.count();
+    for i in 0..count {
+        if jobs.arrival(i) != 0 {
             return false;
         }
-        i += 1;
     }
     true
 }
@@ -133,7 +127,7 @@ pub fn rounded(jobs: &Jobs, target: u16) -> u16
     requires { Fit jobs.now }
     ensures { Rounded jobs.now target result }
 {
-    if tables::changeover(jobs) != 0 {
+    if jobs.changeover() != 0 {
         return rounded_to_step(jobs, target);
     }
     if all_here(jobs) {
@@ -162,16 +156,14 @@ fn reach_from(at: &[u16], count: usize, t: u16, close: u16) -> u16
 
 // What the modules of the placed jobs but the first `gone` serve, each from when it is given back, up to minute `close`.
 fn served_behind(at: &[u16], count: usize, part: &Part, gone: usize, close: u16) -> u32
-    requires { (Narrow (part_in part.now) gone) × (count ≤ length at.now) }
-    ensures { (result ≡ served_from (longest at.now count) (part_in part.now) gone close) × (result ≤ most_served) }
+    requires { (Narrow part.now gone) × (count ≤ length at.now) }
+    ensures { (result ≡ served_from (longest at.now count) part.now gone close) × (result ≤ most_served) }
 {
-    let placed = tables::placed(part);
+    let placed = part.placed;
     let mut total: u32 = 0;
-    let mut i = gone;
-    while i < placed {
-        let reach = reach_from(at, count, tables::until(part, i), close);
-        total += counting::times(tables::held(part, i), reach);
-        i += 1;
+    for i in gone..placed {
+        let reach = reach_from(at, count, part.until[i], close);
+        total += counting::times(part.held[i], reach);
     }
     total
 }
@@ -180,11 +172,11 @@ fn served_behind(at: &[u16], count: usize, part: &Part, gone: usize, close: u16)
 // placed jobs have given theirs back by minute `least`, and `free` modules are free then. More than SERVED_JOBS unplaced jobs are not looked
 // at.
 pub fn unserved(jobs: &Jobs, part: &Part, gone: usize, free: u16, least: u16, close: u16) -> bool
-    requires { (Fit jobs.now) × (Running jobs.now (part_in part.now) gone free least) }
-    ensures { result ≡ true → Unserved jobs.now (part_in part.now) least close }
+    requires { (Fit jobs.now) × (Running jobs.now part.now gone free least) }
+    ensures { result ≡ true → Unserved jobs.now part.now least close }
 {
-    let set = tables::unplaced(part);
-    if bits::ones32(set) > SERVED_JOBS {
+    let set = part.unplaced;
+    if set.size() > SERVED_JOBS {
         return false;
     }
     let mut at = [0u16; SERVED_SUMS];
@@ -194,5 +186,5 @@ pub fn unserved(jobs: &Jobs, part: &Part, gone: usize, free: u16, least: u16, cl
     }
     let behind = served_behind(&at, count, part, gone, close);
     let at_once = counting::times(free, reach_from(&at, count, least, close));
-    behind + at_once < tables::left(part)
+    behind + at_once < part.left
 }

@@ -1,29 +1,20 @@
--- Lists that begin at a place of a table, tables of zeros, and bounds on the figures of a job table that fits.
+-- Lists of zeros, lists that begin alike, and bounds on the figures of a job table that fits.
 use mathlib.Core.Path.{◌≡◌, refl, ◌∙◌, sym}
-use mathlib.Core.Logic.{◌≢◌}
 use mathlib.Core.List.{List}
-use Prim.Native.Nat.{ℕ, zero, suc, ◌+◌, ◌-◌, ◌*◌, ◌≤◌, ◌<◌}
+use Prim.Native.Nat.{ℕ, zero, suc, ◌+◌, ◌*◌, ◌≤◌, ◌<◌}
 use native.Mathlib.Omega.{arith}
 use native.Mathlib.Nat.{le_trans, mul-le-mul_left, mul-le-mul_right}
-use lib.ListN.{length, get_or, take, set, replicate, length-drop}
-use lib.Seq.{get_or-drop, get_or-take, get_or-set_same, get_or-set_other, length-take-le, ext_get_or}
+use lib.ListN.{length, get_or, take, replicate}
+use lib.Seq.{get_or-take, length-take-le, ext_get_or}
 use Rattle.counting.specs.Counting.{sum}
 use Rattle.counting.proofs.Sums.{sum_most}
-use Rattle.tables.specs.Tables.{list_from, need_at, minutes_at, kept_at, most_kept, count_of, changeover_of, Fit}
+use Rattle.tables.specs.declared.Jobs.{Jobs}
+use Rattle.tables.specs.Tables.{need_at, minutes_at, kept_at, most_kept, count_of, changeover_of, Fit}
 
 pub zeros : (n i : ℕ) → ◌≡◌ {A = ℕ} (get_or (replicate n 0) i 0) 0
 zeros zero i = refl
 zeros (suc n) zero = refl
 zeros (suc n) (suc i) = zeros n i
-
--- place i of what stands from place k on is place k + i
-pub at_from : (k : ℕ) (t : List ℕ) (i : ℕ) → get_or (list_from k t) i 0 ≡ get_or t (k + i) 0
-unfolding list_from
-at_from k t i = get_or-drop k t i 0
-
-pub length_from : (k : ℕ) (t : List ℕ) → length (list_from k t) ≡ length t - k
-unfolding list_from
-length_from k t = length-drop k t
 
 -- lists that agree below n begin with the same n numbers
 pub take_alike : (n : ℕ) (a b : List ℕ) → n ≤ length a → n ≤ length b → ((k : ℕ) → k < n → get_or a k 0 ≡ get_or b k 0) → take n a ≡ take n b
@@ -33,15 +24,7 @@ take_alike n a b l m h =
     ext_get_or 0 (take n a) (take n b) (e ∙ sym f)
     (λ k i. let j : k < n = omega arith in get_or-take n a k 0 j ∙ h k j ∙ sym (get_or-take n b k 0 j))
 
--- a number put in at place k + i of the table is place i of that list, and no other place of it changes
-pub from_set : (k : ℕ) (t : List ℕ) (i v : ℕ) → k + i < length t → get_or (list_from k (set t (k + i) v)) i 0 ≡ v
-from_set k t i v l = at_from k (set t (k + i) v) i ∙ get_or-set_same t (k + i) v 0 l
-
-pub from_set_other : (k : ℕ) (t : List ℕ) (i n v : ℕ) → n ≢ i → get_or (list_from k (set t (k + i) v)) n 0 ≡ get_or (list_from k t) n 0
-from_set_other k t i n v d =
-    at_from k (set t (k + i) v) n ∙ get_or-set_other t (k + i) (k + n) v 0 (λ e. d (omega arith)) ∙ sym (at_from k t n)
-
-module _ (t : List ℕ) (fit : Fit t) where
+module _ (t : Jobs) (fit : Fit t) where
   -- how long one job keeps its modules from others
   pub kept_short : (i : ℕ) → i < count_of t → kept_at t i ≤ most_kept
   kept_short i l = omega (arith, fit.keeps i l, fit.short i l, fit.rests)

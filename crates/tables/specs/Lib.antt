@@ -1,4 +1,3 @@
 -- The tables that the search is lent.
 pub mod Tables
 pub mod Part
-pub mod Prepared

@@ -1,7 +1,7 @@
 // Printed text: fields of bytes, decimal, signed and hexadecimal numbers, one behind another in a fixed room.
 #![tactic(auto)]
 
-ghost use Rattle.std.specs.Prelude.{◌≡◌, [], ◌∷◌, ◌++◌, ◌<◌, nat_abs};
+ghost use Rattle.std.specs.Prelude.{◌≡◌, [], ◌∷◌, ◌++◌, ◌<◌};
 ghost use Rattle.text.specs.Numbers.{digit, place, decimal, signed, hexadecimal};
 ghost use Rattle.text.specs.Texts.{empty, adding};
 
@@ -24,15 +24,13 @@ pub fn empty() -> Text
 }
 
 // The text with a byte behind it, where there is room.
-fn with_byte(text: Text, b: u8) -> Text
+#[tactic(auto, unfolding(crate::specs::Texts::adding))]
+fn with_byte(mut text: Text, b: u8) -> Text
     ensures { result ≡ adding text (b ∷ []) }
 {
-    let at = text.length;
-    if at < ROOM {
-        let mut next = text;
-        next.bytes[at] = b;
-        next.length = at + 1;
-        return next;
+    if text.length < ROOM {
+        text.bytes[text.length] = b;
+        text.length += 1;
     }
     text
 }
@@ -42,10 +40,8 @@ pub fn with_field(text: Text, field: &[u8], after: u8) -> Text
     ensures { result ≡ adding text (field.now ++ (after ∷ [])) }
 {
     let mut next = text;
-    let mut i: usize = 0;
-    while i < field.len() {
-        next = with_byte(next, field[i]);
-        i += 1;
+    for b in field {
+        next = with_byte(next, *b);
     }
     with_byte(next, after)
 }
@@ -64,9 +60,10 @@ fn with_place(text: Text, x: u32, p: u32) -> Text
     ensures { result ≡ adding text (place p x) }
 {
     if p <= x {
-        return with_byte(text, digit((x / p % 10) as u64));
+        with_byte(text, digit((x / p % 10) as u64))
+    } else {
+        text
     }
-    text
 }
 
 // The text with a number of at most five digits behind it, and the byte that stands after it.
@@ -81,25 +78,16 @@ pub fn with_decimal(text: Text, x: u32, after: u8) -> Text
     with_byte(next, after)
 }
 
-// A signed number without its sign.
-fn size(x: i32) -> u32
-    ensures { result ≡ nat_abs x }
-{
-    if x < 0 {
-        return (0 - (x as i64)) as u32;
-    }
-    x as u32
-}
-
 // The text with a signed number behind it, and the byte that stands after it.
 pub fn with_signed(text: Text, x: i32, after: u8) -> Text
     ensures { result ≡ adding text (signed x ++ (after ∷ [])) }
 {
     if x < 0 {
         let next = with_byte(text, b'-');
-        return with_decimal(next, size(x), after);
+        with_decimal(next, x.unsigned_abs(), after)
+    } else {
+        with_decimal(text, x.unsigned_abs(), after)
     }
-    with_decimal(text, size(x), after)
 }
 
 // The text with the sixteen hexadecimal digits of a number behind it, and the byte that stands after them.
@@ -107,10 +95,8 @@ pub fn with_hexadecimal(text: Text, x: u64, after: u8) -> Text
     ensures { result ≡ adding text (hexadecimal x ++ (after ∷ [])) }
 {
     let mut next = text;
-    let mut i: usize = 0;
-    while i < 16 {
+    for i in 0..16u32 {
         next = with_byte(next, digit((x >> (4 * (15 - i))) % 16));
-        i += 1;
     }
     with_byte(next, after)
 }

@@ -6,12 +6,13 @@ ghost use Rattle.std.specs.Prelude.{◌≡◌, ◌+◌, ◌*◌, ◌≤◌, leng
 ghost use Rattle.sheet_format.specs.Figures.{most_jobs, record_size};
 ghost use Rattle.sheet_format.specs.Format.{places, job_from, label_lengths};
 ghost use Rattle.sheet_format.specs.Checks.{some_faulty};
-ghost use Rattle.sheet.specs.Read.{reading};
+ghost use Rattle.sheet.specs.Read.{reading, ReadingOf};
 
+use checking::Refusal;
 use figures::MOST_JOBS;
-use records::{no_jobs, read_one};
+use records::{check_content, no_jobs, read_one};
 use sheet::Reading;
-use sheet_format::checks::{either, faulty};
+use sheet_format::checks::faulty;
 use sheet_format::layout::RECORD_SIZE;
 use sheet_format::{Job, label_length};
 
@@ -33,13 +34,11 @@ fn read_records(sheet: &[u8], offset: usize, count: usize) -> Records
     let mut jobs = no_jobs();
     let mut total: usize = 0;
     let mut found = false;
-    let mut i = 0;
-    while i < count {
+    for i in 0..count {
         let job = read_one(sheet, offset + RECORD_SIZE * i);
         jobs[i] = job;
         total += label_length(job);
-        found = either(found, faulty(count, job));
-        i += 1;
+        found |= faulty(count, job);
     }
     Records {
         jobs,
@@ -49,33 +48,32 @@ fn read_records(sheet: &[u8], offset: usize, count: usize) -> Records
 }
 
 // Reading: the jobs of a sheet, n, N and the changeover, or the first refusal of 1 to 7 and 19.
-pub fn read(sheet: &[u8]) -> Reading
-    ensures { result ≡ reading sheet.now }
+fn try_read(sheet: &[u8]) -> Result<Reading, Refusal>
+    ensures { ReadingOf sheet.now result }
 {
-    let early = trailer::refusal(sheet);
-    if early != 0 {
-        return sheet::refused(early);
-    }
+    trailer::check(sheet)?;
     let offset = trailer::offset(sheet) as usize;
     let count = trailer::count(sheet) as usize;
+    let cabinet = trailer::cabinet(sheet);
     let found = read_records(sheet, offset, count);
     let jobs = found.jobs;
-    let refusal = records::content_refusal(
-        jobs,
-        count,
-        found.faulty,
-        found.total,
-        &sheet[..offset],
-    );
-    if refusal != 0 {
-        return sheet::refused(refusal);
-    }
-    Reading {
+    check_content(jobs, count, found.faulty, found.total, &sheet[..offset])?;
+    Ok(Reading {
         refusal: 0,
         jobs,
         count,
-        modules: trailer::modules(sheet),
-        changeover: trailer::changeover(sheet),
+        modules: cabinet.modules,
+        changeover: cabinet.changeover,
+    })
+}
+
+// The same as one answer, for callers in C.
+pub fn read(sheet: &[u8]) -> Reading
+    ensures { result ≡ reading sheet.now }
+{
+    match try_read(sheet) {
+        Ok(answer) => answer,
+        Err(refusal) => sheet::refused(refusal.number()),
     }
 }
 

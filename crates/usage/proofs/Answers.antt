@@ -13,8 +13,12 @@ use Rattle.schedule.specs.Plan.{Circular}
 use Rattle.schedule.specs.TieRule.{end_of}
 use Rattle.schedule.specs.Ends.{EarliestEnd}
 use Rattle.schedule.proofs.Theorems.{best_exists, best_valid}
+use Rattle.tables.specs.declared.Jobs.{Jobs}
 use Rattle.tables.specs.Tables.{sheet_of, count_of, modules_of, Fit}
-use Rattle.planable.specs.declared.Checked.{Checked}
+use Rattle.std.specs.Prelude.{Ok, Err}
+use Rattle.checking.specs.Refusals.{number_of}
+use Rattle.checking.specs.declared.Refusal.{Refusal}
+use Rattle.checking.proofs.Numbers.{number-some}
 use Rattle.planable.specs.Planable.{sheet_in, planable_checks, planable_refusal, work_after}
 use Rattle.planable.specs.Results.{CheckedOf}
 use Rattle.planable.proofs.Circles.{ordered_when}
@@ -53,60 +57,59 @@ module _ (s work : List ℕ) where
       let n = ne_eqb (use_refusal s) 0 (λ z. h (e ∙ z)) in
       (rw (n, e) refl, rw n refl)
 
-  module _ (r : Checked) (f : CheckedOf s r) where
-    -- by 1 to 9
-    pub turned_away : (r.refusal ≡ 0 → ⊥) → Given (no_usage r.refusal) work
+  -- by 1 to 9
+  pub turned_away : (e : Refusal) → CheckedOf s (Err e) → Given (no_usage (number_of e)) work
+  unfolding use_refusal planable_refusal
+  turned_away e f =
+      refused_leaves (number_of e)
+      (f.refusal ∙ sym (first_in_front (planable_checks s) (job_checks (sheet_in s)) (λ z. number-some e (f.refusal ∙ z)))) (number-some e)
+
+  module _ (t : Jobs) (f : CheckedOf s (Ok t)) where
+    passed : planable_refusal s ≡ 0
+    passed = sym f.refusal
+
+    ready : Ready s t
+    ready = ready-table s t passed f.table
+
+    -- by 23
+    by_jobs : use_refusal s ≡ first_failing ((23, eqb (count_of t) 0) ∷ [])
     unfolding use_refusal planable_refusal
-    turned_away h =
-        refused_leaves r.refusal
-        (f.refusal ∙ sym (first_in_front (planable_checks s) (job_checks (sheet_in s)) (λ z. h (f.refusal ∙ z)))) h
+    by_jobs =
+        first-behind (planable_checks s) (job_checks (sheet_in s)) (all_passed (planable_checks s) refl passed)
+        ∙ ap (λ (n : ℕ). first_failing ((23, eqb n 0) ∷ [])) (sym ready.same.jobs)
 
-    module _ (z : r.refusal ≡ 0) where
-      passed : planable_refusal s ≡ 0
-      passed = sym f.refusal ∙ z
+    pub no_jobs_lem : count_of t ≡ 0 → Given (no_usage 23) work
+    unfolding first_failing
+    no_jobs_lem l = refused_leaves 23 (sym (by_jobs ∙ rw l refl)) (λ e. omega arith)
 
-      ready : Ready s r.jobs
-      ready = ready-table s r.jobs passed (f.table z)
+    pub fits : Fit t
+    fits = ready.fit
 
-      -- by 23
-      by_jobs : use_refusal s ≡ first_failing ((23, eqb (count_of r.jobs) 0) ∷ [])
-      unfolding use_refusal planable_refusal
-      by_jobs =
-          first-behind (planable_checks s) (job_checks (sheet_in s)) (all_passed (planable_checks s) refl passed)
-          ∙ ap (λ (n : ℕ). first_failing ((23, eqb n 0) ∷ [])) (sym ready.same.jobs)
+    pub can_search : Fit t × (¬ Circular (sheet_of t))
+    can_search = (ready.fit, ready.free)
 
-      pub no_jobs_lem : count_of r.jobs ≡ 0 → Given (no_usage 23) work
+    module _ (l : count_of t ≡ 0 → ⊥) where
+      none : use_refusal s ≡ 0
       unfolding first_failing
-      no_jobs_lem l = refused_leaves 23 (sym (by_jobs ∙ rw l refl)) (λ e. omega arith)
+      none = by_jobs ∙ rw (ne_eqb (count_of t) 0 l) refl
 
-      pub fits : Fit r.jobs
-      fits = ready.fit
+      module _ (end : ℕ) (x : EarliestEnd (sheet_of t) end) where
+        -- there is something to divide by
+        pub can_share : (occupied cabinet : ℕ) → occupied ≡ work_in (sheet_of t) → cabinet ≡ modules_of t * end
+            → (1000 * occupied < 2 ^ 32) × (0 < cabinet)
+        can_share occupied cabinet o c =
+            let p = x.some in
+            let late = end-some (sheet_of t) p.0 fits.lasting (pos_of_ne-zero l) in
+            let some : 0 < modules_of t * end = mul-pos fits.some (omega (arith, p.2)) in
+            (omega (arith, o, work_small t fits), omega (arith, c))
 
-      pub can_search : Fit r.jobs × (¬ Circular (sheet_of r.jobs))
-      can_search = (ready.fit, ready.free)
-
-      module _ (l : count_of r.jobs ≡ 0 → ⊥) where
-        none : use_refusal s ≡ 0
-        unfolding first_failing
-        none = by_jobs ∙ rw (ne_eqb (count_of r.jobs) 0 l) refl
-
-        module _ (end : ℕ) (x : EarliestEnd (sheet_of r.jobs) end) where
-          -- there is something to divide by
-          pub can_share : (occupied cabinet : ℕ) → occupied ≡ work_in (sheet_of r.jobs) → cabinet ≡ modules_of r.jobs * end
-              → (1000 * occupied < 2 ^ 32) × (0 < cabinet)
-          can_share occupied cabinet o c =
-              let p = x.some in
-              let late = end-some (sheet_of r.jobs) p.0 fits.lasting (pos_of_ne-zero l) in
-              let some : 0 < modules_of r.jobs * end = mul-pos fits.some (omega (arith, p.2)) in
-              (omega (arith, o, work_small r.jobs fits), omega (arith, c))
-
-          pub answered : (u : Usage) (work' : List ℕ) → u ≡ share_of (work_in (sheet_of r.jobs)) (modules_of r.jobs * end)
-              → work' ≡ replicate (length work) 0 → Given u work'
-          unfolding work_after
-          answered u work' e cleared = (
-            e
-                ∙ ap₂ (λ (a b : ℕ). share_of a (modules_of r.jobs * b)) (work_same ready.same) (table_end s r.jobs ready passed end x)
-                ∙ ap (λ (n : ℕ). share_of (work_in (sheet_in s)) (n * earliest_end (sheet_in s))) ready.same.modules
-                ∙ sym (usage_of_end s passed none),
-            cleared ∙ rw none refl,
-          )
+        pub answered : (u : Usage) (work' : List ℕ) → u ≡ share_of (work_in (sheet_of t)) (modules_of t * end)
+            → work' ≡ replicate (length work) 0 → Given u work'
+        unfolding work_after
+        answered u work' e cleared = (
+          e
+              ∙ ap₂ (λ (a b : ℕ). share_of a (modules_of t * b)) (work_same ready.same) (table_end s t ready passed end x)
+              ∙ ap (λ (n : ℕ). share_of (work_in (sheet_in s)) (n * earliest_end (sheet_in s))) ready.same.modules
+              ∙ sym (usage_of_end s passed none),
+          cleared ∙ rw none refl,
+        )

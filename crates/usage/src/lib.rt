@@ -3,9 +3,22 @@
 
 ghost use Rattle.std.specs.Prelude.{◌≡◌};
 ghost use Rattle.planable.specs.Planable.{work_after};
-ghost use Rattle.usage.specs.Usage.{use_refusal, usage};
+ghost use Rattle.checking.specs.Refusals.{number_of};
+ghost use Rattle.usage.specs.Usage.{no_usage, use_refusal, usage};
 
+use checking::Refusal;
 use occupancy::Usage;
+
+// What a refused call answers.
+fn refused(refusal: Refusal) -> Usage
+    ensures { result ≡ no_usage (number_of refusal) }
+{
+    Usage {
+        refusal: refusal.number(),
+        per_mille: 0,
+        remainder: 0,
+    }
+}
 
 // The use of the cabinet in the plan of a sheet, or the first refusal of 1 to 9, 19 and 23. Answered, the working memory is all zero;
 // refused, it is as before.
@@ -13,26 +26,14 @@ pub fn used(sheet: &[u8], work: &mut [u8]) -> Usage
     ensures answer { result ≡ usage sheet.now }
     ensures work { work.new ≡ work_after (use_refusal sheet.now) work.old }
 {
-    let checked = planable::front(sheet);
-    let refusal = checked.refusal;
-    if refusal != 0 {
-        return Usage {
-            refusal,
-            per_mille: 0,
-            remainder: 0,
-        };
+    let jobs = match planable::front(sheet) {
+        Ok(jobs) => jobs,
+        Err(refusal) => return refused(refusal),
+    };
+    if jobs.count() == 0 {
+        return refused(Refusal::NoJobs);
     }
-    if tables::count(&checked.jobs) == 0 {
-        return Usage {
-            refusal: 23,
-            per_mille: 0,
-            remainder: 0,
-        };
-    }
-    let end = search::earliest(work, &checked.jobs);
-    let occupied = occupancy::work_of(&checked.jobs);
-    occupancy::share(
-        occupied,
-        counting::times(tables::modules(&checked.jobs), end),
-    )
+    let end = search::earliest(work, &jobs);
+    let occupied = occupancy::work_of(&jobs);
+    occupancy::share(occupied, counting::times(jobs.modules(), end))
 }

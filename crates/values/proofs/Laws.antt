@@ -11,6 +11,7 @@ use Rattle.counting.specs.Counting.{only, sum}
 use Rattle.counting.proofs.Tests.{same_or_not, less-or-not}
 use Rattle.counting.proofs.Sums.{sum_same}
 use Rattle.figures.specs.Figures.{most_jobs, most_modules}
+use Rattle.tables.specs.declared.Jobs.{Jobs}
 use Rattle.tables.specs.Tables.{need_at, kept_at, count_of, modules_of, Fit}
 use Rattle.tables.proofs.Laws.{zeros}
 use Rattle.weights.specs.Weights.{weightings, widths, all_weight, weight_in, most_with, Put, Weighs, MostOf}
@@ -20,7 +21,7 @@ use Rattle.values.specs.Values.{steps, most_place, worth_place, step_place, lane
 -- ---- weights
 
 -- a weight for each job, put in, and the most that can stand
-chosen_by : {t weight most : List ℕ} (y : ℕ → ℕ) → Put (λ k. k) (replicate most_jobs 0) weight (count_of t) y
+chosen_by : {t : Jobs} {weight most : List ℕ} (y : ℕ → ℕ) → Put (λ k. k) (replicate most_jobs 0) weight (count_of t) y
     → ((k : ℕ) → k < count_of t → y k ≤ most_modules) → Weighs t y (λ x. get_or most x 0)
     → ((a b : ℕ) → a ≤ b → b ≤ modules_of t → get_or most a 0 ≤ get_or most b 0) → ((x : ℕ) → get_or most x 0 ≤ all_weight)
     → Chosen t weight most
@@ -37,7 +38,7 @@ chosen_by {t} {weight} {most} y put light weighs rises small = record {
 }
 
 -- each job weighs as much as it needs
-pub chosen-own : {t weight most : List ℕ} → Fit t → Put (λ k. k) (replicate most_jobs 0) weight (count_of t) (need_at t)
+pub chosen-own : {t : Jobs} {weight most : List ℕ} → Fit t → Put (λ k. k) (replicate most_jobs 0) weight (count_of t) (need_at t)
     → Put (λ x. x) (replicate widths 0) most (modules_of t + 1) (λ x. x) → Chosen t weight most
 chosen-own {t} {weight} {most} fit put put' =
     chosen_by (need_at t) put (λ k l. omega (arith, fit.most, fit.narrow k l))
@@ -48,7 +49,7 @@ chosen-own {t} {weight} {most} fit put put' =
     at x l = put'.each x (omega arith)
 
 -- each job weighs what it weighs in weighting q
-pub chosen_in : {t weight most : List ℕ} {q : ℕ} → Fit t → q < weightings
+pub chosen_in : {t : Jobs} {weight most : List ℕ} {q : ℕ} → Fit t → q < weightings
     → Put (λ k. k) (replicate most_jobs 0) weight (count_of t) (λ k. weight_in (modules_of t) q (need_at t k)) → MostOf t (count_of t) q most
     → Chosen t weight most
 chosen_in {t} {q = q} fit low put table =
@@ -56,7 +57,7 @@ chosen_in {t} {q = q} fit low put table =
     table.holds table.rises (λ x. omega (arith, table.small x, fit.few))
 
 -- one of two choices
-pub chosen_of : {t weight most weight₁ most₁ weight₂ most₂ : List ℕ}
+pub chosen_of : {t : Jobs} {weight most weight₁ most₁ weight₂ most₂ : List ℕ}
     → ((weight ≡ weight₁) × (most ≡ most₁)) ⊎ ((weight ≡ weight₂) × (most ≡ most₂)) → Chosen t weight₁ most₁
     → Chosen t weight₂ most₂ → Chosen t weight most
 chosen_of (inl e) h h' = rw (e.0, e.1) h
@@ -64,14 +65,14 @@ chosen_of (inr e) h h' = rw (e.0, e.1) h'
 
 -- ---- values
 
-pub valued-none : (t : List ℕ) (step : ℕ) → Valued t step (replicate most_jobs 0)
+pub valued-none : (t : Jobs) (step : ℕ) → Valued t step (replicate most_jobs 0)
 valued-none t step = record {
   small = λ k. omega (arith, zeros most_jobs k);
   short = λ k l. omega (arith, zeros most_jobs k);
 }
 
 -- one job's value set
-pub valued_more : {t : List ℕ} {step : ℕ} {value : List ℕ} → Valued t step value → (k v : ℕ) → k < length value → v ≤ most_value
+pub valued_more : {t : Jobs} {step : ℕ} {value : List ℕ} → Valued t step value → (k v : ℕ) → k < length value → v ≤ most_value
     → (kept_at t k < step → v ≡ 0) → Valued t step (set value k v)
 valued_more {t} {step} {value} h k v l low none = record {
   small = λ p. small p (same_or_not p k);
@@ -87,7 +88,7 @@ valued_more {t} {step} {value} h k v l low none = record {
     short p m (inr d) = get_or-set_other value k p v 0 d ∙ h.short p m
 
 -- one of two lists of values
-pub valued_of : {t value value₁ value₂ : List ℕ} {step : ℕ} → (value ≡ value₁) ⊎ (value ≡ value₂) → Valued t step value₁
+pub valued_of : {t : Jobs} {value value₁ value₂ : List ℕ} {step : ℕ} → (value ≡ value₁) ⊎ (value ≡ value₂) → Valued t step value₁
     → Valued t step value₂ → Valued t step value
 valued_of (inl e) h h' = rw e h
 valued_of (inr e) h h' = rw e h'
@@ -103,14 +104,14 @@ put_narrow old width value = record {
   small = λ b before after p. before p;
 }
 
-pub reached-none : (t value : List ℕ) (step : ℕ) → Reached t value 0 step (replicate steps 0)
+pub reached-none : (t : Jobs) (value : List ℕ) (step : ℕ) → Reached t value 0 step (replicate steps 0)
 reached-none t value step = record {
   size = length-replicate {A = ℕ} steps 0;
   table = knapsack-none (λ k. kept_at t k / step) (λ k. get_or value k 0) (steps - 1) most_value steps;
   none = omega (arith, zeros steps 0);
 }
 
-pub reached_more : {t value old new : List ℕ} {n step : ℕ} → 0 < step → Valued t step value → Reached t value n step old
+pub reached_more : {t : Jobs} {value old new : List ℕ} {n step : ℕ} → 0 < step → Valued t step value → Reached t value n step old
     → Put (λ x. x) old new steps (most_with old (kept_at t n / step) (get_or value n 0)) → Reached t value (n + 1) step new
 reached_more {t} {value} {old} {new} {n} {step} some valued h put = record {
   size = put.size ∙ h.size;
@@ -153,7 +154,7 @@ joined_of {first = first} {third = third} step size put put' put'' = record {
     at : (x : ℕ) → get_or first x 0 ≡ get_or first (0 + x) 0
     at x = ap (λ (i : ℕ). get_or first i 0) (omega arith)
 
-pub laned : {t reach most weight value lanes : List ℕ} {step : ℕ} → Fit t → 0 < step → Chosen t weight most → Valued t step value
+pub laned : {t : Jobs} {reach most weight value lanes : List ℕ} {step : ℕ} → Fit t → 0 < step → Chosen t weight most → Valued t step value
     → Reached t value (count_of t) step reach → Joined reach most weight value step lanes → Laned t lanes
 laned {t} {weight = weight} {value = value} fit some choice valued reached joined = record {
   weight = λ k. get_or weight k 0;
@@ -190,7 +191,7 @@ laned {t} {weight = weight} {value = value} fit some choice valued reached joine
 }
 
 -- a list that agrees at the places of the table is such a table too
-pub laned_alike : {t lanes lanes' : List ℕ} → Fit t → ((p : ℕ) → p < lanes_size → get_or lanes' p 0 ≡ get_or lanes p 0) → Laned t lanes
+pub laned_alike : {t : Jobs} {lanes lanes' : List ℕ} → Fit t → ((p : ℕ) → p < lanes_size → get_or lanes' p 0 ≡ get_or lanes p 0) → Laned t lanes
     → Laned t lanes'
 laned_alike {t} {lanes} {lanes'} fit same h = record {
   weight = h.weight;

@@ -3,6 +3,7 @@
 use Rattle.std.specs.Prelude.{◌≡◌, Bool, List, ℕ, ◌+◌, ◌-◌, ◌*◌, ◌/◌, ◌≤◌, ◌<◌, length, get_or}
 use Rattle.counting.specs.Counting.{only, sum, Rises}
 use Rattle.figures.specs.Figures.{most_jobs, most_modules}
+use Rattle.tables.specs.declared.Jobs.{Jobs}
 use Rattle.tables.specs.Tables.{kept_at, count_of, modules_of}
 use Rattle.weights.specs.Weights.{widths, all_weight, Weighs, Knapsack}
 
@@ -68,12 +69,12 @@ step_of lanes = get_or lanes step_place 0
 -- ---- what they stand for
 
 -- no set of jobs that keep a module for fewer than `size` steps together, each counted in whole steps, has more value than Z of them
-abbrev pub Serves : List ℕ → ℕ → ℕ → (ℕ → ℕ) → (ℕ → ℕ) → Type 0
+abbrev pub Serves : Jobs → ℕ → ℕ → (ℕ → ℕ) → (ℕ → ℕ) → Type 0
 Serves t step size value Z = (X : ℕ → Bool) (x : ℕ) → x < size
     → sum (count_of t) (λ k. only (X k) (kept_at t k / step)) ≤ x → sum (count_of t) (λ k. only (X k) (value k)) ≤ Z x
 
 -- the table of some weights and values; what stands behind its places is not spoken of
-pub record Laned (t lanes : List ℕ) : Type 0 where
+pub record Laned (t : Jobs) (lanes : List ℕ) : Type 0 where
   pub weight : ℕ → ℕ
   pub value : ℕ → ℕ
   pub worth_is : (k : ℕ) → k < count_of t → worth_at lanes k ≡ weight k * value k
@@ -90,19 +91,19 @@ pub record Laned (t lanes : List ℕ) : Type 0 where
 -- ---- what it is made of
 
 -- a weight for each job, and the most weight that can stand on each number of modules
-pub record Chosen (t weight most : List ℕ) : Type 0 where
+pub record Chosen (t : Jobs) (weight most : List ℕ) : Type 0 where
   pub weighs : Weighs t (λ k. get_or weight k 0) (λ x. get_or most x 0)
   pub rises : Rises (modules_of t) (λ x. get_or most x 0)
   pub light : (k : ℕ) → get_or weight k 0 ≤ most_modules
   pub small : (x : ℕ) → get_or most x 0 ≤ all_weight
 
 -- a value for each job, and none for a job that keeps its modules for less than a step
-pub record Valued (t : List ℕ) (step : ℕ) (value : List ℕ) : Type 0 where
+pub record Valued (t : Jobs) (step : ℕ) (value : List ℕ) : Type 0 where
   pub small : (k : ℕ) → get_or value k 0 ≤ most_value
   pub short : (k : ℕ) → kept_at t k < step → get_or value k 0 ≡ 0
 
 -- the most value of the first n jobs that a lane can serve in each number of steps
-pub record Reached (t value : List ℕ) (n step : ℕ) (reach : List ℕ) : Type 0 where
+pub record Reached (t : Jobs) (value : List ℕ) (n step : ℕ) (reach : List ℕ) : Type 0 where
   pub size : length reach ≡ steps
   pub table : Knapsack (λ k. kept_at t k / step) n (steps - 1) most_value (λ k. get_or value k 0) reach
   pub none : get_or reach 0 0 ≡ 0

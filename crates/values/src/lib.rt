@@ -63,10 +63,8 @@ fn put_list(lanes: Lanes, at: usize, list: &[u16]) -> Lanes
     ensures { Put (λ x. at + x) lanes.of result.of (length list.now) (λ x. get_or list.now x 0) }
 {
     let mut next = lanes;
-    let mut x: usize = 0;
-    while x < list.len() {
+    for x in 0..list.len() {
         next.of[at + x] = wide(list[x]);
-        x += 1;
     }
     next
 }
@@ -78,10 +76,8 @@ fn put_worth(lanes: Lanes, weight: &[u16; MOST_JOBS], value: &[u16; MOST_JOBS]) 
         (λ k. get_or weight.now k 0 * get_or value.now k 0) }
 {
     let mut next = lanes;
-    let mut k: usize = 0;
-    while k < MOST_JOBS {
+    for k in 0..MOST_JOBS {
         next.of[WORTH_AT + k] = counting::times(weight[k], value[k]);
-        k += 1;
     }
     next
 }
@@ -128,7 +124,7 @@ pub fn lanes_of(jobs: &Jobs, close: u16) -> Lanes
     let choice = weighing::chosen(jobs);
     let weight = choice.weight;
     let most = choice.most;
-    let value = valuing::values_for(jobs, &weight, most[tables::modules(jobs) as usize], step, t);
+    let value = valuing::values_for(jobs, &weight, most[jobs.modules() as usize], step, t);
     let reach = serving::reach_of(jobs, &value.of, step);
     joined(&reach.at, &most, &weight, &value.of, step)
 }

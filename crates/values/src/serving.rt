@@ -33,10 +33,8 @@ fn with_value(old: &[u16; STEPS], width: usize, value: u16) -> Reach
     ensures { Put (λ x. x) old.now result.at steps (most_with old.now width value) }
 {
     let mut next = *old;
-    let mut x = width;
-    while x < STEPS {
-        next[x] = counting::larger(old[x], value + old[x - width]);
-        x += 1;
+    for x in width..STEPS {
+        next[x] = old[x].max(value + old[x - width]);
     }
     Reach { at: next }
 }
@@ -46,15 +44,13 @@ pub fn reach_of(jobs: &Jobs, value: &[u16; MOST_JOBS], step: u16) -> Reach
     requires { ((Fit jobs.now) × (0 < step)) × (Valued jobs.now step value.now) }
     ensures { Reached jobs.now value.now (count_of jobs.now) step result.at }
 {
-    let count = tables::count(jobs);
+    let count = jobs.count();
     let mut reach = Reach { at: [0u16; STEPS] };
-    let mut k: usize = 0;
-    while k < count {
-        let kept = tables::kept(jobs, k);
+    for k in 0..count {
+        let kept = jobs.kept(k);
         let gain = value[k];
         let lasts = steps(kept, step as u32);
         reach = with_value(&reach.at, lasts, gain);
-        k += 1;
     }
     reach
 }
@@ -72,11 +68,9 @@ fn with_set(reach: &[u16; STEPS], sets: &[u32; STEPS], width: usize, value: u16,
     requires { ((p : ℕ) → get_or reach.now p 0 ≤ few_value) × (value ≤ most_value) }
 {
     let mut next = *sets;
-    let mut x = width;
-    while x < STEPS {
+    for x in width..STEPS {
         let more = reach[x] < value + reach[x - width];
         next[x] = either(more, sets[x - width] | job, sets[x]);
-        x += 1;
     }
     Sets { at: next }
 }
@@ -85,15 +79,13 @@ fn with_set(reach: &[u16; STEPS], sets: &[u32; STEPS], width: usize, value: u16,
 pub fn serve(jobs: &Jobs, value: &[u16; MOST_JOBS], step: u16, t: usize) -> Served
     requires { ((Fit jobs.now) × (0 < step)) × ((Valued jobs.now step value.now) × (t < steps)) }
 {
-    let count = tables::count(jobs);
+    let count = jobs.count();
     let mut reach = Reach { at: [0u16; STEPS] };
     let mut sets = Sets { at: [0u32; STEPS] };
-    let mut k: usize = 0;
-    while k < count {
-        let width = steps(tables::kept(jobs, k), step as u32);
+    for k in 0..count {
+        let width = steps(jobs.kept(k), step as u32);
         sets = with_set(&reach.at, &sets.at, width, value[k], 1u32 << k);
         reach = with_value(&reach.at, width, value[k]);
-        k += 1;
     }
     Served {
         value: reach.at[t],

@@ -48,12 +48,10 @@ fn largest(shares: &[u32; MOST_JOBS]) -> u32
     ensures { 0 < result }
 {
     let mut top: u32 = 1;
-    let mut k: usize = 0;
-    while k < MOST_JOBS {
+    for k in 0..MOST_JOBS {
         if top < shares[k] {
             top = shares[k];
         }
-        k += 1;
     }
     top
 }
@@ -73,10 +71,8 @@ fn share(x: u32, top: u32) -> u32
 fn scaled(shares: &[u32; MOST_JOBS]) -> Shares {
     let top = largest(shares);
     let mut next = [0u32; MOST_JOBS];
-    let mut k: usize = 0;
-    while k < MOST_JOBS {
+    for k in 0..MOST_JOBS {
         next[k] = share(shares[k], top);
-        k += 1;
     }
     Shares { of: next }
 }
@@ -85,12 +81,10 @@ fn scaled(shares: &[u32; MOST_JOBS]) -> Shares {
 fn first_shares(jobs: &Jobs) -> Shares
     requires { count_of jobs.now ≤ most_jobs }
 {
-    let count = tables::count(jobs);
+    let count = jobs.count();
     let mut next = [0u32; MOST_JOBS];
-    let mut k: usize = 0;
-    while k < count {
-        next[k] = wide(tables::kept(jobs, k));
-        k += 1;
+    for k in 0..count {
+        next[k] = wide(jobs.kept(k));
     }
     scaled(&next)
 }
@@ -114,12 +108,10 @@ fn values_of(shares: &[u32; MOST_JOBS], jobs: &Jobs, step: u16) -> Figures
     requires { count_of jobs.now ≤ most_jobs }
     ensures { Valued jobs.now step result.of }
 {
-    let count = tables::count(jobs);
+    let count = jobs.count();
     let mut next = [0u16; MOST_JOBS];
-    let mut k: usize = 0;
-    while k < count {
-        next[k] = value_of(shares[k], tables::kept(jobs, k), step);
-        k += 1;
+    for k in 0..count {
+        next[k] = value_of(shares[k], jobs.kept(k), step);
     }
     Figures { of: next }
 }
@@ -170,10 +162,8 @@ fn turn(
     requires { 0 < parts }
 {
     let mut next = [0u32; MOST_JOBS];
-    let mut k: usize = 0;
-    while k < MOST_JOBS {
+    for k in 0..MOST_JOBS {
         next[k] = turned(shares[k], weight[k], most, parts, (set >> k) % 2 == 1);
-        k += 1;
     }
     Shares { of: next }
 }
@@ -253,7 +243,7 @@ pub fn values_for(jobs: &Jobs, weight: &[u16; MOST_JOBS], most: u16, step: u16, 
     requires { ((Fit jobs.now) × (0 < step)) × (t < steps) }
     ensures { Valued jobs.now step result.of }
 {
-    let count = tables::count(jobs);
+    let count = jobs.count();
     let mut shares = first_shares(jobs);
     let mut best = Valuation {
         value: [0u16; MOST_JOBS],

@@ -22,12 +22,10 @@ fn needs(jobs: &Jobs) -> Figures
     requires { count_of jobs.now ≤ most_jobs }
     ensures { Put (λ k. k) (replicate most_jobs 0) result.of (count_of jobs.now) (need_at jobs.now) }
 {
-    let count = tables::count(jobs);
+    let count = jobs.count();
     let mut next = [0u16; MOST_JOBS];
-    let mut k: usize = 0;
-    while k < count {
-        next[k] = tables::need(jobs, k);
-        k += 1;
+    for k in 0..count {
+        next[k] = jobs.need(k);
     }
     Figures { of: next }
 }
@@ -38,10 +36,8 @@ fn counted(modules: u16) -> weights::Most
     ensures { Put (λ x. x) (replicate widths 0) result.at (modules + 1) (λ x. x) }
 {
     let mut next = [0u16; WIDTHS];
-    let mut x: u16 = 0;
-    while x <= modules {
+    for x in 0..=modules {
         next[x as usize] = x;
-        x += 1;
     }
     weights::Most { at: next }
 }
@@ -52,7 +48,7 @@ fn own_weights(jobs: &Jobs) -> Weighed
     ensures { Chosen jobs.now result.weight result.most }
 {
     let weight = needs(jobs).of;
-    let most = counted(tables::modules(jobs)).at;
+    let most = counted(jobs.modules()).at;
     Weighed { weight, most }
 }
 
@@ -62,12 +58,10 @@ fn weights_in(jobs: &Jobs, q: usize) -> Figures
     ensures { Put (λ k. k) (replicate most_jobs 0) result.of (count_of jobs.now)
         (λ k. weight_in (modules_of jobs.now) q (need_at jobs.now k)) }
 {
-    let count = tables::count(jobs);
+    let count = jobs.count();
     let mut next = [0u16; MOST_JOBS];
-    let mut k: usize = 0;
-    while k < count {
+    for k in 0..count {
         next[k] = weights::weight_of(jobs, k, q);
-        k += 1;
     }
     Figures { of: next }
 }
@@ -88,10 +82,8 @@ pub fn total(a: &[u16; MOST_JOBS], b: &[u16; MOST_JOBS], count: usize) -> u64
     ensures { result ≤ most_total }
 {
     let mut sum: u64 = 0;
-    let mut k: usize = 0;
-    while k < count {
+    for k in 0..count {
         sum += counting::times(a[k], b[k]) as u64;
-        k += 1;
     }
     sum
 }
@@ -107,12 +99,10 @@ pub fn multiple(x: u64, by: u16) -> u64
 fn lengths(jobs: &Jobs) -> Figures
     requires { count_of jobs.now ≤ most_jobs }
 {
-    let count = tables::count(jobs);
+    let count = jobs.count();
     let mut next = [0u16; MOST_JOBS];
-    let mut k: usize = 0;
-    while k < count {
-        next[k] = tables::kept(jobs, k);
-        k += 1;
+    for k in 0..count {
+        next[k] = jobs.kept(k);
     }
     Figures { of: next }
 }
@@ -123,8 +113,8 @@ fn asked(jobs: &Jobs, weight: &[u16; MOST_JOBS], most: &[u16; WIDTHS]) -> u64
     requires { Fit jobs.now }
 {
     let kept = lengths(jobs);
-    let worth = total(weight, &kept.of, tables::count(jobs));
-    multiple(worth, most[tables::modules(jobs) as usize])
+    let worth = total(weight, &kept.of, jobs.count());
+    multiple(worth, most[jobs.modules() as usize])
 }
 
 // Of two weightings the one that asks for more minutes of the whole cabinet; the first of equals.
@@ -146,11 +136,9 @@ pub fn chosen(jobs: &Jobs) -> Weighed
     ensures { Chosen jobs.now result.weight result.most }
 {
     let mut best = own_weights(jobs);
-    let mut q: usize = 0;
-    while q < WEIGHTINGS {
+    for q in 0..WEIGHTINGS {
         let other = weighting(jobs, q);
         best = heavier(best, other, jobs);
-        q += 1;
     }
     best
 }

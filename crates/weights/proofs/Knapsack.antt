@@ -13,6 +13,7 @@ use lib.ListN.{get_or, replicate, length-replicate}
 use Rattle.counting.specs.Counting.{only, sum, Holds}
 use Rattle.counting.proofs.Tests.{true-or-false, less-or-not, last-or_below}
 use Rattle.figures.specs.Figures.{most_modules}
+use Rattle.tables.specs.declared.Jobs.{Jobs}
 use Rattle.tables.specs.Tables.{need_at, kept_at, most_kept, count_of, modules_of, Fit}
 use Rattle.tables.proofs.Laws.{kept_short}
 use Rattle.tables.proofs.Laws.{zeros}
@@ -46,7 +47,7 @@ weight_light modules q width m w l = go (true-or-false (eqb ((q + 2) * width % m
     go (inr e) = rw e (figures modules q width m w l).more
 
 -- the weight of one of the sheet's jobs: its products, alone, and times the minutes for which it keeps its modules
-module _ {t : List ℕ} (fit : Fit t) (q : ℕ) (low : q < weightings) (k : ℕ) (l : k < count_of t) where
+module _ {t : Jobs} (fit : Fit t) (q : ℕ) (low : q < weightings) (k : ℕ) (l : k < count_of t) where
   pub job_figures_lem : {modules width : ℕ} → modules ≡ modules_of t → width ≡ need_at t k → Figures modules q width
   job_figures_lem e f = figures _ q _ (omega (arith, fit.most)) (omega (arith, fit.narrow k l)) low
 
@@ -145,7 +146,7 @@ knapsack_more {width} {y} {n} {top} {each} {base} {old} {new} h low put light = 
 -- ---- the weightings side by side
 
 -- a weighting of which both parts are kept
-weighting-kept : {t worth worth' most most' : List ℕ} {q : ℕ}
+weighting-kept : {t : Jobs} {worth worth' most most' : List ℕ} {q : ℕ}
     → ((k : ℕ) → k < count_of t → get_or worth' (k * weightings + q) 0 ≡ get_or worth (k * weightings + q) 0)
     → ((x : ℕ) → x ≤ modules_of t → get_or most' (x * weightings + q) 0 ≡ get_or most (x * weightings + q) 0)
     → Weighting t worth most q → Weighting t worth' most' q
@@ -155,7 +156,7 @@ weighting-kept same same' h = record {
   weighs = λ X x l fits. omega (arith, same' x l, h.weighs X x l fits);
 }
 
-pub weighted-none : (t : List ℕ) → WeightedTo t (replicate worth_size 0) (replicate most_size 0) 0
+pub weighted-none : (t : Jobs) → WeightedTo t (replicate worth_size 0) (replicate most_size 0) 0
 weighted-none t = record {
   worth-length = length-replicate {A = ℕ} worth_size 0;
   most-length = length-replicate {A = ℕ} most_size 0;
@@ -164,7 +165,7 @@ weighted-none t = record {
   each = λ q l. absurd (not-suc-le-zero l);
 }
 
-pub weighted_more : {t : List ℕ} {q : ℕ} {worth worth' most most' table : List ℕ} → Fit t → q < weightings → WeightedTo t worth most q
+pub weighted_more : {t : Jobs} {q : ℕ} {worth worth' most most' table : List ℕ} → Fit t → q < weightings → WeightedTo t worth most q
     → MostOf t (count_of t) q table
     → Put (λ k. k * weightings + q) worth worth' (count_of t) (λ k. kept_at t k * weight_in (modules_of t) q (need_at t k))
     → Put (λ x. x * weightings + q) most most' widths (λ x. get_or table x 0) → WeightedTo t worth' most' (q + 1)
@@ -187,11 +188,11 @@ weighted_more {t} {q} {worth} {worth'} {most} {most'} {table} fit low h table_is
         (λ x m. put'.kept (x * weightings + p) (λ i m e. omega arith)) (h.each p l)
 
 -- all of them put in
-pub weighted_all : {t worth most : List ℕ} → WeightedTo t worth most weightings → Weighted t worth most
+pub weighted_all : {t : Jobs} {worth most : List ℕ} → WeightedTo t worth most weightings → Weighted t worth most
 weighted_all h = record { worth_small = λ p l. h.worth_small p; most_small = λ p l. h.most_small p; each = h.each }
 
 -- lists that agree at the places of the weightings are weightings too
-pub weighted_alike : {t worth worth' most most' : List ℕ} → Fit t → ((p : ℕ) → p < worth_size → get_or worth' p 0 ≡ get_or worth p 0)
+pub weighted_alike : {t : Jobs} {worth worth' most most' : List ℕ} → Fit t → ((p : ℕ) → p < worth_size → get_or worth' p 0 ≡ get_or worth p 0)
     → ((p : ℕ) → p < most_size → get_or most' p 0 ≡ get_or most p 0) → Weighted t worth most → Weighted t worth' most'
 weighted_alike fit same same' h = record {
   worth_small = λ p l. omega (arith, same p l, h.worth_small p l);

@@ -12,8 +12,9 @@ use Rattle.counting.proofs.Sums.{sum_same}
 use Rattle.counting.proofs.Intervals.{sum_from, sum_past}
 use Rattle.figures.specs.Figures.{most_jobs, most_modules}
 use Rattle.bits.specs.Bits.{bit}
+use Rattle.tables.specs.declared.Jobs.{Jobs}
 use Rattle.tables.specs.Tables.{kept_at, count_of, modules_of}
-use Rattle.tables.specs.Part.{Part}
+use Rattle.tables.specs.declared.Part.{Part}
 use Rattle.placement.specs.Profile.{held_of, held_from, Sorted, ProfileOf}
 use Rattle.placement.proofs.Profiles.{held_from-step, held-at-le, held_from-le}
 use Rattle.weights.specs.Weights.{weightings, all_weight, Weighting, room_for, Outweighed}
@@ -110,7 +111,7 @@ module _ {p : Part} {modules T at f i : ℕ} (w : Walk p modules T at f i) where
 
 -- ---- the weightings' answer
 
-pub outweighs : {t : List ℕ} {p : Part} {worth most : List ℕ} {q l T : ℕ} → Weighting t worth most q
+pub outweighs : {t : Jobs} {p : Part} {worth most : List ℕ} {q l T : ℕ} → Weighting t worth most q
     → room_for (λ x. get_or most (x * weightings + q) 0) (modules_of t) p l T
     < sum (count_of t) (λ k. only (bit p.unplaced k) (get_or worth (k * weightings + q) 0)) → Outweighed t p l T
 unfolding room_for

@@ -3,8 +3,9 @@ use Rattle.std.specs.Prelude.{◌≡◌, ◌≢◌, cond, List, ℕ, ◌+◌, �
 use Rattle.counting.specs.Counting.{only, sum, Rises, Holds}
 use Rattle.figures.specs.Figures.{most_jobs, most_modules, no_minute}
 use Rattle.bits.specs.Bits.{bit}
+use Rattle.tables.specs.declared.Jobs.{Jobs}
 use Rattle.tables.specs.Tables.{need_at, kept_at, most_kept, count_of, modules_of}
-use Rattle.tables.specs.Part.{Part}
+use Rattle.tables.specs.declared.Part.{Part}
 use Rattle.placement.specs.Profile.{held_of}
 
 -- ---- figures
@@ -48,7 +49,7 @@ most_room = all_weight * no_minute
 -- ---- the weightings
 
 -- no set of jobs that fits on x modules weighs more than K x
-abbrev pub Weighs : List ℕ → (ℕ → ℕ) → (ℕ → ℕ) → Type 0
+abbrev pub Weighs : Jobs → (ℕ → ℕ) → (ℕ → ℕ) → Type 0
 Weighs t y K = Holds (need_at t) (count_of t) (modules_of t) y K
 
 -- a job that fills j of q + 2 equal parts of the cabinet weighs (q + 1) * j, and one that overruns them (q + 2) * j
@@ -74,18 +75,18 @@ pub record Knapsack (width : ℕ → ℕ) (n top each : ℕ) (y : ℕ → ℕ) (
   pub small : (p : ℕ) → get_or table p 0 ≤ each * n
 
 -- the most of the first n jobs that can stand on each number of modules, in weighting q
-abbrev pub MostOf : List ℕ → ℕ → ℕ → List ℕ → Type 0
+abbrev pub MostOf : Jobs → ℕ → ℕ → List ℕ → Type 0
 MostOf t n q table = Knapsack (need_at t) n (modules_of t) heaviest (λ k. weight_in (modules_of t) q (need_at t k)) table
 
 -- weighting q: in `worth` each job's weight times the minutes for which it keeps its modules, in `most` the most that can stand on each
 -- number of modules
-pub record Weighting (t worth most : List ℕ) (q : ℕ) : Type 0 where
+pub record Weighting (t : Jobs) (worth most : List ℕ) (q : ℕ) : Type 0 where
   pub weight : ℕ → ℕ
   pub worth_is : (k : ℕ) → k < count_of t → get_or worth (k * weightings + q) 0 ≡ kept_at t k * weight k
   pub weighs : Weighs t weight (λ x. get_or most (x * weightings + q) 0)
 
 -- so many weightings put in side by side
-pub record WeightedTo (t worth most : List ℕ) (count : ℕ) : Type 0 where
+pub record WeightedTo (t : Jobs) (worth most : List ℕ) (count : ℕ) : Type 0 where
   pub worth-length : length worth ≡ worth_size
   pub most-length : length most ≡ most_size
   pub worth_small : (p : ℕ) → get_or worth p 0 ≤ most_worth
@@ -100,7 +101,7 @@ abbrev pub MostSmall : List ℕ → Type 0
 MostSmall most = (p : ℕ) → p < most_size → get_or most p 0 ≤ all_weight
 
 -- all weightings side by side; what stands behind their places is not spoken of
-pub record Weighted (t worth most : List ℕ) : Type 0 where
+pub record Weighted (t : Jobs) (worth most : List ℕ) : Type 0 where
   pub worth_small : WorthSmall worth
   pub most_small : MostSmall most
   pub each : (q : ℕ) → q < weightings → Weighting t worth most q
@@ -112,7 +113,7 @@ unfoldable pub room_for : (ℕ → ℕ) → ℕ → Part → ℕ → ℕ → ℕ
 room_for most modules p l C = sum C (λ m. only (leb l m) (most (modules - held_of p m)))
 
 -- the unplaced jobs outweigh what can stand on the modules that are free from minute l up to minute C, by which all are given back
-pub record Outweighed (t : List ℕ) (p : Part) (l C : ℕ) : Type 0 where
+pub record Outweighed (t : Jobs) (p : Part) (l C : ℕ) : Type 0 where
   pub weight : ℕ → ℕ
   pub most : ℕ → ℕ
   pub weighs : Weighs t weight most

@@ -6,12 +6,11 @@ ghost use Rattle.counting.specs.Counting.{only, sum};
 ghost use Rattle.figures.specs.Figures.{most_jobs, most_modules};
 ghost use Rattle.bits.specs.Bits.{bit};
 ghost use Rattle.tables.specs.Tables.{need_at, count_of, modules_of, Fit};
-ghost use Rattle.tables.specs.Part.{part_in};
-ghost use Rattle.tables.specs.Prepared.{worth_in, most_in};
 ghost use Rattle.placement.specs.Profile.{ProfileOf};
 ghost use Rattle.weights.specs.Weights.{weightings, widths, most_size, heaviest, few_weight, all_worth, most_room, weight_in, most_with, Put};
 ghost use Rattle.weights.specs.Weights.{MostOf, WeightedTo, Weighted, WorthSmall, MostSmall, room_for, Outweighed};
 
+use bits::Set;
 use figures::{MOST_JOBS, MOST_MODULES};
 use tables::{Jobs, Part, Prepared};
 
@@ -48,8 +47,8 @@ pub fn weight_of(jobs: &Jobs, k: usize, q: usize) -> u16
     requires { (Fit jobs.now) × ((k < count_of jobs.now) × (q < weightings)) }
     ensures { result ≡ weight_in (modules_of jobs.now) q (need_at jobs.now k) }
 {
-    let m = tables::modules(jobs) as usize;
-    let a = (q + 2) * (tables::need(jobs, k) as usize);
+    let m = jobs.modules() as usize;
+    let a = (q + 2) * (jobs.need(k) as usize);
     if a % m == 0 {
         return ((q + 1) * (a / m)) as u16;
     }
@@ -78,10 +77,8 @@ fn with_job(table: Most, width: u16, weight: u16, modules: u16) -> Most
     ensures { Put (λ x. x) (replicate widths 0) result.at (modules + 1) (most_with table.at width weight) }
 {
     let mut next = [0u16; WIDTHS];
-    let mut x: usize = 0;
-    while x <= modules as usize {
+    for x in 0..=(modules as usize) {
         next[x] = most_with(&table.at, width as usize, weight, x);
-        x += 1;
     }
     Most { at: next }
 }
@@ -91,14 +88,12 @@ pub fn most_of(jobs: &Jobs, q: usize) -> Most
     requires { (Fit jobs.now) × (q < weightings) }
     ensures { MostOf jobs.now (count_of jobs.now) q result.at }
 {
-    let count = tables::count(jobs);
-    let modules = tables::modules(jobs);
+    let count = jobs.count();
+    let modules = jobs.modules();
     let mut table = Most { at: [0u16; WIDTHS] };
-    let mut k: usize = 0;
-    while k < count {
+    for k in 0..count {
         let weight = weight_of(jobs, k, q);
-        table = with_job(table, tables::need(jobs, k), weight, modules);
-        k += 1;
+        table = with_job(table, jobs.need(k), weight, modules);
     }
     table
 }
@@ -110,10 +105,8 @@ fn put_most(all: Weights, q: usize, table: &[u16; WIDTHS]) -> Weights
         × (result.worth ≡ all.worth) }
 {
     let mut next = all;
-    let mut x: usize = 0;
-    while x < WIDTHS {
+    for x in 0..WIDTHS {
         next.most[x * WEIGHTINGS + q] = table[x];
-        x += 1;
     }
     next
 }
@@ -123,13 +116,11 @@ fn with_weighting(all: Weights, jobs: &Jobs, q: usize) -> Weights
     requires { (Fit jobs.now) × ((q < weightings) × (WeightedTo jobs.now all.worth all.most q)) }
     ensures { WeightedTo jobs.now result.worth result.most (q + 1) }
 {
-    let count = tables::count(jobs);
+    let count = jobs.count();
     let mut next = all;
-    let mut k: usize = 0;
-    while k < count {
+    for k in 0..count {
         let weight = weight_of(jobs, k, q);
-        next.worth[k * WEIGHTINGS + q] = counting::times(tables::kept(jobs, k), weight);
-        k += 1;
+        next.worth[k * WEIGHTINGS + q] = counting::times(jobs.kept(k), weight);
     }
     let table = most_of(jobs, q);
     put_most(next, q, &table.at)
@@ -144,10 +135,8 @@ pub fn weightings(jobs: &Jobs) -> Weights
         worth: [0u32; MOST_JOBS * WEIGHTINGS],
         most: [0u16; WIDTHS * WEIGHTINGS],
     };
-    let mut q: usize = 0;
-    while q < WEIGHTINGS {
+    for q in 0..WEIGHTINGS {
         all = with_weighting(all, jobs, q);
-        q += 1;
     }
     all
 }
@@ -157,33 +146,28 @@ pub fn weightings(jobs: &Jobs) -> Weights
 // What weighs so much in each weighting, and job k.
 fn with_worth(weight: Totals, prepared: &Prepared, k: usize) -> Totals
     requires { (k < most_jobs)
-        × ((q : ℕ) → q < weightings → get_or weight.of q 0 + get_or (worth_in prepared.now) (k * weightings + q) 0 ≤ all_worth) }
+        × ((q : ℕ) → q < weightings → get_or weight.of q 0 + get_or prepared.now.worth (k * weightings + q) 0 ≤ all_worth) }
     ensures { (q : ℕ) → q < weightings
-        → get_or result.of q 0 ≡ get_or weight.of q 0 + get_or (worth_in prepared.now) (k * weightings + q) 0 }
+        → get_or result.of q 0 ≡ get_or weight.of q 0 + get_or prepared.now.worth (k * weightings + q) 0 }
 {
     let mut next = [0u32; WEIGHTINGS];
-    let mut q: usize = 0;
-    while q < WEIGHTINGS {
-        next[q] = weight.of[q] + tables::worth(prepared, k * WEIGHTINGS + q);
-        q += 1;
+    for q in 0..WEIGHTINGS {
+        next[q] = weight.of[q] + prepared.worth[k * WEIGHTINGS + q];
     }
     Totals { of: next }
 }
 
 // What the unplaced jobs weigh in each weighting.
 fn set_worth(jobs: &Jobs, prepared: &Prepared, part: &Part) -> Totals
-    requires { (count_of jobs.now ≤ most_jobs) × (WorthSmall (worth_in prepared.now)) }
+    requires { (count_of jobs.now ≤ most_jobs) × (WorthSmall prepared.now.worth) }
     ensures { (q : ℕ) → q < weightings → get_or result.of q 0 ≡ sum (count_of jobs.now)
-        (λ k. only (bit (part_in part.now).unplaced k) (get_or (worth_in prepared.now) (k * weightings + q) 0)) }
+        (λ k. only (bit part.now.unplaced k) (get_or prepared.now.worth (k * weightings + q) 0)) }
 {
     let mut weight = Totals {
         of: [0u32; WEIGHTINGS],
     };
-    let mut todo = bits::below32(tables::unplaced(part), tables::count(jobs));
-    while todo != 0 {
-        let k = bits::lowest32(todo);
+    for k in part.unplaced.below(jobs.count()).members() {
         weight = with_worth(weight, prepared, k);
-        todo = bits::without_lowest32(todo);
     }
     weight
 }
@@ -192,23 +176,21 @@ fn set_worth(jobs: &Jobs, prepared: &Prepared, part: &Part) -> Totals
 pub fn next_end(at: u16, until: u16, close: u16) -> u16
     ensures { result ≡ max at (min until close) }
 {
-    counting::larger(at, counting::smaller(until, close))
+    at.max(until.min(close))
 }
 
 // The room in each weighting, with what can stand on x modules for so many minutes more.
 fn with_room(room: Totals, prepared: &Prepared, x: u16, minutes: u16) -> Totals
-    requires { ((x < widths) × (MostSmall (most_in prepared.now))) × ((q : ℕ) → q < weightings
-        → get_or room.of q 0 + get_or (most_in prepared.now) (x * weightings + q) 0 * minutes ≤ most_room) }
+    requires { ((x < widths) × (MostSmall prepared.now.most)) × ((q : ℕ) → q < weightings
+        → get_or room.of q 0 + get_or prepared.now.most (x * weightings + q) 0 * minutes ≤ most_room) }
     ensures { (q : ℕ) → q < weightings
-        → get_or result.of q 0 ≡ get_or room.of q 0 + get_or (most_in prepared.now) (x * weightings + q) 0 * minutes }
+        → get_or result.of q 0 ≡ get_or room.of q 0 + get_or prepared.now.most (x * weightings + q) 0 * minutes }
 {
     let row = (x as usize) * WEIGHTINGS;
     let mut next = [0u32; WEIGHTINGS];
-    let mut q: usize = 0;
-    while q < WEIGHTINGS {
-        let most = tables::most(prepared, row + q) as u16;
+    for q in 0..WEIGHTINGS {
+        let most = prepared.most[row + q];
         next[q] = room.of[q] + counting::times(most, minutes);
-        q += 1;
     }
     Totals { of: next }
 }
@@ -223,25 +205,23 @@ fn room_for(
     least: u16,
     close: u16,
 ) -> Totals
-    requires { ((MostSmall (most_in prepared.now)) × (ProfileOf (part_in part.now) gone free (modules_of jobs.now) least))
+    requires { ((MostSmall prepared.now.most) × (ProfileOf part.now gone free (modules_of jobs.now) least))
         × ((modules_of jobs.now ≤ most_modules) × (least ≤ close)) }
     ensures { (q : ℕ) → q < weightings → get_or result.of q 0 ≡ room_for
-        (λ x. get_or (most_in prepared.now) (x * weightings + q) 0) (modules_of jobs.now) (part_in part.now)
+        (λ x. get_or prepared.now.most (x * weightings + q) 0) (modules_of jobs.now) part.now
         least close }
 {
-    let placed = tables::placed(part);
+    let placed = part.placed;
     let mut room = Totals {
         of: [0u32; WEIGHTINGS],
     };
     let mut at = least;
     let mut f = free;
-    let mut i = gone;
-    while i < placed {
-        let to = next_end(at, tables::until(part, i), close);
+    for i in gone..placed {
+        let to = next_end(at, part.until[i], close);
         room = with_room(room, prepared, f, to - at);
         at = to;
-        f += tables::held(part, i);
-        i += 1;
+        f += part.held[i];
     }
     with_room(room, prepared, f, close - at)
 }
@@ -257,21 +237,19 @@ pub fn outweighed(
     least: u16,
     close: u16,
 ) -> bool
-    requires { ((Fit jobs.now) × (Weighted jobs.now (worth_in prepared.now) (most_in prepared.now)))
-        × (ProfileOf (part_in part.now) gone free (modules_of jobs.now) least) }
-    ensures { result ≡ true → Outweighed jobs.now (part_in part.now) least close }
+    requires { ((Fit jobs.now) × (Weighted jobs.now prepared.now.worth prepared.now.most))
+        × (ProfileOf part.now gone free (modules_of jobs.now) least) }
+    ensures { result ≡ true → Outweighed jobs.now part.now least close }
 {
     if close < least {
         return false;
     }
     let room = room_for(jobs, prepared, part, gone, free, least, close);
     let weight = set_worth(jobs, prepared, part);
-    let mut q: usize = 0;
-    while q < WEIGHTINGS {
+    for q in 0..WEIGHTINGS {
         if room.of[q] < weight.of[q] {
             return true;
         }
-        q += 1;
     }
     false
 }

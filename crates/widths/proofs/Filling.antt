@@ -11,6 +11,7 @@ use Rattle.counting.specs.Counting.{only, largest}
 use Rattle.counting.proofs.Tests.{true-or-false, less-or-not}
 use Rattle.counting.proofs.Ranges.{le-largest, largest-le}
 use Rattle.bits.specs.Bits.{bit}
+use Rattle.tables.specs.declared.Jobs.{Jobs}
 use Rattle.tables.specs.Tables.{count_of}
 use Rattle.widths.specs.Widths.{limit, width_of, WidthsOf, filled_of}
 
@@ -81,6 +82,6 @@ none_above sums s f e none x l m = go (less-or-not s x)
     go (inr o) = let same : x ≡ s = omega arith in rw same e
 
 -- what jobs of the set need on f modules is no more than is filled
-pub widths_hold : {t : List ℕ} {set sums : ℕ} → WidthsOf t set sums → (X : ℕ → Bool) (f : ℕ)
+pub widths_hold : {t : Jobs} {set sums : ℕ} → WidthsOf t set sums → (X : ℕ → Bool) (f : ℕ)
     → ((k : ℕ) → k < count_of t → X k ≡ true → bit set k ≡ true) → width_of t X ≤ f → width_of t X ≤ filled_of sums f
 widths_hold {t} {sums = sums} h X f inside l = filled-holds sums f (width_of t X) l (h.each X inside)

@@ -17,6 +17,7 @@ use Rattle.bits.specs.Bits.{bit, without_bit, set_of}
 use Rattle.bits.proofs.Digits.{bit-none}
 use Rattle.bits.proofs.Sets.{and_below, bit-set_of}
 use Rattle.bits.proofs.Walks.{Walk, walk_first, walk_next, walk_none, walk_gone}
+use Rattle.tables.specs.declared.Jobs.{Jobs}
 use Rattle.tables.specs.Tables.{need_at, count_of}
 use Rattle.widths.specs.Widths.{limit, width_of, WidthsOf}
 
@@ -68,7 +69,7 @@ module _ (X : ℕ → Bool) (j : ℕ) where
 -- ---- the walk over the jobs
 
 -- the widths of the jobs that are no longer to come are among the sums
-pub record Summed (t : List ℕ) (set sums todo : ℕ) : Type 0 where
+pub record Summed (t : Jobs) (set sums todo : ℕ) : Type 0 where
   pub walk : Walk set (count_of t) todo
   pub among : (X : ℕ → Bool)
       → ((k : ℕ) → k < count_of t → X k ≡ true → (bit set k ≡ true) × (bit todo k ≡ false)) → width_of t X < limit
@@ -78,7 +79,7 @@ first : bit 1 0 ≡ true
 unfolding bit
 first = refl
 
-pub summed-none : (t : List ℕ) (set : ℕ) → Summed t set 1 (set_of (count_of t) (bit set))
+pub summed-none : (t : Jobs) (set : ℕ) → Summed t set 1 (set_of (count_of t) (bit set))
 summed-none t set = record {
   walk = walk_first (count_of t) set;
   among = λ X h l. rw (none X h) first;
@@ -92,7 +93,7 @@ summed-none t set = record {
         one k m (inl e) = clash (bit set k) (h k m e).0 (walk_none (count_of t) set k m (h k m e).1)
         one k m (inr e) = rw e refl
 
-pub summed_more : {t : List ℕ} {set sums todo : ℕ} → Summed t set sums todo → (j r : ℕ) → bit todo j ≡ true
+pub summed_more : {t : Jobs} {set sums todo : ℕ} → Summed t set sums todo → (j r : ℕ) → bit todo j ≡ true
     → ((s : ℕ) → bit sums s ≡ true → s < limit → (bit r s ≡ true) × (s + need_at t j < limit → bit r (s + need_at t j) ≡ true))
     → Summed t set r (without_bit todo j)
 summed_more {t} {set} {sums} {todo} h j r b with-one = record {
@@ -117,7 +118,7 @@ summed_more {t} {set} {sums} {todo} h j r b with-one = record {
         (with-one (width_of t X)
         (h.among X (λ k m c. ((left k m c).0, gone k (λ s. clash (X k) c (ap X s ∙ e)) (left k m c).1)) l) l).0
 
-pub summed_all : {t : List ℕ} {set sums todo : ℕ} → Summed t set sums todo → todo ≡ 0 → WidthsOf t set sums
+pub summed_all : {t : Jobs} {set sums todo : ℕ} → Summed t set sums todo → todo ≡ 0 → WidthsOf t set sums
 summed_all {todo = todo} h e = record {
   each = λ X inside l. h.among X (λ k m c. (inside k m c, ap (λ (x : ℕ). bit x k) e ∙ bit-none k)) l;
 }

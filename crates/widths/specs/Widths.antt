@@ -3,6 +3,7 @@
 use Rattle.std.specs.Prelude.{◌≡◌, Bool, true, cond, List, ℕ, suc, ◌<◌, ltb}
 use Rattle.counting.specs.Counting.{only, sum, largest}
 use Rattle.bits.specs.Bits.{bit}
+use Rattle.tables.specs.declared.Jobs.{Jobs}
 use Rattle.tables.specs.Tables.{need_at, count_of}
 
 -- the sums that one number has as members are those below 64
@@ -10,11 +11,11 @@ abbrev pub limit : ℕ
 limit = 64
 
 -- the widths of the jobs of X together
-abbrev pub width_of : List ℕ → (ℕ → Bool) → ℕ
+abbrev pub width_of : Jobs → (ℕ → Bool) → ℕ
 width_of t X = sum (count_of t) (λ k. only (X k) (need_at t k))
 
 -- whatever jobs of the set are taken, their width is a member of `sums`, if it is below the limit
-pub record WidthsOf (t : List ℕ) (set sums : ℕ) : Type 0 where
+pub record WidthsOf (t : Jobs) (set sums : ℕ) : Type 0 where
   pub each : (X : ℕ → Bool) → ((k : ℕ) → k < count_of t → X k ≡ true → bit set k ≡ true) → width_of t X < limit
       → bit sums (width_of t X) ≡ true
 

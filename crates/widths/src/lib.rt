@@ -6,6 +6,7 @@ ghost use Rattle.bits.specs.Bits.{bit};
 ghost use Rattle.tables.specs.Tables.{Fit};
 ghost use Rattle.widths.specs.Widths.{limit, WidthsOf, filled_of};
 
+use bits::Set;
 use tables::Jobs;
 
 // The sums that one number has as members are those below 64.
@@ -27,11 +28,8 @@ pub fn sums_of(jobs: &Jobs, set: u32) -> u64
     ensures { WidthsOf jobs.now set result }
 {
     let mut sums: u64 = 1;
-    let mut todo = bits::below32(set, tables::count(jobs));
-    while todo != 0 {
-        let j = bits::lowest32(todo);
-        sums = with_width(sums, tables::need(jobs, j));
-        todo = bits::without_lowest32(todo);
+    for j in set.below(jobs.count()).members() {
+        sums = with_width(sums, jobs.need(j));
     }
     sums
 }
@@ -45,7 +43,7 @@ pub fn filled(sums: u64, free: u16) -> u16
     }
     let mut s = free;
     while 0 < s {
-        if bits::test64(sums, s as usize) {
+        if sums.has(s as usize) {
             return s;
         }
         s -= 1;

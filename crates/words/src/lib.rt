@@ -1,81 +1,74 @@
-// Numbers of several bytes, little-endian, at a place of a lent slice; bytes copied into one.
+// Numbers of several bytes, little-endian, at a place of a lent slice.
 #![tactic(auto)]
 
-ghost use Rattle.std.specs.Prelude.{◌≡◌, ◌+◌, ◌≤◌, length};
+ghost use Rattle.std.specs.Prelude.{◌≡◌, ℕ, ◌+◌, ◌≤◌, length};
 ghost use Rattle.words.specs.Words.{number_at, written};
 
-// A byte as a wider number; the contract hands its bound to the callers.
-fn wide(x: u8) -> u32
-    ensures { (result ≡ x) × (result ≤ 255) }
-{
-    x as u32
+// A number that is stored in a few bytes.
+pub trait Number: Copy {
+    // How many bytes it has.
+    ghost size: { ℕ };
+
+    ghost number: { Self → ℕ };
+
+    // The number at a place.
+    fn read(s: &[u8], at: usize) -> Self
+        requires { at + size ≤ length s.now }
+        ensures { number result ≡ number_at s.now at size };
+
+    // Writes a number at a place.
+    fn write(s: &mut [u8], at: usize, x: Self)
+        requires { at + size ≤ length s.old }
+        ensures { s.new ≡ written s.old at size (number x) };
 }
 
-// The 16-bit number at a place.
-pub fn read16(s: &[u8], at: usize) -> u16
-    requires { at + 2 ≤ length s.now }
-    ensures { result ≡ number_at s.now at 2 }
-{
-    let low = wide(s[at]);
-    let high = wide(s[at + 1]);
-    (low + high * 256) as u16
+impl Number for u16 {
+    ghost size = { 2 };
+
+    ghost number = { λ x. x };
+
+    fn read(s: &[u8], at: usize) -> u16 {
+        u16::from_le_bytes([s[at], s[at + 1]])
+    }
+
+    fn write(s: &mut [u8], at: usize, x: u16) {
+        s[at..at + 2].copy_from_slice(&x.to_le_bytes());
+    }
 }
 
-// The 32-bit number at a place.
-pub fn read32(s: &[u8], at: usize) -> u32
-    requires { at + 4 ≤ length s.now }
-    ensures { result ≡ number_at s.now at 4 }
-{
-    let low = read16(s, at) as u32;
-    let high = read16(s, at + 2) as u32;
-    low + high * 65536
+impl Number for u32 {
+    ghost size = { 4 };
+
+    ghost number = { λ x. x };
+
+    fn read(s: &[u8], at: usize) -> u32 {
+        u32::from_le_bytes([s[at], s[at + 1], s[at + 2], s[at + 3]])
+    }
+
+    fn write(s: &mut [u8], at: usize, x: u32) {
+        s[at..at + 4].copy_from_slice(&x.to_le_bytes());
+    }
 }
 
-// The 64-bit number at a place.
-pub fn read64(s: &[u8], at: usize) -> u64
-    requires { at + 8 ≤ length s.now }
-    ensures { result ≡ number_at s.now at 8 }
-{
-    let low = read32(s, at) as u64;
-    let high = read32(s, at + 4) as u64;
-    low + high * 4294967296
-}
+impl Number for u64 {
+    ghost size = { 8 };
 
-// Writes a 16-bit number at a place.
-pub fn write16(s: &mut [u8], at: usize, x: u16)
-    requires { at + 2 ≤ length s.old }
-    ensures { s.new ≡ written s.old at 2 x }
-{
-    s[at] = (x % 256) as u8;
-    s[at + 1] = (x / 256) as u8;
-}
+    ghost number = { λ x. x };
 
-// Writes a 32-bit number at a place.
-pub fn write32(s: &mut [u8], at: usize, x: u32)
-    requires { at + 4 ≤ length s.old }
-    ensures { s.new ≡ written s.old at 4 x }
-{
-    write16(s, at, (x % 65536) as u16);
-    write16(s, at + 2, (x / 65536) as u16);
-}
+    fn read(s: &[u8], at: usize) -> u64 {
+        u64::from_le_bytes([
+            s[at],
+            s[at + 1],
+            s[at + 2],
+            s[at + 3],
+            s[at + 4],
+            s[at + 5],
+            s[at + 6],
+            s[at + 7],
+        ])
+    }
 
-// Writes a 64-bit number at a place.
-pub fn write64(s: &mut [u8], at: usize, x: u64)
-    requires { at + 8 ≤ length s.old }
-    ensures { s.new ≡ written s.old at 8 x }
-{
-    write32(s, at, (x % 4294967296) as u32);
-    write32(s, at + 4, (x / 4294967296) as u32);
-}
-
-// Copies bytes over a part as long as they are.
-pub fn copy(part: &mut [u8], bytes: &[u8])
-    requires { length part.old ≡ length bytes.now }
-    ensures { part.new ≡ bytes.now }
-{
-    let mut i: usize = 0;
-    while i < bytes.len() {
-        part[i] = bytes[i];
-        i += 1;
+    fn write(s: &mut [u8], at: usize, x: u64) {
+        s[at..at + 8].copy_from_slice(&x.to_le_bytes());
     }
 }

@@ -2,12 +2,8 @@
 use Prim.Native.Nat.{◌-◌}
 use mathlib.Core.Path.{◌≡◌}
 use Prim.Native.Nat.{◌-◌}
-use Rattle.tables.specs.Part.{part_in}
 use Rattle.areas.proofs.Summing.{Summing}
 use Rattle.areas.proofs.held_after.Given as goal
 
 abbrev pub invariant-loop-i : goal.invariant-loop-i
-invariant-loop-i l = (l.count ≡ (part_in l.part).placed) × Summing (part_in l.part) l.l l.total l.i
-
-abbrev pub decreases-loop-i : goal.decreases-loop-i
-decreases-loop-i l = l.count - l.i
+invariant-loop-i l = (l.count ≡ l.part.placed) × Summing l.part l.l l.total l.i

@@ -10,59 +10,44 @@ use Rattle.tables.specs.Tables.{most_kept, count_of}
 use Rattle.areas.proofs.Late.{late_small}
 use Rattle.areas.proofs.late_work.Goals as goal
 
-pub below32-todo-requires : goal.below32-todo-requires
-below32-todo-requires c = omega (arith, c.count.ensures, c.requires.few)
+pub below-requires : goal.below-requires
+below-requires c = omega (arith, c.count.ensures, c.requires.few)
 
-pub loop-todo-init : goal.loop-todo-init
-loop-todo-init c =
+pub loop-k-init : goal.loop-k-init
+loop-k-init c =
     let args = c.args in
-    rw (c.below32-todo.ensures, c.count.ensures)
+    rw (c.into_iter-k-iterator.ensures.into_iter_gives, c.members-k-items.ensures, c.below.ensures, c.count.ensures)
     (walk_first (count_of args.jobs.now) args.set, weighed-none args.set (count_of args.jobs.now) _ 0 refl)
 
-pub lowest32-k-requires : goal.lowest32-k-requires
-lowest32-k-requires c = pos_of_ne-zero c.loop-todo-test.true
-
 pub first_start-first-requires : goal.first_start-first-requires
-first_start-first-requires c = omega (arith, c.requires.few, c.loop-todo.invariant.0.below c.lowest32-k.result c.lowest32-k.ensures.1)
+first_start-first-requires c = omega (arith, c.requires.few, c.loop-k.invariant.0.below c.in-Some.k c.in-Some.ensures.steps.1)
 
 pub kept-requires : goal.kept-requires
 kept-requires c =
-    let low = c.lowest32-k in
-    omega (arith, c.requires.few, c.loop-todo.invariant.0.below low.result low.ensures.1)
+    omega (arith, c.requires.few, c.loop-k.invariant.0.below c.in-Some.k c.in-Some.ensures.steps.1)
 
 pub need-requires : goal.need-requires
 need-requires c =
-    let low = c.lowest32-k in
-    omega (arith, c.requires.few, c.loop-todo.invariant.0.below low.result low.ensures.1)
+    omega (arith, c.requires.few, c.loop-k.invariant.0.below c.in-Some.k c.in-Some.ensures.steps.1)
 
 pub overflow_add-total : goal.overflow_add-total
 overflow_add-total c =
-    let low = c.lowest32-k in
-    let loop = c.loop-todo in
+    let loop = c.loop-k in
     let start = c in
     let a = start.args in
-    let inside = loop.invariant.0.below low.result low.ensures.1 in
-    let small = weighed_small loop.invariant.1 low.result inside low.ensures.1 (most_modules * most_kept)
+    let inside = loop.invariant.0.below c.in-Some.k c.in-Some.ensures.steps.1 in
+    let small = weighed_small loop.invariant.1 c.in-Some.k inside c.in-Some.ensures.steps.1 (most_modules * most_kept)
     (late_small start.requires a.prepared.now a.l a.a) in
     let work = rw (c.need.ensures, c.late_minutes-behind.ensures, c.kept.ensures, c.first_start-first.ensures) at c.times-total.ensures in
     record { fits = omega (arith, work, start.requires.few, small) }
 
-pub without_lowest32-todo-requires : goal.without_lowest32-todo-requires
-without_lowest32-todo-requires c = pos_of_ne-zero c.loop-todo-test.true
-
-pub loop-todo-smaller : goal.loop-todo-smaller
-loop-todo-smaller c =
-    let low = c.lowest32-k in
-    rw (c.without_lowest32-todo.ensures _ low.ensures.1 low.ensures.2) (walk_less c.loop-todo.todo low.result low.ensures.1)
-
-pub loop-todo-preserved : goal.loop-todo-preserved
-loop-todo-preserved c =
-    let low = c.lowest32-k in
-    let loop = c.loop-todo in
-    let member = low.ensures.1 in
-    let inside = loop.invariant.0.below low.result member in
-    rw (c.without_lowest32-todo.ensures _ member low.ensures.2, c.times-total.ensures, c.need.ensures, c.late_minutes-behind.ensures, c.kept.ensures, c.first_start-first.ensures)
-    (walk_next low.result loop.invariant.0, weighed_more loop.invariant.1 low.result inside member)
+pub loop-k-preserved : goal.loop-k-preserved
+loop-k-preserved c =
+    let loop = c.loop-k in
+    let member = c.in-Some.ensures.steps.1 in
+    let inside = loop.invariant.0.below c.in-Some.k member in
+    rw (c.in-Some.ensures.steps.3, c.times-total.ensures, c.need.ensures, c.late_minutes-behind.ensures, c.kept.ensures, c.first_start-first.ensures)
+    (walk_next c.in-Some.k loop.invariant.0, weighed_more loop.invariant.1 c.in-Some.k inside member)
 
 pub returns : goal.returns
-returns c = weighed_all c.loop-todo.invariant.1 (omega (arith, c.loop-todo-test.false))
+returns c = weighed_all c.loop-k.invariant.1 (omega (arith, c.in-None.ensures.steps.0))

@@ -1,14 +1,9 @@
 -- `areas::too_late` meets its contract.
 use mathlib.Core.Path.{◌≡◌}
 use Prim.Native.Nat.{◌+◌}
-use lib.Count.{ones}
 use Rattle.bits.proofs.Walks.{Walk}
 use Rattle.tables.specs.Tables.{count_of, changeover_of}
-use Rattle.tables.specs.Part.{part_in}
 use Rattle.areas.proofs.too_late.Given as goal
 
-abbrev pub invariant-loop-todo : goal.invariant-loop-todo
-invariant-loop-todo l = (l.close ≡ l.target + changeover_of l.jobs) × Walk (part_in l.part).unplaced (count_of l.jobs) l.todo
-
-abbrev pub decreases-loop-todo : goal.decreases-loop-todo
-decreases-loop-todo l = ones l.todo
+abbrev pub invariant-loop-k : goal.invariant-loop-k
+invariant-loop-k l = (l.close ≡ l.target + changeover_of l.jobs) × Walk l.part.unplaced (count_of l.jobs) l.k-iterator.left

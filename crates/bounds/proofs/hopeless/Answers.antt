@@ -5,14 +5,16 @@ use mathlib.Core.Bool.{false}
 use mathlib.Core.List.{List}
 use Prim.Native.Nat.{ℕ}
 use native.Mathlib.Omega.{arith}
+use Rattle.tables.specs.declared.Jobs.{Jobs}
+use Rattle.tables.specs.declared.Part.{Part}
+use Rattle.tables.specs.declared.Prepared.{Prepared}
 use Rattle.counting.proofs.Tests.{clash}
-use Rattle.tables.specs.Part.{part_in}
 use Rattle.bounds.specs.Bounds.{Hopeless}
 use Rattle.bounds.proofs.Closing.{closes}
 use Rattle.bounds.proofs.hopeless.Goals as goal
 
-abbrev hopeless-by : List ℕ → List ℕ → List ℕ → List ℕ → ℕ → ℕ → ℕ → Type 0
-hopeless-by jobs prepared part at least T C = Hopeless jobs prepared (part_in part) at least T C
+abbrev hopeless-by : Jobs → Prepared → Part → List ℕ → ℕ → ℕ → ℕ → Type 0
+hopeless-by jobs prepared part at least T C = Hopeless jobs prepared part at least T C
 
 pub returns-then-close : goal.returns-then-close
 returns-then-close c = λ e. clash false e refl

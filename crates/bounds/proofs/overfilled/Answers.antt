@@ -3,7 +3,6 @@ use mathlib.Core.Path.{refl, subst}
 use mathlib.Core.Bool.{false}
 use Prim.Native.Nat.{ℕ}
 use Rattle.counting.proofs.Tests.{clash}
-use Rattle.tables.specs.Part.{part_in}
 use Rattle.fitting.specs.Fitting.{release_at, OverfullFrom}
 use Rattle.bounds.proofs.Closing.{closes}
 use Rattle.bounds.proofs.overfilled.Goals as goal
@@ -23,7 +22,7 @@ returns c =
     let a = else1.args in
     let e = closes a.target a.jobs.now else1.closing-close.ensures else1.if-close.false in
     record {
-      over = λ y. subst (λ (C : ℕ). OverfullFrom a.jobs.now (part_in a.part.now) (release_at a.at.now a.least) a.least C) e
+      over = λ y. subst (λ (C : ℕ). OverfullFrom a.jobs.now a.part.now (release_at a.at.now a.least) a.least C) e
           (c.overfull.ensures.over y);
       size = c.overfull.ensures.size;
     }

@@ -1,10 +1,6 @@
 -- `bounds::some_too_long` meets its contract.
-use lib.Count.{ones}
 use Rattle.bits.proofs.Walks.{Walk}
 use Rattle.bounds.proofs.some_too_long.Given as goal
 
-abbrev pub invariant-loop-todo : goal.invariant-loop-todo
-invariant-loop-todo l = Walk l.set l.count l.todo
-
-abbrev pub decreases-loop-todo : goal.decreases-loop-todo
-decreases-loop-todo l = ones l.todo
+abbrev pub invariant-loop-j : goal.invariant-loop-j
+invariant-loop-j l = Walk l.set l.count l.j-iterator.left

@@ -7,4 +7,4 @@ pub returns : goal.returns
 returns c = λ e.
     let start = c in
     let found = common_member 32 start.args.tried _ start.ranges.tried.fits (eqb-false _ 0 (not-true _ e)) in
-    rw c.related.ensures at found
+    found

@@ -7,8 +7,8 @@ use Rattle.branching.proofs.blocked.Goals as goal
 pub returns-then-placed-eq0 : goal.returns-then-placed-eq0
 returns-then-placed-eq0 c = λ e. clash false e refl
 
-pub returns-then-start-until : goal.returns-then-start-until
-returns-then-start-until c = λ e. clash false e refl
+pub returns-then-start-part : goal.returns-then-start-part
+returns-then-start-part c = λ e. clash false e refl
 
 pub returns : goal.returns
 returns c = λ e.

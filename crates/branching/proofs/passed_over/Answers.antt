@@ -6,10 +6,9 @@ use Rattle.branching.proofs.passed_over.Goals as goal
 pub returns-then-alike_tried : goal.returns-then-alike_tried
 returns-then-alike_tried c = λ e. inl (c.alike_tried.ensures c.if-alike_tried.true)
 
-pub returns-then-test32 : goal.returns-then-test32
-returns-then-test32 c = λ e.
-    let start = c.if-start-last.true ∙ c.last.ensures in
-    inr (inl (start, sym c.test32.ensures ∙ c.if-test32.true))
+pub returns-then-has : goal.returns-then-has
+returns-then-has c = λ e.
+    inr (inl (c.if-start-part.true, sym c.has.ensures ∙ c.if-has.true))
 
 pub swapped-requires : goal.swapped-requires
 swapped-requires c =

@@ -7,10 +7,10 @@ use Rattle.branching.proofs.starts_behind.Goals as goal
 pub returns-then-end-rest : goal.returns-then-end-rest
 returns-then-end-rest c = λ e. clash false e refl
 
-pub returns-then-test32 : goal.returns-then-test32
-returns-then-test32 c = λ e. clash false e refl
+pub returns-then-has : goal.returns-then-has
+returns-then-has c = λ e. clash false e refl
 
 pub returns : goal.returns
 returns c = λ e.
-    let placed = sym c.test32.ensures ∙ c.if-test32.false in
-    (c.if-end-rest.false, (placed, sym c.test32-2.ensures ∙ e))
+    let placed = sym c.has.ensures ∙ c.if-has.false in
+    (c.if-end-rest.false, (placed, sym c.has-2.ensures ∙ e))

@@ -3,7 +3,6 @@ use mathlib.Core.Logic.{inl}
 use Prim.Native.Nat.{◌<◌}
 use native.Mathlib.Omega.{arith}
 use Rattle.tables.specs.Tables.{count_of}
-use Rattle.tables.specs.Prepared.{related_in}
 use Rattle.branching.proofs.Trying.{try_alone, try_early}
 use Rattle.branching.proofs.to_try.Goals as goal
 
@@ -13,8 +12,8 @@ returns-then-least-eq-NO_MINUTE c = λ j l b. inl b
 pub first_alone-i-requires : goal.first_alone-i-requires
 first_alone-i-requires c = omega (arith, c.count-count.ensures, c.requires.few)
 
-pub set32-requires : goal.set32-requires
-set32-requires c = omega (arith, c.if-i-count.true, c.count-count.ensures, c.requires.few)
+pub with-requires : goal.with-requires
+with-requires c = omega (arith, c.if-i-count.true, c.count-count.ensures, c.requires.few)
 
 pub returns-then-i-count : goal.returns-then-i-count
 returns-then-i-count c =
@@ -24,7 +23,7 @@ returns-then-i-count c =
     let i = c.first_alone-i in
     let found = i.ensures c.if-i-count.true in
     let inside : i.result < count_of a.jobs.now = omega (arith, c.if-i-count.true, count.ensures) in
-    rw c.set32.ensures (try_alone a.jobs.now (related_in a.prepared.now) a.at.now a.least a.set start.requires
+    rw c.with.ensures (try_alone a.jobs.now a.prepared.now.related a.at.now a.least a.set start.requires
     i.result inside found.0 (omega (arith, c.if-least-eq-NO_MINUTE.false, start.ranges.least.fits)) found.1)
 
 pub first_end-requires : goal.first_end-requires
@@ -40,5 +39,5 @@ returns c =
     let count = c.count-count in
     let end = c.first_end in
     let all = c.early.ensures in
-    try_early a.jobs.now (related_in a.prepared.now) a.at.now a.least a.set start.requires end.result c.early.result
+    try_early a.jobs.now a.prepared.now.related a.at.now a.least a.set start.requires end.result c.early.result
     end.ensures (rw count.ensures at all)

@@ -1,52 +1,37 @@
 -- `candidates::next_choice` meets its contract.
 use mathlib.Core.Path.{refl}
-use Prim.Native.Nat.{◌%◌}
+use lib.ListN.{get_or}
 use native.Mathlib.Omega.{arith}
 use native.Mathlib.Nat.{pos_of_ne-zero}
 use Rattle.bits.proofs.Walks.{walk_less}
 use Rattle.candidates.proofs.Choices.{choosing-none, choosing-step, choosing_all}
 use Rattle.candidates.proofs.next_choice.Goals as goal
 
-pub below32-todo-requires : goal.below32-todo-requires
-below32-todo-requires c = omega (arith, c.requires)
+pub below-requires : goal.below-requires
+below-requires c = omega (arith, c.requires)
 
-pub loop-todo-init : goal.loop-todo-init
-loop-todo-init c = rw c.below32-todo.ensures (choosing-none c.args.at.now c.args.set c.args.count)
-
-pub lowest32-j-requires : goal.lowest32-j-requires
-lowest32-j-requires c = pos_of_ne-zero c.loop-todo-test.true
+pub loop-j-init : goal.loop-j-init
+loop-j-init c = rw (c.into_iter-j-iterator.ensures.into_iter_gives, c.members-j-items.ensures, c.below.ensures) (choosing-none c.args.at.now c.args.set c.args.count)
 
 pub offset_bounds-at-j : goal.offset_bounds-at-j
-offset_bounds-at-j c = record { fits = omega (arith, c.lowest32-j.ensures.0) }
+offset_bounds-at-j c = record { fits = omega (arith, c.in-Some.ensures.steps.0) }
 
 pub bounds-at-j : goal.bounds-at-j
-bounds-at-j c = omega (arith, c.loop-todo.invariant.walk.below _ c.lowest32-j.ensures.1, c.requires)
+bounds-at-j c = omega (arith, c.loop-j.invariant.walk.below _ c.in-Some.ensures.steps.1, c.requires)
 
-pub tail-requires : goal.tail-requires
-tail-requires c = omega (arith, c.loop-todo.invariant.walk.below _ c.lowest32-j.ensures.1, c.requires)
-
-pub without_lowest32-todo-requires : goal.without_lowest32-todo-requires
-without_lowest32-todo-requires c = pos_of_ne-zero c.loop-todo-test.true
-
-pub loop-todo-smaller : goal.loop-todo-smaller
-loop-todo-smaller c =
-    let low = c.lowest32-j.ensures in
-    rw (c.without_lowest32-todo.ensures _ low.1 low.2) (walk_less _ _ low.1)
-
-pub loop-todo-preserved : goal.loop-todo-preserved
-loop-todo-preserved c =
+pub loop-j-preserved : goal.loop-j-preserved
+loop-j-preserved c =
     let past = c in
     let a = past.args in
-    let loop = c.loop-todo in
-    let j = c.lowest32-j in
+    let loop = c.loop-j in
     let rank = c.rank_of.ensures in
     let choose = c.choose-c in
-    rw (c.without_lowest32-todo.ensures _ j.ensures.1 j.ensures.2)
-    (choosing-step a.at.now a.set a.count loop.todo j.result (c.tail.result % 65536) loop.c.job loop.c.rank
-    choose.result.job choose.result.rank rank.1 loop.invariant j.ensures.1 (rw rank.0 at choose.ensures))
+    rw (c.in-Some.ensures.steps.3)
+    (choosing-step a.at.now a.set a.count loop.j-iterator.left c.in-Some.j (get_or a.prepared.now.tails c.in-Some.j 0) loop.c.job loop.c.rank
+    choose.result.job choose.result.rank rank.1 loop.invariant c.in-Some.ensures.steps.1 (rw rank.0 at choose.ensures))
 
 pub returns : goal.returns
 returns c =
     let a = c.args in
-    let loop = c.loop-todo in
-    choosing_all a.at.now a.set a.count loop.todo loop.c.rank _ loop.invariant c.loop-todo-test.false refl
+    let loop = c.loop-j in
+    choosing_all a.at.now a.set a.count loop.j-iterator.left loop.c.rank _ loop.invariant c.in-None.ensures.steps.0 refl

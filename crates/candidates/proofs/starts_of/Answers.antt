@@ -5,54 +5,42 @@ use Rattle.bits.proofs.Walks.{walk_less}
 use Rattle.candidates.proofs.Starting.{starting-none, starting-step, starting_all}
 use Rattle.candidates.proofs.starts_of.Goals as goal
 
-pub below32-todo-requires : goal.below32-todo-requires
-below32-todo-requires c = omega (arith, c.count.ensures, c.requires.fit.few)
+pub below-requires : goal.below-requires
+below-requires c = omega (arith, c.count.ensures, c.requires.fit.few)
 
-pub loop-todo-init : goal.loop-todo-init
-loop-todo-init c =
+pub loop-j-init : goal.loop-j-init
+loop-j-init c =
     let pre = c.requires in
-    (pre, rw (c.below32-todo.ensures, c.unplaced.ensures, c.count.ensures) (starting-none (pre)))
-
-pub lowest32-j-requires : goal.lowest32-j-requires
-lowest32-j-requires c = pos_of_ne-zero c.loop-todo-test.true
+    (pre, rw (c.into_iter-j-iterator.ensures.into_iter_gives, c.members-j-items.ensures, c.below.ensures, c.count.ensures) (starting-none (pre)))
 
 pub next_start-s-requires : goal.next_start-s-requires
 next_start-s-requires c =
-    let loop = c.loop-todo in
+    let loop = c.loop-j in
     let known = loop.invariant.0 in
     let walk = loop.invariant.1.walk in
-    let low = c.lowest32-j.ensures.1 in
+    let low = c.in-Some.ensures.steps.1 in
     (known, (walk.below _ low, walk.inside _ low))
 
 pub offset_bounds-at-j : goal.offset_bounds-at-j
-offset_bounds-at-j c = record { fits = omega (arith, c.lowest32-j.ensures.0) }
+offset_bounds-at-j c = record { fits = omega (arith, c.in-Some.ensures.steps.0) }
 
 pub bounds-at-j : goal.bounds-at-j
 bounds-at-j c =
-    let loop = c.loop-todo in
-    omega (arith, loop.invariant.1.walk.below _ c.lowest32-j.ensures.1, loop.invariant.0.fit.few)
+    let loop = c.loop-j in
+    omega (arith, loop.invariant.1.walk.below _ c.in-Some.ensures.steps.1, loop.invariant.0.fit.few)
 
-pub without_lowest32-todo-requires : goal.without_lowest32-todo-requires
-without_lowest32-todo-requires c = pos_of_ne-zero c.loop-todo-test.true
-
-pub loop-todo-smaller : goal.loop-todo-smaller
-loop-todo-smaller c =
-    let low = c.lowest32-j.ensures in
-    rw (c.without_lowest32-todo.ensures _ low.1 low.2) (walk_less _ _ low.1)
-
-pub loop-todo-preserved : goal.loop-todo-preserved
-loop-todo-preserved c =
-    let lowest32 = c.lowest32-j in
+pub loop-j-preserved : goal.loop-j-preserved
+loop-j-preserved c =
     let next_start = c.next_start-s in
-    let low = lowest32.ensures in
-    let loop = c.loop-todo in (
+    let low = c.in-Some.ensures.steps in
+    let loop = c.loop-j in (
       loop.invariant.0,
-      rw (c.smaller-least.ensures, c.without_lowest32-todo.ensures _ low.1 low.2)
-          (starting-step loop.invariant.0 loop.at loop.least loop.todo lowest32.result next_start.result loop.invariant.1 low.1
+      rw (c.min-least.ensures, c.in-Some.ensures.steps.3)
+          (starting-step loop.invariant.0 loop.at loop.least loop.j-iterator.left c.in-Some.j next_start.result loop.invariant.1 low.1
           next_start.ensures),
     )
 
 pub returns : goal.returns
 returns c =
-    let loop = c.loop-todo in
-    starting_all loop.invariant.0 loop.at loop.least loop.todo loop.invariant.1 c.loop-todo-test.false
+    let loop = c.loop-j in
+    starting_all loop.invariant.0 loop.at loop.least loop.j-iterator.left loop.invariant.1 c.in-None.ensures.steps.0

@@ -2,20 +2,12 @@
 use mathlib.Core.Path.{ap, ◌∙◌}
 use mathlib.Core.List.{List, ◌++◌}
 use Prim.Native.Nat.{ℕ}
-use native.Mathlib.Omega.{arith}
-use lib.ListN.{take, drop, length-take}
+use lib.ListN.{take, drop}
 use Rattle.tables.specs.Tables.{sheet_of, count_of}
 use Rattle.card.specs.Card.{card_size, card_bytes}
 use Rattle.card.specs.Rows.{slot_row}
 use Rattle.card.proofs.Replays.{card_is}
 use Rattle.card.proofs.write_plan.Goals as goal
-
-pub write_card-requires : goal.write_card-requires
-write_card-requires c =
-    let pre = c.requires in
-    let a = c.args in
-    rw c.count.ensures
-    (pre.0.0.few, (omega (arith, pre.0.1.all, length-take (count_of a.jobs.now) a.order.now), pre.1.1))
 
 pub returns : goal.returns
 returns c =

@@ -9,4 +9,4 @@ pub returns : goal.returns
 unfolding row_bytes
 returns c =
     three_numbers c.args.part.now [] _ _ _ _ 0 2 2 8 c.args.start c.args.end c.args.modules refl c.requires refl
-    c.write16.ensures c.write16-2.ensures c.write64.ensures
+    c.write.ensures c.write-2.ensures c.write-3.ensures

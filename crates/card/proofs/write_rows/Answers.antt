@@ -9,14 +9,13 @@ use Rattle.counting.specs.Counting.{joined}
 use Rattle.counting.proofs.Joins.{joined_length, joined_more}
 use Rattle.card.specs.Card.{row_size}
 use Rattle.card.specs.Rows.{slot_row}
-use Rattle.words.proofs.Parts.{part_more, whole}
+use Rattle.words.proofs.Parts.{part_more}
 use Rattle.card.proofs.Joins.{row-length}
-use borrow.Author.Rules.{rules}
 use Rattle.card.proofs.write_rows.Goals as goal
 
 pub loop-j-init : goal.loop-j-init
 unfolding joined
-loop-j-init c = (search rules, refl, refl)
+loop-j-init c = (refl, refl)
 
 pub loop-j-preserved : goal.loop-j-preserved
 loop-j-preserved c =
@@ -28,24 +27,9 @@ loop-j-preserved c =
     let w = c.write_row in
     let size = joined_length j row_size f (λ i l. row-length _ _ _) in
     let next : row_size * j + row_size ≡ row_size * (j + 1) = omega arith in (
-      omega arith,
-      ap (λ (l : List ℕ). put_mid (row_size * j) (row_size * j + row_size - row_size * j) l w.new.part) loop.invariant.1
+      ap (λ (l : List ℕ). put_mid (row_size * j) (row_size * j + row_size - row_size * j) l w.new.part) loop.invariant.0
           ∙ part_more s (joined j f) w.new.part (row_size * j) (row_size * j + row_size) size (omega arith)
           ∙ ap₂ (λ (x : List ℕ) (k : ℕ). (joined j f ++ x) ++ drop k s) w.ensures next
           ∙ ap (λ (l : List ℕ). l ++ drop (row_size * (j + 1)) s) (joined_more j f),
-      same_len_mid (row_size * j) (row_size * j + row_size - row_size * j) loop.part w.new.part w.auto.part ∙ loop.invariant.2,
+      same_len_mid (row_size * j) (row_size * j + row_size - row_size * j) loop.part w.new.part w.auto.part ∙ loop.invariant.1,
     )
-
-pub shape_of-part : goal.shape_of-part
-shape_of-part c =
-    let loop = c.loop-j in
-    loop.invariant.2
-
-pub returns : goal.returns
-returns c =
-    let args = c.args in
-    let loop = c.loop-j in
-    let s = args.part.now in
-    let f : ℕ → List ℕ = slot_row args.slots in
-    let e : loop.j ≡ args.count = omega (arith, loop.invariant.0, c.loop-j-test.false) in
-    loop.invariant.1 ∙ whole s (joined loop.j f) (row_size * loop.j) (omega arith) ∙ ap (λ (i : ℕ). joined i f) e

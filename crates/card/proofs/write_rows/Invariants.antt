@@ -1,7 +1,7 @@
 -- `card::write_rows` meets its contract.
 use mathlib.Core.Path.{◌≡◌}
 use mathlib.Core.List.{◌++◌}
-use Prim.Native.Nat.{◌-◌, ◌*◌, ◌≤◌}
+use Prim.Native.Nat.{◌*◌}
 use lib.ListN.{length, drop}
 use Rattle.counting.specs.Counting.{joined}
 use Rattle.card.specs.Card.{row_size}
@@ -9,7 +9,4 @@ use Rattle.card.specs.Rows.{slot_row}
 use Rattle.card.proofs.write_rows.Given as goal
 
 abbrev pub invariant-loop-j : goal.invariant-loop-j
-invariant-loop-j l = (l.j ≤ l.count) × (l.part ≡ joined l.j (slot_row l.slots) ++ drop (row_size * l.j) l.initial.part) × (length l.part ≡ length l.initial.part)
-
-abbrev pub decreases-loop-j : goal.decreases-loop-j
-decreases-loop-j l = l.count - l.j
+invariant-loop-j l = (l.part ≡ joined l.j (slot_row l.slots) ++ drop (row_size * l.j) l.initial.part) × (length l.part ≡ length l.initial.part)

@@ -9,4 +9,4 @@ pub returns : goal.returns
 unfolding trailer_bytes
 returns c =
     three_numbers c.args.part.now [] _ _ _ _ 0 4 2 2 (order_at c.args.count) c.args.end c.args.count refl c.requires.1 refl
-    c.write32.ensures c.write16.ensures c.write16-2.ensures
+    c.write.ensures c.write-2.ensures c.write-3.ensures

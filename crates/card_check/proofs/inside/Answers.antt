@@ -1,5 +1,5 @@
 -- `card_check::inside` meets its contract: the set shifted by the cabinet's modules is 0 exactly where it has no others.
-use mathlib.Core.Path.{◌≡◌, refl, sym}
+use mathlib.Core.Path.{◌≡◌, refl}
 use mathlib.Core.Logic.{◌⊎◌, inl, inr}
 use Prim.Native.Nat.{ℕ, ◌/◌, ◌^◌, ◌<◌, ◌≤◌}
 use native.Mathlib.Omega.{arith}
@@ -19,11 +19,5 @@ quotient x y p = go (less-or-not x y)
         let q : 1 ≤ x / y = (le-div_iff_mul-le p).1 (omega (arith, l)) in
         rw (le-ltb x y l, ne_eqb (x / y) 0 (λ z. absurd (omega arith))) refl
 
-pub returns-then-modules-eq64 : goal.returns-then-modules-eq64
-returns-then-modules-eq64 c =
-    let e : c.args.modules ≡ 64 = c.if-modules-eq64.true in
-    let l : c.args.set < 2 ^ 64 = c.ranges.set.fits in
-    sym (rw e (lt-ltb c.args.set (2 ^ 64) l))
-
-pub returns : goal.returns
-returns c = quotient c.args.set (2 ^ c.args.modules) (pow_pos c.args.modules)
+pub returns-else-modules-eq64 : goal.returns-else-modules-eq64
+returns-else-modules-eq64 c = quotient c.args.set (2 ^ c.args.modules) (pow_pos c.args.modules)

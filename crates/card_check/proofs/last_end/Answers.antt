@@ -1,26 +1,13 @@
 -- `card_check::last_end` meets its contract.
-use mathlib.Core.Path.{◌≡◌, refl, ◌∙◌}
-use native.Mathlib.Omega.{arith}
+use mathlib.Core.Path.{refl, ◌∙◌}
 use native.Mathlib.Numerals.{add-one}
 use Rattle.counting.specs.Counting.{largest}
-use Rattle.tables.specs.Tables.{count_of}
 use Rattle.card_check.proofs.last_end.Goals as goal
 
 pub loop-j-init : goal.loop-j-init
 unfolding largest
-loop-j-init c = (omega arith, refl)
-
-pub finish-requires : goal.finish-requires
-finish-requires c =
-    let s = c.requires in
-    (omega (arith, s.fit.few), omega (arith, s.size))
+loop-j-init c = refl
 
 pub loop-j-preserved : goal.loop-j-preserved
 unfolding largest
-loop-j-preserved c = (omega arith, rw (add-one) (c.later-last.ensures ∙ rw (c.loop-j.invariant.1, c.finish.ensures.0) refl))
-
-pub returns : goal.returns
-returns c =
-    let a = c.args in
-    let e : c.loop-j.j ≡ count_of a.jobs.now = omega arith in
-    rw (← e) c.loop-j.invariant.1
+loop-j-preserved c = rw (add-one) (c.max-last.ensures ∙ rw (c.loop-j.invariant, c.finish.ensures.0) refl)

@@ -1,14 +1,10 @@
 -- `card_check::last_end` meets its contract.
 use mathlib.Core.Path.{◌≡◌}
-use Prim.Native.Nat.{◌≤◌, ◌-◌}
 use Rattle.counting.specs.Counting.{largest}
 use Rattle.schedule.specs.Plan.{finish}
-use Rattle.tables.specs.Tables.{sheet_of, count_of}
+use Rattle.tables.specs.Tables.{sheet_of}
 use Rattle.card.specs.Decoding.{plan_on}
 use Rattle.card_check.proofs.last_end.Given as goal
 
 abbrev pub invariant-loop-j : goal.invariant-loop-j
-invariant-loop-j l = (l.j ≤ count_of l.jobs) × (l.last ≡ largest l.j (finish (sheet_of l.jobs) (plan_on l.card)))
-
-abbrev pub decreases-loop-j : goal.decreases-loop-j
-decreases-loop-j l = l.count - l.j
+invariant-loop-j l = l.last ≡ largest l.j (finish (sheet_of l.jobs) (plan_on l.card))

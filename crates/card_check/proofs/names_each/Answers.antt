@@ -1,32 +1,22 @@
--- `card_check::names_each` meets its contract: each job that was passed is named once.
-use mathlib.Core.Bool.{true}
-use mathlib.Core.Path.{◌≡◌, refl, sym, subst, ◌∙◌}
-use Prim.Native.Nat.{ℕ}
+-- `card_check::names_each` meets its contract: each job is named once.
+use mathlib.Core.Path.{refl, ◌∙◌}
+use mathlib.Core.Bool.{Bool}
+use Prim.Native.Nat.{ℕ, ◌+◌}
+use borrow.Author.Rules.{rules}
 use native.Mathlib.Omega.{arith}
-use borrow.Author.Tests.{eq-eqb, ne_eqb}
-use Rattle.counting.specs.Counting.{every}
-use Rattle.counting.proofs.Loops.{every_more, every-not}
-use Rattle.card_check.proofs.names_each.Invariants.{once}
+use lib.Dec.{eqb}
+use lib.ListN.{get_or}
+use Rattle.std.proofs.Common.{tests}
+use Rattle.std.proofs.lemmas.Iterator.{YieldsList-from_range}
+use Rattle.std.proofs.lemmas.Iterator.Search.{all_from_yields_List}
+use Rattle.counting.specs.Counting.{count}
+use Rattle.counting.proofs.Iterated.{all_below}
+use Rattle.card.specs.Card.{order_at}
 use Rattle.card_check.proofs.names_each.Goals as goal
-
-pub loop-j-init : goal.loop-j-init
-unfolding every
-loop-j-init c = (omega arith, refl)
-
-pub returns-then-times_named-ne1 : goal.returns-then-times_named-ne1
-returns-then-times_named-ne1 c =
-    let a = c.args in
-    sym (every-not a.n (once a.card.now a.n) c.loop-j.j (omega arith) (ne_eqb _ 1 (λ e. c.if-times_named-ne1.true (c.times_named.ensures ∙ e))))
-
-pub loop-j-preserved : goal.loop-j-preserved
-loop-j-preserved c =
-    let a = c.args in (
-      omega arith,
-      every_more (once a.card.now a.n) c.loop-j.j c.loop-j.invariant.1 (eq-eqb _ 1 (sym c.times_named.ensures ∙ c.if-times_named-ne1.false)),
-    )
 
 pub returns : goal.returns
 returns c =
     let a = c.args in
-    let e : c.loop-j.j ≡ a.n = omega arith in
-    sym (subst (λ (n : ℕ). every n (once a.card.now a.n) ≡ true) e c.loop-j.invariant.1)
+    let p : ℕ → Bool = λ j. eqb (count a.n (λ k. eqb (get_or a.card.now (order_at a.n + k) 0) j)) 1 in
+    all_from_yields_List p _ _ _ c.all.ensures.ran (YieldsList-from_range 0 a.n a.n refl (omega arith)) (λ x b q k. search (rules, tests))
+    ∙ all_below a.n p

@@ -1,36 +1,23 @@
--- `card_check::pairs_fit` meets its contract: each job that was passed may stand beside job j.
-use mathlib.Core.Path.{◌≡◌, refl, sym, ◌∙◌}
+-- `card_check::pairs_fit` meets its contract: each job may stand beside job j.
+use mathlib.Core.Path.{refl, ap, ◌∙◌}
+use mathlib.Core.Bool.{Bool}
+use Prim.Native.Nat.{ℕ}
+use borrow.Author.Rules.{rules}
 use native.Mathlib.Omega.{arith}
+use Rattle.std.proofs.Common.{tests}
+use Rattle.std.proofs.lemmas.Iterator.{YieldsList-from_range}
+use Rattle.std.proofs.lemmas.Iterator.Search.{all_from_yields_List}
 use Rattle.counting.specs.Counting.{every}
-use Rattle.counting.proofs.Loops.{every_more, every-not}
-use Rattle.tables.specs.Tables.{sheet_of, count_of}
+use Rattle.counting.proofs.Iterated.{all_below}
+use Rattle.tables.specs.Tables.{sheet_of}
 use Rattle.card_check.specs.Test.{pair_fits}
 use Rattle.card_check.proofs.pairs_fit.Goals as goal
 
-pub loop-i-init : goal.loop-i-init
-unfolding every
-loop-i-init c = (omega arith, refl)
-
-pub pair_fits-requires : goal.pair_fits-requires
-pair_fits-requires c =
-    let s = c.requires.0 in
-    ((omega (arith, s.fit.few), omega (arith, s.size)), (omega (arith, s.fit.few), omega (arith, s.size)))
-
-pub returns-then-not-pair_fits : goal.returns-then-not-pair_fits
-returns-then-not-pair_fits c =
-    let a = c.args in
-    sym (every-not _ (pair_fits (sheet_of a.jobs.now) a.card.now a.j) c.loop-i.i (omega arith)
-    (sym c.pair_fits.ensures ∙ c.if-not-pair_fits.true))
-
-pub loop-i-preserved : goal.loop-i-preserved
-loop-i-preserved c =
-    let a = c.args in (
-      omega arith,
-      every_more (pair_fits (sheet_of a.jobs.now) a.card.now a.j) c.loop-i.i c.loop-i.invariant.1
-          (sym c.pair_fits.ensures ∙ c.if-not-pair_fits.false),
-    )
-
 pub returns : goal.returns
 returns c =
-    let e : c.loop-i.i ≡ count_of c.args.jobs.now = omega arith in
-    sym (rw (← e) c.loop-i.invariant.1)
+    let a = c.args in
+    let p : ℕ → Bool = pair_fits (sheet_of a.jobs.now) a.card.now a.j in
+    let n = c.count.result in
+    all_from_yields_List p _ _ _ c.all.ensures.ran (YieldsList-from_range 0 n n refl (omega arith)) (λ x b q k. search (rules, tests))
+    ∙ all_below n p
+    ∙ ap (λ (k : ℕ). every k p) c.count.ensures

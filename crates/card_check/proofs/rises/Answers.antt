@@ -1,7 +1,6 @@
 -- `card_check::rises` meets its contract: each place that was passed names a job that starts no earlier than the one before.
-use mathlib.Core.Bool.{true}
-use mathlib.Core.Path.{◌≡◌, refl, sym, subst}
-use Prim.Native.Nat.{ℕ, ◌≤◌, ◌<◌}
+use mathlib.Core.Path.{refl, sym}
+use Prim.Native.Nat.{◌≤◌, ◌<◌}
 use native.Mathlib.Omega.{arith}
 use native.Mathlib.Numerals.{add-one}
 use borrow.Author.Tests.{le-ltb, lt-ltb, lt-leb, le-leb}
@@ -14,12 +13,7 @@ use Rattle.card_check.proofs.rises.Goals as goal
 
 pub loop-k-init : goal.loop-k-init
 unfolding every
-loop-k-init c = (omega arith, (refl, refl))
-
-pub job_at-job-requires : goal.job_at-job-requires
-job_at-job-requires c =
-    let s = c.requires in
-    (omega (arith, s.fit.few), omega (arith, s.size))
+loop-k-init c = (refl, refl)
 
 pub returns-then-n-job : goal.returns-then-n-job
 returns-then-n-job c =
@@ -29,11 +23,6 @@ returns-then-n-job c =
     let outside : count_of a.jobs.now ≤ job_at S a.card.now c.loop-k.k = omega (arith, named, c.count-n.ensures, c.if-n-job.true) in
     sym (every-not _ (rises S a.card.now) c.loop-k.k (omega arith) (rw (le-ltb _ _ outside) refl))
 
-pub start-begins-requires : goal.start-begins-requires
-start-begins-requires c =
-    let s = c.requires in
-    omega (arith, s.size)
-
 pub returns-then-begins-last : goal.returns-then-begins-last
 returns-then-begins-last c =
     let a = c.args in
@@ -42,7 +31,7 @@ returns-then-begins-last c =
     let begins = rw named at c.start-begins.ensures.0 in
     let inside : job_at S a.card.now c.loop-k.k < count_of a.jobs.now = omega (arith, named, c.count-n.ensures, c.if-n-job.false) in
     let falls : start_on a.card.now (job_at S a.card.now c.loop-k.k) < start_before S a.card.now c.loop-k.k =
-    omega (arith, begins, c.loop-k.invariant.1.1, c.if-begins-last.true) in
+    omega (arith, begins, c.loop-k.invariant.1, c.if-begins-last.true) in
     sym (every-not _ (rises S a.card.now) c.loop-k.k (omega arith) (rw (lt-ltb _ _ inside, lt-leb _ _ falls) refl))
 
 pub loop-k-preserved : goal.loop-k-preserved
@@ -53,16 +42,7 @@ loop-k-preserved c =
     let begins = rw named at c.start-begins.ensures.0 in
     let inside : job_at S a.card.now c.loop-k.k < count_of a.jobs.now = omega (arith, named, c.count-n.ensures, c.if-n-job.false) in
     let steady : start_before S a.card.now c.loop-k.k ≤ start_on a.card.now (job_at S a.card.now c.loop-k.k) =
-    omega (arith, begins, c.loop-k.invariant.1.1, c.if-begins-last.false) in (
-      omega arith,
-      (
-        every_more (rises S a.card.now) c.loop-k.k c.loop-k.invariant.1.0 (rw (lt-ltb _ _ inside, le-leb _ _ steady) refl),
-        rw (add-one) begins,
-      ),
+    omega (arith, begins, c.loop-k.invariant.1, c.if-begins-last.false) in (
+      every_more (rises S a.card.now) c.loop-k.k c.loop-k.invariant.0 (rw (lt-ltb _ _ inside, le-leb _ _ steady) refl),
+      rw (add-one) begins,
     )
-
-pub returns : goal.returns
-returns c =
-    let a = c.args in
-    let e : c.loop-k.k ≡ count_of a.jobs.now = omega arith in
-    sym (subst (λ (n : ℕ). every n (rises (sheet_of a.jobs.now) a.card.now) ≡ true) e c.loop-k.invariant.1.0)

@@ -1,14 +1,10 @@
 -- `card_check::rises` meets its contract: each place that was passed names a job that starts no earlier than the one before.
 use mathlib.Core.Bool.{true}
 use mathlib.Core.Path.{◌≡◌}
-use Prim.Native.Nat.{◌≤◌, ◌-◌}
 use Rattle.counting.specs.Counting.{every}
-use Rattle.tables.specs.Tables.{sheet_of, count_of}
+use Rattle.tables.specs.Tables.{sheet_of}
 use Rattle.card_check.specs.Test.{start_before, rises}
 use Rattle.card_check.proofs.rises.Given as goal
 
 abbrev pub invariant-loop-k : goal.invariant-loop-k
-invariant-loop-k l = (l.k ≤ count_of l.jobs) × ((every l.k (rises (sheet_of l.jobs) l.card) ≡ true) × (l.last ≡ start_before (sheet_of l.jobs) l.card l.k))
-
-abbrev pub decreases-loop-k : goal.decreases-loop-k
-decreases-loop-k l = l.n - l.k
+invariant-loop-k l = (every l.k (rises (sheet_of l.jobs) l.card) ≡ true) × (l.last ≡ start_before (sheet_of l.jobs) l.card l.k)

@@ -1,34 +1,23 @@
--- `card_check::rows_fit` meets its contract: each row that was passed is right.
-use mathlib.Core.Path.{◌≡◌, refl, sym, subst, ◌∙◌}
-use mathlib.Core.Bool.{true}
+-- `card_check::rows_fit` meets its contract: each row is right.
+use mathlib.Core.Path.{refl, ap, ◌∙◌}
+use mathlib.Core.Bool.{Bool}
 use Prim.Native.Nat.{ℕ}
+use borrow.Author.Rules.{rules}
 use native.Mathlib.Omega.{arith}
+use Rattle.std.proofs.Common.{tests}
+use Rattle.std.proofs.lemmas.Iterator.{YieldsList-from_range}
+use Rattle.std.proofs.lemmas.Iterator.Search.{all_from_yields_List}
 use Rattle.counting.specs.Counting.{every}
-use Rattle.counting.proofs.Loops.{every_more, every-not}
-use Rattle.tables.specs.Tables.{sheet_of, count_of}
+use Rattle.counting.proofs.Iterated.{all_below}
+use Rattle.tables.specs.Tables.{sheet_of}
 use Rattle.card_check.specs.Test.{row_fits}
 use Rattle.card_check.proofs.rows_fit.Goals as goal
-
-pub loop-j-init : goal.loop-j-init
-unfolding every
-loop-j-init c = (omega arith, refl)
-
-pub returns-then-not-row_fits : goal.returns-then-not-row_fits
-returns-then-not-row_fits c =
-    let a = c.args in
-    sym (every-not _ (row_fits (sheet_of a.jobs.now) a.card.now) c.loop-j.j (omega arith)
-    (sym c.row_fits.ensures ∙ c.if-not-row_fits.true))
-
-pub loop-j-preserved : goal.loop-j-preserved
-loop-j-preserved c =
-    let a = c.args in (
-      omega arith,
-      every_more (row_fits (sheet_of a.jobs.now) a.card.now) c.loop-j.j c.loop-j.invariant.1
-          (sym c.row_fits.ensures ∙ c.if-not-row_fits.false),
-    )
 
 pub returns : goal.returns
 returns c =
     let a = c.args in
-    let e : c.loop-j.j ≡ count_of a.jobs.now = omega arith in
-    sym (subst (λ (n : ℕ). every n (row_fits (sheet_of a.jobs.now) a.card.now) ≡ true) e c.loop-j.invariant.1)
+    let p : ℕ → Bool = row_fits (sheet_of a.jobs.now) a.card.now in
+    let n = c.count.result in
+    all_from_yields_List p _ _ _ c.all.ensures.ran (YieldsList-from_range 0 n n refl (omega arith)) (λ x b q k. search (rules, tests))
+    ∙ all_below n p
+    ∙ ap (λ (k : ℕ). every k p) c.count.ensures

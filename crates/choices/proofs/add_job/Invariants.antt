@@ -5,6 +5,3 @@ use Rattle.choices.proofs.add_job.Given as goal
 
 abbrev pub invariant-loop-i : goal.invariant-loop-i
 invariant-loop-i l = Doubling l.initial.at l.count l.kept l.at l.i
-
-abbrev pub decreases-loop-i : goal.decreases-loop-i
-decreases-loop-i l = l.count - l.i

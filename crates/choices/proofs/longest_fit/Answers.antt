@@ -10,18 +10,18 @@ use Rattle.choices.proofs.longest_fit.Goals as goal
 
 pub loop-i-init : goal.loop-i-init
 unfolding longest largest
-loop-i-init c = (search rules, refl)
+loop-i-init c = refl
 
 pub loop-i-preserved : goal.loop-i-preserved
 unfolding longest largest
 loop-i-preserved c =
     let loop = c.loop-i in
     let fitting = c.fitting in
-    (search rules, rw (add-one, c.larger-r.ensures, loop.invariant.1, fitting.ensures))
+    rw (add-one, c.max-r.ensures, loop.invariant, fitting.ensures)
 
 pub returns : goal.returns
 returns c =
     let loop = c.loop-i in
     let args = c.args in
-    let e : loop.i ≡ args.count = omega (arith, loop.invariant.0, c.loop-i-test.false) in
-    loop.invariant.1 ∙ ap (λ (n : ℕ). longest args.at.now n args.x) e
+    let e : loop.i ≡ args.count = omega (arith, loop.auto.i-end, c.loop-i-test.false) in
+    loop.invariant ∙ ap (λ (n : ℕ). longest args.at.now n args.x) e

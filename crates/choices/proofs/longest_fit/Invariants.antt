@@ -5,7 +5,4 @@ use Rattle.choices.specs.Choices.{longest}
 use Rattle.choices.proofs.longest_fit.Given as goal
 
 abbrev pub invariant-loop-i : goal.invariant-loop-i
-invariant-loop-i l = (l.i ≤ l.count) × (l.r ≡ longest l.at l.i l.x)
-
-abbrev pub decreases-loop-i : goal.decreases-loop-i
-decreases-loop-i l = l.count - l.i
+invariant-loop-i l = l.r ≡ longest l.at l.i l.x

@@ -9,56 +9,43 @@ use Rattle.tables.proofs.Laws.{kept_short}
 use Rattle.choices.proofs.Choices.{summing-none, summing_to, summing-step, summing_all}
 use Rattle.choices.proofs.subset_sums.Goals as goal
 
-pub below32-todo-requires : goal.below32-todo-requires
-below32-todo-requires c = omega (arith, c.count.ensures, c.requires.1.few)
+pub below-requires : goal.below-requires
+below-requires c = omega (arith, c.count.ensures, c.requires.1.few)
 
-pub loop-todo-init : goal.loop-todo-init
-loop-todo-init c =
+pub loop-j-init : goal.loop-j-init
+loop-j-init c =
     let a = c.args in
     let t = a.jobs.now in
-    (rw (c.below32-todo.ensures, c.count.ensures) (summing-none t a.set (count_of t) a.at.now c.requires.0), refl)
-
-pub lowest32-j-requires : goal.lowest32-j-requires
-lowest32-j-requires c = pos_of_ne-zero c.loop-todo-test.true
+    (rw (c.into_iter-j-iterator.ensures.into_iter_gives, c.members-j-items.ensures, c.below.ensures, c.count.ensures) (summing-none t a.set (count_of t) a.at.now c.requires.0), refl)
 
 pub with_job-count-requires : goal.with_job-count-requires
 with_job-count-requires c =
     let a = c.args in
     let t = a.jobs.now in
     let fit = c.requires.1 in
-    let summing = c.loop-todo.invariant.0 in
-    let j = c.lowest32-j in
-    let inside = summing.walk.below j.result j.ensures.1 in (
-      summing_to t a.set (count_of t) summing j.result j.ensures.1 j.ensures.2,
-      (omega (arith, inside, fit.few), kept_short t fit j.result inside),
+    let summing = c.loop-j.invariant.0 in
+    let inside = summing.walk.below c.in-Some.j c.in-Some.ensures.steps.1 in (
+      summing_to t a.set (count_of t) summing c.in-Some.j c.in-Some.ensures.steps.1 c.in-Some.ensures.steps.2,
+      (omega (arith, inside, fit.few), kept_short t fit c.in-Some.j inside),
     )
 
-pub without_lowest32-todo-requires : goal.without_lowest32-todo-requires
-without_lowest32-todo-requires c = pos_of_ne-zero c.loop-todo-test.true
-
-pub loop-todo-smaller : goal.loop-todo-smaller
-loop-todo-smaller c =
-    let low = c.lowest32-j.ensures in
-    rw (c.without_lowest32-todo.ensures _ low.1 low.2) (walk_less _ _ low.1)
-
-pub loop-todo-preserved : goal.loop-todo-preserved
-loop-todo-preserved c =
+pub loop-j-preserved : goal.loop-j-preserved
+loop-j-preserved c =
     let past = c in
     let a = past.args in
     let t = a.jobs.now in
-    let loop = c.loop-todo in
-    let j = c.lowest32-j in
-    let low = j.ensures in
+    let loop = c.loop-j in
+    let low = c.in-Some.ensures.steps in
     let with-job = c.with_job-count in (
-      rw (c.without_lowest32-todo.ensures _ low.1 low.2)
-          (summing-step t a.set (count_of t) loop.invariant.0 j.result low.1 low.2 with-job.ensures),
+      rw (c.in-Some.ensures.steps.3)
+          (summing-step t a.set (count_of t) loop.invariant.0 c.in-Some.j low.1 low.2 with-job.ensures),
       with-job.auto.at ∙ loop.invariant.1,
     )
 
 pub shape_of-at : goal.shape_of-at
-shape_of-at c = c.loop-todo.invariant.1 ∙ length-set c.args.at.now 0 0
+shape_of-at c = c.loop-j.invariant.1 ∙ length-set c.args.at.now 0 0
 
 pub returns : goal.returns
 returns c =
     let a = c.args in
-    summing_all a.jobs.now a.set (count_of a.jobs.now) c.loop-todo.invariant.0 c.loop-todo-test.false
+    summing_all a.jobs.now a.set (count_of a.jobs.now) c.loop-j.invariant.0 c.in-None.ensures.steps.0

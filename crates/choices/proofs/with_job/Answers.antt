@@ -6,11 +6,11 @@ use Rattle.bits.specs.Bits.{bit}
 use Rattle.choices.proofs.Choices.{sums_skip, sums_none, sums-room, sums_more}
 use Rattle.choices.proofs.with_job.Goals as goal
 
-pub returns-then-not-test32 : goal.returns-then-not-test32
-returns-then-not-test32 c =
+pub returns-then-not-has : goal.returns-then-not-has
+returns-then-not-has c =
     let args = c.args in
-    let test32 = c.test32 in
-    let out : bit args.set args.j ≡ false = sym test32.ensures ∙ c.if-not-test32.true in
+    let has = c.has in
+    let out : bit args.set args.j ≡ false = sym has.ensures ∙ c.if-not-has.true in
     sums_skip c.requires.0 out
 
 pub overflow_mul-count : goal.overflow_mul-count

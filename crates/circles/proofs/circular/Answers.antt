@@ -27,21 +27,21 @@ returns-then-j-count c =
     let none = c.next_of-j.ensures.none (c.if-j-count.true ∙ inv.0) in
     record { yes = λ e. taken_stuck inv.1 none c.loop-left-test.true; no = λ e. clash true refl e }
 
-pub clear32-left-requires : goal.clear32-left-requires
-clear32-left-requires c = omega (arith, c.next_of-j.ensures.low, c.requires)
+pub without-left-requires : goal.without-left-requires
+without-left-requires c = omega (arith, c.next_of-j.ensures.low, c.requires)
 
 pub loop-left-smaller : goal.loop-left-smaller
 loop-left-smaller c =
     let next = c.next_of-j.ensures in
     let may = next.some (omega (arith, next.low, c.if-j-count.false, c.loop-left.invariant.0)) in
-    rw c.clear32-left.ensures (walk_less _ _ may.member)
+    rw c.without-left.ensures (walk_less _ _ may.member)
 
 pub loop-left-preserved : goal.loop-left-preserved
 loop-left-preserved c =
     let next = c.next_of-j.ensures in
     let inv = c.loop-left.invariant in
     let may = next.some (omega (arith, next.low, c.if-j-count.false, inv.0)) in
-    (inv.0, rw c.clear32-left.ensures (taken_step inv.1 may))
+    (inv.0, rw c.without-left.ensures (taken_step inv.1 may))
 
 pub returns : goal.returns
 returns c = record { yes = λ e. clash false e refl; no = λ e. taken_all c.loop-left.invariant.1 c.loop-left-test.false }

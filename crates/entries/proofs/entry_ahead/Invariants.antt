@@ -7,8 +7,4 @@ use Rattle.entries.proofs.entry_ahead.Given as goal
 
 -- where none is late so far, the last start is not, nor is any end so far
 abbrev pub invariant-loop-i : goal.invariant-loop-i
-invariant-loop-i l = (l.i ≤ l.jobs) × (l.late ≤ l.i + 1)
-    × (l.late ≡ 0 → (u16_at l.group l.at ≤ l.l) × ((k : ℕ) → k < l.i → u16_at l.group (l.at + 2 + 2 * k) ≤ max (get_or l.part k 0) l.rested))
-
-abbrev pub decreases-loop-i : goal.decreases-loop-i
-decreases-loop-i l = l.jobs - l.i
+invariant-loop-i l = (l.late ≤ l.i + 1) × (l.late ≡ 0 → (u16_at l.group l.at ≤ l.l) × ((k : ℕ) → k < l.i → u16_at l.group (l.at + 2 + 2 * k) ≤ max (get_or l.part.ends k 0) l.rested))

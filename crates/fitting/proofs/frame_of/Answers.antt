@@ -14,24 +14,24 @@ pub overflow_cast-most : goal.overflow_cast-most
 overflow_cast-most c = record { fits = omega (arith, div-le_self cells (c.args.count + 1)) }
 
 pub overflow_cast-step : goal.overflow_cast-step
-overflow_cast-step c = record { fits = omega (arith, c.smaller.ensures, div-le_self cells (c.args.count + 1)) }
+overflow_cast-step c = record { fits = omega (arith, c.min.ensures, div-le_self cells (c.args.count + 1)) }
 
 pub overflow_add-step : goal.overflow_add-step
 overflow_add-step c =
     let a = c.args in
     let columns = many_columns a.count c.requires.0 in
-    let short = short-step (a.close - a.least) (c.smaller.result + 1) (omega arith) (λ l. omega (arith, columns, c.smaller.ensures)) in
+    let short = short-step (a.close - a.least) (c.min.result + 1) (omega arith) (λ l. omega (arith, columns, c.min.ensures)) in
     record { fits = omega (arith, short, c.ranges.close) }
 
 pub returns : goal.returns
 returns c =
     let a = c.args in
     let columns = many_columns a.count c.requires.0 in
-    let few : c.smaller.result + 1 ≤ cells / (a.count + 1) = omega (arith, columns, c.smaller.ensures) in (
+    let few : c.min.result + 1 ≤ cells / (a.count + 1) = omega (arith, columns, c.min.ensures) in (
       (
         record {
           some = omega arith;
-          inside = few-steps (a.close - a.least) (c.smaller.result + 1) (omega arith);
+          inside = few-steps (a.close - a.least) (c.min.result + 1) (omega arith);
           before = c.requires.1;
         },
         le_trans (mul-le-mul_right (a.count + 1) few) (div-mul-le_self cells (a.count + 1)),

@@ -3,7 +3,6 @@ use native.Mathlib.Omega.{arith}
 use mathlib.Core.Path.{ap, ◌∙◌}
 use Prim.Native.Nat.{ℕ}
 use Rattle.bits.specs.Bits.{bit}
-use Rattle.tables.specs.Part.{part_in}
 use Rattle.fitting.proofs.Answers.{serving_by, overfull_by}
 use Rattle.fitting.proofs.gap.Goals as goal
 
@@ -33,12 +32,11 @@ returns c =
     let past = c in
     let start = past in
     let pre = start.requires.0 in
-    let part = part_in start.args.part.now in
+    let part = start.args.part.now in
     let fill = c.fill_rows-base.ensures.rows in
     let beside = past.values_of-value.ensures.1 in
-    let set = past.unplaced-unplaced.ensures in
     record {
-      over = (λ e. overfull_by pre.framed fill.1 part pre.all pre.released (λ k b. beside k (ap (λ (x : ℕ). bit x k) set ∙ b))
+      over = (λ e. overfull_by pre.framed fill.1 part pre.all pre.released beside
           (omega (arith, c.gap_of.ensures e, c.served-served.ensures.0, c.worth_of.ensures)));
       size = c.fill_rows-base.ensures.size;
     }

@@ -6,7 +6,4 @@ use Rattle.fitting.specs.Fitting.{slate_size}
 use Rattle.fitting.proofs.shown.Given as goal
 
 abbrev pub invariant-loop-turns : goal.invariant-loop-turns
-invariant-loop-turns l = (l.turns ≤ 2) × (length l.slate ≡ slate_size)
-
-abbrev pub decreases-loop-turns : goal.decreases-loop-turns
-decreases-loop-turns l = 2 - l.turns
+invariant-loop-turns l = length l.slate ≡ slate_size

@@ -9,7 +9,7 @@ shown-requires c =
     let start = past in
     let pre = start.requires in
     let frame = c.frame_of-frame.ensures in
-    let ordered = rw (past.count.ensures, past.unplaced.ensures) at past.ordered-left.ensures in
+    let ordered = rw (past.count.ensures) at past.ordered-left.ensures in
     let releases = past.releases_of-release.ensures in (
       tabling _ start.args.at.now pre.0.0.0 releases frame.1.0 frame.0.0 frame.0.1 ordered.0 ordered.1 pre.1.0
           pre.1.1,

@@ -1,5 +1,5 @@
 -- `free_modules::lowest_free` meets its contract.
-use mathlib.Core.Path.{◌≡◌, refl, ap, ◌∙◌}
+use mathlib.Core.Path.{refl, ap, ◌∙◌}
 use mathlib.Core.Bool.{cond, ◌&&◌}
 use Prim.Native.Nat.{ℕ}
 use native.Mathlib.Omega.{arith}
@@ -9,28 +9,16 @@ use Rattle.counting.specs.Counting.{sum}
 use Rattle.bits.specs.Bits.{with_bit, set_of}
 use Rattle.free_modules.specs.Lowest.{outside}
 use Rattle.free_modules.proofs.Laws.{lowest_more}
-use borrow.Author.Rules.{rules}
 use Rattle.free_modules.proofs.lowest_free.Goals as goal
 
 pub loop-m-init : goal.loop-m-init
 unfolding set_of sum
-loop-m-init c = (search rules, refl)
+loop-m-init c = refl
 
 pub loop-m-preserved : goal.loop-m-preserved
 loop-m-preserved c =
     let loop = c.loop-m in
-    let loop-test = c.loop-m-test in
     let a = c.args in
-    let m = loop.m in (
-      search rules,
-      c.take_module-set.ensures
-          ∙ ap (λ (x : ℕ). cond (outside a.busy m && ltb (ones x) a.want) (with_bit x m) x) loop.invariant.1
-          ∙ lowest_more a.modules (outside a.busy) a.want m loop-test.true,
-    )
-
-pub returns : goal.returns
-returns c =
-    let loop = c.loop-m in
-    let args = c.args in
-    let e : loop.m ≡ args.modules = omega (arith, loop.invariant.0, c.loop-m-test.false) in
-    rw e at loop.invariant.1
+    let m = loop.m in c.take_module-set.ensures
+    ∙ ap (λ (x : ℕ). cond (outside a.busy m && ltb (ones x) a.want) (with_bit x m) x) loop.invariant
+    ∙ lowest_more a.modules (outside a.busy) a.want m (omega arith)

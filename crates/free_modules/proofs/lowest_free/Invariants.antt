@@ -1,13 +1,9 @@
 -- `free_modules::lowest_free` meets its contract.
 use mathlib.Core.Path.{◌≡◌}
-use Prim.Native.Nat.{◌≤◌, ◌-◌}
 use Rattle.bits.specs.Bits.{set_of}
 use Rattle.schedule.specs.ListPlan.{lowest}
 use Rattle.free_modules.specs.Lowest.{outside}
 use Rattle.free_modules.proofs.lowest_free.Given as goal
 
 abbrev pub invariant-loop-m : goal.invariant-loop-m
-invariant-loop-m l = (l.m ≤ l.modules) × (l.set ≡ set_of l.m (lowest l.modules (outside l.busy) l.want))
-
-abbrev pub decreases-loop-m : goal.decreases-loop-m
-decreases-loop-m l = l.modules - l.m
+invariant-loop-m l = l.set ≡ set_of l.m (lowest l.modules (outside l.busy) l.want)

@@ -20,7 +20,7 @@ pub loop-j-preserved : goal.loop-j-preserved
 loop-j-preserved c =
     let arrival = c in
     let test = arrival in
-    rw (c.larger.ensures, c.latest_end.ensures, arrival.arrival.ensures)
+    rw (c.max.ensures, c.latest_end.ensures, arrival.arrival.ensures)
     (advancing-step test.loop-j.invariant (omega (arith, test.loop-j-test.true, test.count-n.ensures)))
 
 pub returns : goal.returns

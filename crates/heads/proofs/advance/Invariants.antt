@@ -5,6 +5,3 @@ use Rattle.heads.proofs.advance.Given as goal
 
 abbrev pub invariant-loop-j : goal.invariant-loop-j
 invariant-loop-j l = Advancing l.jobs l.k l.heads.at l.next l.j
-
-abbrev pub decreases-loop-j : goal.decreases-loop-j
-decreases-loop-j l = l.n - l.j

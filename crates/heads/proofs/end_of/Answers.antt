@@ -8,14 +8,14 @@ use Rattle.heads.proofs.end_of.Goals as goal
 pub overflow_add-result : goal.overflow_add-result
 overflow_add-result c = record { fits = omega (arith, c.minutes.ensures, c.requires.1) }
 
-pub returns-then-test32 : goal.returns-then-test32
-returns-then-test32 c =
+pub returns-then-has : goal.returns-then-has
+returns-then-has c =
     let args = c.args in
-    let e : bit args.set args.i ≡ true = sym c.test32.ensures ∙ c.if-test32.true in
+    let e : bit args.set args.i ≡ true = sym c.has.ensures ∙ c.if-has.true in
     rw (e, c.minutes.ensures)
 
 pub returns : goal.returns
 returns c =
     let args = c.args in
-    let e : bit args.set args.i ≡ false = sym c.test32.ensures ∙ c.if-test32.false in
+    let e : bit args.set args.i ≡ false = sym c.has.ensures ∙ c.if-has.false in
     rw e

@@ -9,7 +9,7 @@ use Rattle.heads.proofs.latest_end.Goals as goal
 
 pub loop-i-init : goal.loop-i-init
 unfolding largest
-loop-i-init c = (zero-le, refl)
+loop-i-init c = refl
 
 pub end_of-requires : goal.end_of-requires
 end_of-requires c =
@@ -20,10 +20,10 @@ end_of-requires c =
 pub loop-i-preserved : goal.loop-i-preserved
 unfolding largest
 loop-i-preserved c =
-    (omega (arith, c.loop-i-test.true), rw (add-one, c.larger-r.ensures, c.end_of.ensures, c.loop-i.invariant.1))
+    rw (add-one, c.max-r.ensures, c.end_of.ensures, c.loop-i.invariant)
 
 pub returns : goal.returns
 returns c =
     let count = c.count-n in
-    let e : c.loop-i.i ≡ count_of c.args.jobs.now = omega (arith, c.loop-i.invariant.0, c.loop-i-test.false, count.ensures) in
-    rw (e, c.earlier-earlier.ensures) at c.loop-i.invariant.1
+    let e : c.loop-i.i ≡ count_of c.args.jobs.now = omega (arith, c.loop-i.auto.i-end, c.loop-i-test.false, count.ensures) in
+    rw (e, c.earlier-earlier.ensures) at c.loop-i.invariant

@@ -8,7 +8,4 @@ use Rattle.tables.specs.Tables.{minutes_at}
 use Rattle.heads.proofs.latest_end.Given as goal
 
 abbrev pub invariant-loop-i : goal.invariant-loop-i
-invariant-loop-i l = (l.i ≤ l.n) × (l.r ≡ largest l.i (λ k. only (bit l.earlier k) (get_or l.heads k 0 + minutes_at l.jobs k)))
-
-abbrev pub decreases-loop-i : goal.decreases-loop-i
-decreases-loop-i l = l.n - l.i
+invariant-loop-i l = l.r ≡ largest l.i (λ k. only (bit l.earlier k) (get_or l.heads k 0 + minutes_at l.jobs k))

@@ -4,34 +4,23 @@ use Rattle.bits.proofs.Walks.{walk_less}
 use Rattle.job_sets.proofs.Choosing.{choosing_first, choosing_next}
 use Rattle.job_sets.proofs.busiest.Goals as goal
 
-pub loop-todo-init : goal.loop-todo-init
-loop-todo-init c =
-    let j = c.lowest32-best in
-    rw (c.without_lowest32-todo.ensures _ j.ensures.1 j.ensures.2) (choosing_first c.args.left c.requires.1 j.result j.ensures.1)
-
-pub lowest32-requires : goal.lowest32-requires
-lowest32-requires c = pos_of_ne-zero c.loop-todo-test.true
+pub loop-j-init : goal.loop-j-init
+loop-j-init c =
+    let low = c.lowest-best.ensures in
+    rw (c.into_iter-j-iterator.ensures.into_iter_gives, c.members-j-items.ensures, c.without_lowest.ensures _ low.1 low.2)
+    (choosing_first c.args.left c.requires.1 c.lowest-best.result low.1)
 
 pub busier-best-requires : goal.busier-best-requires
 busier-best-requires c =
-    let inv = c.loop-todo.invariant in
-    (inv.low, inv.walk.below _ c.lowest32.ensures.1)
+    let inv = c.loop-j.invariant in
+    (inv.low, inv.walk.below _ c.in-Some.ensures.steps.1)
 
-pub without_lowest32-todo-requires-in-loop-todo : goal.without_lowest32-todo-requires-in-loop-todo
-without_lowest32-todo-requires-in-loop-todo c = pos_of_ne-zero c.loop-todo-test.true
-
-pub loop-todo-smaller : goal.loop-todo-smaller
-loop-todo-smaller c =
-    let low = c.lowest32.ensures in
-    rw (c.without_lowest32-todo-in-loop-todo.ensures _ low.1 low.2) (walk_less _ _ low.1)
-
-pub loop-todo-preserved : goal.loop-todo-preserved
-loop-todo-preserved c =
-    let j = c.lowest32 in
-    let inv = c.loop-todo.invariant in
-    rw (c.without_lowest32-todo-in-loop-todo.ensures _ j.ensures.1 j.ensures.2) (choosing_next j.result _ inv j.ensures.1 c.busier-best.ensures)
+pub loop-j-preserved : goal.loop-j-preserved
+loop-j-preserved c =
+    let inv = c.loop-j.invariant in
+    rw (c.in-Some.ensures.steps.3) (choosing_next c.in-Some.j _ inv c.in-Some.ensures.steps.1 c.busier-best.ensures)
 
 pub returns : goal.returns
 returns c =
-    let inv = c.loop-todo.invariant in
+    let inv = c.loop-j.invariant in
     (inv.low, inv.member)

@@ -2,19 +2,13 @@
 use Rattle.job_sets.proofs.Answers.{refused, few_jobs, no_circle, answered}
 use Rattle.job_sets.proofs.set_count.Goals as goal
 
-pub returns-then-refusal-ne0 : goal.returns-then-refusal-ne0
-returns-then-refusal-ne0 c =
-    let front = c.front-checked in
-    refused c.args.sheet.now front.result front.ensures c.if-refusal-ne0.true
-
 pub sets_of-requires : goal.sets_of-requires
 sets_of-requires c =
     let s = c.args.sheet.now in
-    let front = c.front-checked in
-    let z = c.if-refusal-ne0.false in
-    (few_jobs s front.result front.ensures z, no_circle s front.result front.ensures z)
+    (few_jobs s c.in-Ok.jobs c.in-Ok.ensures, no_circle s c.in-Ok.jobs c.in-Ok.ensures)
 
-pub returns : goal.returns
-returns c =
-    let front = c.front-checked in
-    answered c.args.sheet.now front.result front.ensures c.if-refusal-ne0.false c.sets_of.result c.sets_of.ensures
+pub returns-in-Ok : goal.returns-in-Ok
+returns-in-Ok c = answered c.args.sheet.now c.in-Ok.jobs c.in-Ok.ensures c.sets_of.result c.sets_of.ensures
+
+pub returns-in-Err : goal.returns-in-Err
+returns-in-Err c = refused c.args.sheet.now c.in-Err.refusal c.in-Err.ensures c.number.result c.number.ensures

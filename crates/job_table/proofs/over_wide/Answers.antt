@@ -11,7 +11,7 @@ use Rattle.job_table.proofs.over_wide.Goals as goal
 
 pub loop-j-init : goal.loop-j-init
 unfolding any
-loop-j-init c = (omega arith, refl)
+loop-j-init c = refl
 
 pub returns-then-modules-need : goal.returns-then-modules-need
 unfolding over_wide
@@ -24,10 +24,10 @@ pub loop-j-preserved : goal.loop-j-preserved
 loop-j-preserved c =
     let t = c.args.jobs.now in
     let j = c.loop-j.j in
-    (omega arith, any_more (wide t) j c.loop-j.invariant.1 (le-ltb (modules_of t) (need_at t j) (omega arith)))
+    any_more (wide t) j c.loop-j.invariant (le-ltb (modules_of t) (need_at t j) (omega arith))
 
 pub returns : goal.returns
 unfolding over_wide
 returns c =
     let e : c.loop-j.j ≡ count_of c.args.jobs.now = omega arith in
-    sym (rw (← e) c.loop-j.invariant.1)
+    sym (rw (← e) c.loop-j.invariant)

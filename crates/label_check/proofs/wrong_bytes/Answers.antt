@@ -1,28 +1,22 @@
--- `label_check::wrong_bytes` meets its contract: after i bytes it is known whether one of them is wrong.
-use mathlib.Core.Path.{◌≡◌, refl, ap, ap₂, ◌∙◌}
+-- `label_check::wrong_bytes` meets its contract: none of the bytes before this one is wrong.
+use mathlib.Core.Path.{refl, sym, ap₂, ◌∙◌}
 use mathlib.Core.Bool.{◌||◌}
 use native.Mathlib.Numerals.{add-one}
-use native.Mathlib.Omega.{arith}
 use lib.ListN.{length}
 use Rattle.counting.specs.Counting.{any}
+use Rattle.counting.proofs.Ranges.{any_at}
 use Rattle.label_check.proofs.wrong_bytes.Invariants.{wrong}
 use Rattle.label_check.proofs.wrong_bytes.Goals as goal
 
-pub loop-i-init : goal.loop-i-init
+pub loop-b-init : goal.loop-b-init
 unfolding any
-loop-i-init c = (omega arith, refl)
+loop-b-init c = refl
 
-pub overflow_cast-bytes : goal.overflow_cast-bytes
-overflow_cast-bytes c = omega (arith, c.shared_slice_known-1.given c.loop-i.i)
+pub returns-then-outside : goal.returns-then-outside
+returns-then-outside c =
+    let s = c.args.bytes.now in
+    sym (any_at (length s) (wrong s) c.loop-b.b-index c.loop-b-test.true (sym c.outside.ensures ∙ c.if-outside.true))
 
-pub loop-i-preserved : goal.loop-i-preserved
+pub loop-b-preserved : goal.loop-b-preserved
 unfolding any
-loop-i-preserved c =
-    let v = c.loop-i in
-    (omega arith, rw add-one (c.either-found.ensures ∙ ap₂ ◌||◌ v.invariant.1 c.outside.ensures))
-
-pub returns : goal.returns
-returns c =
-    let v = c.loop-i in
-    let e : v.i ≡ length c.args.bytes.now = omega arith in
-    v.invariant.1 ∙ ap (λ k. any k (wrong c.args.bytes.now)) e
+loop-b-preserved c = rw add-one (ap₂ ◌||◌ c.loop-b.invariant (sym c.outside.ensures ∙ c.if-outside.false))

@@ -1,9 +1,9 @@
--- `label_check::wrong_bytes` meets its contract: after i bytes it is known whether one of them is wrong.
+-- `label_check::wrong_bytes` meets its contract: none of the bytes before this one is wrong.
 use mathlib.Core.Path.{◌≡◌}
-use mathlib.Core.Bool.{Bool}
+use mathlib.Core.Bool.{Bool, false}
 use mathlib.Core.List.{List}
-use Prim.Native.Nat.{ℕ, ◌-◌, ◌≤◌}
-use lib.ListN.{length, get_or}
+use Prim.Native.Nat.{ℕ}
+use lib.ListN.{get_or}
 use Rattle.counting.specs.Counting.{any}
 use Rattle.sheet_format.specs.Figures.{first_label_byte, last_label_byte}
 use Rattle.sheet_format.specs.Checks.{outside}
@@ -13,8 +13,5 @@ use Rattle.label_check.proofs.wrong_bytes.Given as goal
 abbrev pub wrong : List ℕ → ℕ → Bool
 wrong bytes k = outside first_label_byte last_label_byte (get_or bytes k 0)
 
-abbrev pub invariant-loop-i : goal.invariant-loop-i
-invariant-loop-i l = (l.i ≤ length l.bytes) × (l.found ≡ any l.i (wrong l.bytes))
-
-abbrev pub decreases-loop-i : goal.decreases-loop-i
-decreases-loop-i l = length l.bytes - l.i
+abbrev pub invariant-loop-b : goal.invariant-loop-b
+invariant-loop-b l = any l.b-index (wrong l.bytes) ≡ false

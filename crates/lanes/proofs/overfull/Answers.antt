@@ -5,7 +5,6 @@ use mathlib.Core.Bool.{false}
 use Prim.Native.Nat.{ℕ, ◌/◌}
 use borrow.Author.Tests.{ltb-true}
 use Rattle.counting.proofs.Tests.{clash}
-use Rattle.tables.specs.Prepared.{lanes_in}
 use Rattle.lanes.specs.Lanes.{ReachesTo}
 use Rattle.lanes.proofs.Laws.{serving, overfull_by}
 use Rattle.lanes.proofs.overfull.Goals as goal
@@ -27,7 +26,7 @@ served_on-requires c =
     let args = c.args in
     let pre = c.requires in
     let place = steps.ensures ∙ ap (λ (s : ℕ). args.close / s) step_of_lem.ensures in
-    let inside : ReachesTo (lanes_in args.prepared.now) args.close =
+    let inside : ReachesTo args.prepared.now.lanes args.close =
     (pre.0.1.step-some, omega (arith, place, c.if-steps-ge-STEPS.false)) in
     (inside, serving pre.0.1 args.close inside _ pre.1 pre.0.0.most if1.false)
 

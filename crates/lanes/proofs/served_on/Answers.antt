@@ -1,7 +1,6 @@
 -- `lanes::served_on` meets its contract.
 use native.Mathlib.Omega.{arith}
-use mathlib.Core.Path.{ap, ◌∙◌}
-use Prim.Native.Nat.{ℕ, min, max}
+use mathlib.Core.Path.{refl}
 use Rattle.weights.proofs.Walks.{walk_start, walk_fits, walk_step}
 use Rattle.lanes.proofs.Laws.{serve_start, serve-step, serve-done, serve_low, serve_all_low, reach_falls}
 use Rattle.lanes.proofs.served_on.Goals as goal
@@ -12,12 +11,9 @@ reach_from-reach-requires c = (c.requires.0, c.requires.1.before)
 pub loop-i-init : goal.loop-i-init
 loop-i-init c =
     let s = c.requires.1 in (
-      (c.placed-placed.ensures, c.requires.0),
-      (s, (walk_start _ s.profile s.narrow s.before, serve_start s c.reach_from-reach.result c.reach_from-reach.ensures)),
+      (refl, c.requires.0),
+      (s, (walk_start c.args.part.now s.profile s.narrow s.before, serve_start s c.reach_from-reach.result c.reach_from-reach.ensures)),
     )
-
-pub until-requires : goal.until-requires
-until-requires c = omega (arith, c.loop-i.invariant.0.0, c.loop-i.invariant.1.1.0.few, c.loop-i-test.true)
 
 pub reach_from-next-requires : goal.reach_from-next-requires
 reach_from-next-requires c =
@@ -54,24 +50,17 @@ overflow_add-total c =
     let low = serve_low inv.0 inv.1.0 inv.1.1 next.result (omega (arith, next.ensures, falls)) in
     rw c.lanes_on.ensures (record { fits = omega (arith, low) })
 
-pub held-f-requires : goal.held-f-requires
-held-f-requires c =
-    let loop-test = c.loop-i-test in
-    let loop = c.loop-i in
-    omega (arith, loop.invariant.0.0, loop.invariant.1.1.0.few, loop-test.true)
-
 pub overflow_add-f : goal.overflow_add-f
 overflow_add-f c =
     let loop-test = c.loop-i-test in
     let loop = c.loop-i in
     let inv = loop.invariant in
-    record { fits = omega (arith, c.held-f.ensures, walk_fits inv.1.1.0 (omega (arith, inv.0.0, loop-test.true))) }
+    record { fits = omega (arith, walk_fits inv.1.1.0 (omega (arith, inv.0.0, loop-test.true))) }
 
 pub loop-i-preserved : goal.loop-i-preserved
 loop-i-preserved c =
     let lanes_on = c.lanes_on in
     let next-end = c.next_end-to in
-    let until = c.until in
     let loop-test = c.loop-i-test in
     let past = c in
     let loop = c.loop-i in
@@ -79,10 +68,10 @@ loop-i-preserved c =
     let s = inv.1.0 in
     let walk = inv.1.1.0 in
     let next = c.reach_from-next in
-    let to = next-end.ensures ∙ ap (λ (x : ℕ). max loop.at (min x past.args.close)) until.ensures in
+    let to = next-end.ensures in
     let step = serve-step s walk inv.1.1.1 next-end.result next.result to next.ensures in
     let on = walk_step walk (omega (arith, inv.0.0, loop-test.true)) in
-    (inv.0, (s, (rw (to, c.held-f.ensures) on, rw lanes_on.ensures step)))
+    (inv.0, (s, (rw (to) on, rw lanes_on.ensures step)))
 
 pub lanes_on-requires-2 : goal.lanes_on-requires-2
 lanes_on-requires-2 c =

@@ -5,37 +5,32 @@ use native.Mathlib.Nat.{pos_of_ne-zero}
 use Rattle.bits.proofs.Walks.{walk_first, walk_next, walk_less}
 use Rattle.bits.proofs.Weighing.{weighed-none, weighed_more, weighed_small, weighed_all}
 use Rattle.tables.specs.Tables.{count_of}
-use Rattle.tables.specs.Part.{part_in}
 use Rattle.values.specs.Values.{most_lane_worth}
 use Rattle.lanes.proofs.set_worth.Goals as goal
 
-pub below32-todo-requires : goal.below32-todo-requires
-below32-todo-requires c = omega (arith, c.count.ensures, c.requires.0)
+pub below-requires : goal.below-requires
+below-requires c = omega (arith, c.count.ensures, c.requires.0)
 
-pub loop-todo-init : goal.loop-todo-init
-loop-todo-init c =
+pub loop-k-init : goal.loop-k-init
+loop-k-init c =
     let count = c.count in
-    let unplaced = c.unplaced in
     let args = c.args in
-    let set = (part_in args.part.now).unplaced in
+    let set = args.part.now.unplaced in
     let jobs = count_of args.jobs.now in
-    rw (c.below32-todo.ensures, unplaced.ensures, count.ensures) (walk_first jobs set, weighed-none set jobs _ 0 refl)
-
-pub lowest32-k-requires : goal.lowest32-k-requires
-lowest32-k-requires c = pos_of_ne-zero c.loop-todo-test.true
+    rw (c.into_iter-k-iterator.ensures.into_iter_gives, c.members-k-items.ensures, c.below.ensures, count.ensures) (walk_first jobs set, weighed-none set jobs _ 0 refl)
 
 pub worth_of-total-requires : goal.worth_of-total-requires
 worth_of-total-requires c =
-    let loop = c.loop-todo in
+    let loop = c.loop-k in
     let pre = c.requires in
-    omega (arith, pre.0, loop.invariant.0.below c.lowest32-k.result c.lowest32-k.ensures.1)
+    omega (arith, pre.0, loop.invariant.0.below c.in-Some.k c.in-Some.ensures.steps.1)
 
 pub overflow_add-total : goal.overflow_add-total
 overflow_add-total c =
     let pre = c.requires in
-    let loop = c.loop-todo in
-    let k = c.lowest32-k.result in
-    let member = c.lowest32-k.ensures.1 in
+    let loop = c.loop-k in
+    let k = c.in-Some.k in
+    let member = c.in-Some.ensures.steps.1 in
     let low = loop.invariant.0.below k member in
     record {
       fits = omega (
@@ -46,21 +41,13 @@ overflow_add-total c =
       );
     }
 
-pub without_lowest32-todo-requires : goal.without_lowest32-todo-requires
-without_lowest32-todo-requires c = pos_of_ne-zero c.loop-todo-test.true
-
-pub loop-todo-smaller : goal.loop-todo-smaller
-loop-todo-smaller c =
-    let low = c.lowest32-k.ensures in
-    rw (c.without_lowest32-todo.ensures _ low.1 low.2) (walk_less _ _ low.1)
-
-pub loop-todo-preserved : goal.loop-todo-preserved
-loop-todo-preserved c =
-    let loop = c.loop-todo in
-    let k = c.lowest32-k.result in
-    let low = c.lowest32-k.ensures in
-    rw (c.without_lowest32-todo.ensures _ low.1 low.2, c.worth_of-total.ensures)
+pub loop-k-preserved : goal.loop-k-preserved
+loop-k-preserved c =
+    let loop = c.loop-k in
+    let k = c.in-Some.k in
+    let low = c.in-Some.ensures.steps in
+    rw (c.in-Some.ensures.steps.3, c.worth_of-total.ensures)
     (walk_next k loop.invariant.0, weighed_more loop.invariant.1 k (loop.invariant.0.below k low.1) low.1)
 
 pub returns : goal.returns
-returns c = weighed_all c.loop-todo.invariant.1 (omega (arith, c.loop-todo-test.false))
+returns c = weighed_all c.loop-k.invariant.1 (omega (arith, c.in-None.ensures.steps.0))

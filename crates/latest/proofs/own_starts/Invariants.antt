@@ -1,18 +1,16 @@
 -- `latest::own_starts` meets its contract.
 use mathlib.Core.Path.{◌≡◌}
 use mathlib.Core.List.{List}
-use Prim.Native.Nat.{ℕ, ◌-◌, ◌≤◌}
+use Prim.Native.Nat.{ℕ}
+use Rattle.tables.specs.declared.Jobs.{Jobs}
 use Rattle.tables.specs.Tables.{count_of}
 use Rattle.marks.proofs.Steps.{Filled}
 use Rattle.latest.specs.Counted.{own_start}
 use Rattle.latest.proofs.own_starts.Given as goal
 
 -- what each place is to have
-abbrev pub Has : List ℕ → List ℕ → ℕ → ℕ → Type 0
+abbrev pub Has : Jobs → List ℕ → ℕ → ℕ → Type 0
 Has t departures j x = x ≡ own_start t departures j
 
 abbrev pub invariant-loop-j : goal.invariant-loop-j
-invariant-loop-j l = (l.j ≤ l.n) × (l.n ≡ count_of l.jobs) × Filled (Has l.jobs l.departures) l.j l.of
-
-abbrev pub decreases-loop-j : goal.decreases-loop-j
-decreases-loop-j l = l.n - l.j
+invariant-loop-j l = (l.n ≡ count_of l.jobs) × Filled (Has l.jobs l.departures) l.j l.of

@@ -1,11 +1,7 @@
 -- `marks::all_followed` meets its contract.
-use Prim.Native.Nat.{◌-◌, ◌≤◌}
 use Rattle.marks.specs.Marks.{FollowedBy}
 use Rattle.marks.proofs.Steps.{Filled}
 use Rattle.marks.proofs.all_followed.Given as goal
 
 abbrev pub invariant-loop-j : goal.invariant-loop-j
-invariant-loop-j l = (l.j ≤ l.n) × Filled (FollowedBy l.jobs) l.j l.of
-
-abbrev pub decreases-loop-j : goal.decreases-loop-j
-decreases-loop-j l = l.n - l.j
+invariant-loop-j l = Filled (FollowedBy l.jobs) l.j l.of

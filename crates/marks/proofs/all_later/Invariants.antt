@@ -1,5 +1,5 @@
 -- `marks::all_later` meets its contract.
-use Prim.Native.Nat.{ℕ, ◌-◌, ◌≤◌}
+use Prim.Native.Nat.{ℕ}
 use mathlib.Core.List.{List}
 use Rattle.marks.specs.Marks.{LaterThan}
 use Rattle.marks.proofs.Steps.{Filled}
@@ -10,7 +10,4 @@ abbrev pub Later : List ℕ → ℕ → ℕ → ℕ → Type 0
 Later before n i = LaterThan before i n
 
 abbrev pub invariant-loop-i : goal.invariant-loop-i
-invariant-loop-i l = (l.i ≤ l.n) × Filled (Later l.before l.n) l.i l.of
-
-abbrev pub decreases-loop-i : goal.decreases-loop-i
-decreases-loop-i l = l.n - l.i
+invariant-loop-i l = Filled (Later l.before l.n) l.i l.of

@@ -1,26 +1,14 @@
 -- `marks::followed_by` meets its contract.
-use mathlib.Core.Path.{◌≡◌}
-use native.Mathlib.Omega.{arith}
-use Rattle.tables.specs.Tables.{count_of}
 use Rattle.marks.proofs.Steps.{within_none, within_more}
 use Rattle.marks.proofs.followed_by.Goals as goal
 
 pub loop-k-init : goal.loop-k-init
 loop-k-init c =
     let a = c.args in
-    (omega arith, rw c.earlier-set.ensures (within_none a.jobs.now a.j))
-
-pub further-set-requires : goal.further-set-requires
-further-set-requires c = c.requires
+    rw c.earlier-set.ensures (within_none a.jobs.now a.j)
 
 pub loop-k-preserved : goal.loop-k-preserved
 loop-k-preserved c =
     let loop = c.loop-k in
     let a = c.args in
-    (omega arith, within_more a.jobs.now a.j loop.k loop.set c.further-set.result loop.invariant.1 c.further-set.ensures)
-
-pub returns : goal.returns
-returns c =
-    let loop = c.loop-k in
-    let e : loop.k ≡ count_of c.args.jobs.now = omega (arith, loop.invariant.0, c.loop-k-test.false, c.count-n.ensures) in
-    rw e at loop.invariant.1
+    within_more a.jobs.now a.j loop.k loop.set c.further-set.result loop.invariant c.further-set.ensures

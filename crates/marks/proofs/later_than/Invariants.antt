@@ -1,10 +1,6 @@
 -- `marks::later_than` meets its contract.
-use Prim.Native.Nat.{◌-◌, ◌≤◌}
 use Rattle.marks.specs.Marks.{LaterThan}
 use Rattle.marks.proofs.later_than.Given as goal
 
 abbrev pub invariant-loop-j : goal.invariant-loop-j
-invariant-loop-j l = (l.j ≤ l.n) × LaterThan l.before l.i l.j l.set
-
-abbrev pub decreases-loop-j : goal.decreases-loop-j
-decreases-loop-j l = l.n - l.j
+invariant-loop-j l = LaterThan l.before l.i l.j l.set

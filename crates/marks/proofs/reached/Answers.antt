@@ -1,23 +1,14 @@
 -- `marks::reached` meets its contract.
-use mathlib.Core.Path.{◌≡◌}
-use native.Mathlib.Omega.{arith}
-use Rattle.tables.specs.Tables.{count_of}
 use Rattle.marks.proofs.Steps.{reached-none, reached_more}
 use Rattle.marks.proofs.reached.Goals as goal
 
 pub loop-a-init : goal.loop-a-init
 loop-a-init c =
     let a = c.args in
-    (omega arith, reached-none a.jobs.now a.set)
+    reached-none a.jobs.now a.set
 
 pub loop-a-preserved : goal.loop-a-preserved
 loop-a-preserved c =
     let loop = c.loop-a in
     let a = c.args in
-    (omega arith, rw (c.with_earlier-all.ensures, c.earlier.ensures) (reached_more a.jobs.now a.set loop.a loop.all loop.invariant.1))
-
-pub returns : goal.returns
-returns c =
-    let loop = c.loop-a in
-    let e : loop.a ≡ count_of c.args.jobs.now = omega (arith, loop.invariant.0, c.loop-a-test.false, c.count-n.ensures) in
-    rw e at loop.invariant.1
+    rw (c.with_earlier-all.ensures, c.earlier.ensures) (reached_more a.jobs.now a.set loop.a loop.all loop.invariant)

@@ -1,10 +1,6 @@
 -- `marks::reached` meets its contract.
-use Prim.Native.Nat.{◌-◌, ◌≤◌}
 use Rattle.marks.specs.Marks.{Reached}
 use Rattle.marks.proofs.reached.Given as goal
 
 abbrev pub invariant-loop-a : goal.invariant-loop-a
-invariant-loop-a l = (l.a ≤ l.n) × Reached l.jobs l.set l.a l.all
-
-abbrev pub decreases-loop-a : goal.decreases-loop-a
-decreases-loop-a l = l.n - l.a
+invariant-loop-a l = Reached l.jobs l.set l.a l.all

@@ -34,12 +34,11 @@ returns-then-entry_ahead c =
     let rested = tested in
     let group = rested in
     let group_at = group.group_at-from in
-    let unplaced = group.unplaced-unplaced in
     let a = group.args in
     let m = a.memory.now in
-    λ e. subst (λ (u : ℕ). Hit m a.jobs a.part.now u a.l a.rest) unplaced.ensures
-    (hit-at m a.jobs a.part.now unplaced.result a.l a.rest group_at.result (group_of (length m) unplaced.result)
-    (count_trailing_zeros 32 loop.ways) group_at.ensures.0 group_at.ensures.1 in_group (rw rested.rested_by-rested.ensures at (entry-ahead.ensures c.if-entry_ahead.true)))
+    λ e.
+    hit-at m a.jobs a.part.now.ends group.args.part.now.unplaced a.l a.rest group_at.result (group_of (length m) group.args.part.now.unplaced)
+    (count_trailing_zeros 32 loop.ways) group_at.ensures.0 group_at.ensures.1 in_group (rw rested.rested_by-rested.ensures at (entry-ahead.ensures c.if-entry_ahead.true))
 
 pub loop-ways-smaller : goal.loop-ways-smaller
 loop-ways-smaller c =

@@ -1,6 +1,5 @@
 -- `memory::remember` meets its contract.
 use lib.ListN.{length}
-use Rattle.tables.specs.Part.{part_in}
 use Rattle.memory.specs.Entries.{group_of}
 use Rattle.memory.proofs.Slots.{adds_none, adds-at}
 use Rattle.memory.proofs.remember.Goals as goal
@@ -8,7 +7,7 @@ use Rattle.memory.proofs.remember.Goals as goal
 pub returns-then-len-lt-GROUP : goal.returns-then-len-lt-GROUP
 returns-then-len-lt-GROUP c =
     let a = c.args in
-    let p = part_in a.part.now in
+    let p = a.part.now in
     adds_none a.memory.now a.jobs p.ends p.unplaced p.last
 
 pub returns : goal.returns
@@ -17,7 +16,7 @@ returns c =
     let group = c in
     let group_at = group.group_at-from in
     let a = group.args in
-    let p = part_in a.part.now in
-    let g = group_of (length a.memory.now) group.unplaced.result in
+    let p = a.part.now in
+    let g = group_of (length a.memory.now) group.args.part.now.unplaced in
     adds-at a.memory.now a.jobs p.ends p.unplaced p.last store.new.group group_at.result g
     group_at.ensures.0 group_at.ensures.1 c.memory-1.given.0 store.ensures

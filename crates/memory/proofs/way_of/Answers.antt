@@ -3,4 +3,4 @@ use native.Mathlib.Omega.{arith}
 use Rattle.memory.proofs.way_of.Goals as goal
 
 pub loop-i-preserved : goal.loop-i-preserved
-loop-i-preserved c = (omega arith, c.mixed-h.ensures)
+loop-i-preserved c = c.mixed-h.ensures

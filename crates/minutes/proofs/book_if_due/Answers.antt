@@ -1,24 +1,13 @@
 -- `minutes::book_if_due` meets its contract.
 use mathlib.Core.Path.{sym, ap, ◌∙◌}
 use Prim.Native.Nat.{ℕ, ◌*◌}
-use native.Mathlib.Omega.{arith}
 use borrow.Author.Tests.{eq-eqb, ne_eqb}
 use Rattle.tables.specs.Tables.{sheet_of}
 use Rattle.minutes.proofs.Calls.{none_due, event_due}
 use Rattle.minutes.proofs.book_if_due.Goals as goal
 
-pub due_minute-requires : goal.due_minute-requires
-due_minute-requires c =
-    let s = c.requires.0 in
-    (omega (arith, s.fit.few), omega (arith, s.size))
-
 pub returns-then-due_minute-turn : goal.returns-then-due_minute-turn
 returns-then-due_minute-turn c = rw (ne_eqb _ _ (λ e. c.if-due_minute-turn.true (c.due_minute.ensures.0 ∙ e))) (none_due c.args.desk)
-
-pub overflow_mul-power : goal.overflow_mul-power
-overflow_mul-power c =
-    let p = c.requires.1 in
-    record { fits = rw c.need.ensures (p.1 c.args.j p.0) }
 
 pub returns : goal.returns
 returns c =

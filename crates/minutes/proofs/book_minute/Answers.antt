@@ -1,6 +1,7 @@
 -- `minutes::book_minute` meets its contract.
 use mathlib.Core.List.{List}
 use Prim.Native.Nat.{ℕ}
+use Rattle.tables.specs.declared.Jobs.{Jobs}
 use Rattle.tables.specs.Tables.{sheet_of}
 use Rattle.card.specs.Decoding.{plan_on}
 use Rattle.desk.specs.Calls.{Call}
@@ -9,10 +10,10 @@ use Rattle.minutes.specs.declared.Turn.{Turn}
 use Rattle.minutes.proofs.Calls.{first-refused, second-refused, both-granted}
 use Rattle.minutes.proofs.book_minute.Goals as goal
 
-abbrev hand-backs : List ℕ → List ℕ → Turn → List Call
+abbrev hand-backs : Jobs → List ℕ → Turn → List Call
 hand-backs jobs card turn = hand_backs_due (sheet_of jobs) (plan_on card) turn.size turn.controller turn.minute
 
-abbrev claims : List ℕ → List ℕ → Turn → List Call
+abbrev claims : Jobs → List ℕ → Turn → List Call
 claims jobs card turn = claims_due (sheet_of jobs) (plan_on card) turn.size turn.controller turn.minute
 
 pub returns-then-refusal-ne0 : goal.returns-then-refusal-ne0

@@ -1,39 +1,31 @@
 -- `opening::some_pair_wrong` meets its contract: no pair that was passed is wrong.
 use mathlib.Core.Path.{◌≡◌, refl, sym, ◌∙◌}
-use mathlib.Core.Bool.{Bool, true, false}
-use native.Mathlib.Omega.{arith}
+use mathlib.Core.Bool.{true, false}
 use lib.ListN.{length}
+use Rattle.std.proofs.lemmas.List.{length_push}
+use Rattle.std.proofs.lemmas.Slice.Zip.{zip_turn}
 use Rattle.counting.specs.Counting.{any}
 use Rattle.counting.proofs.Loops.{any_more, any_at}
 use Rattle.opening.proofs.some_pair_wrong.Invariants.{wrong}
 use Rattle.opening.proofs.some_pair_wrong.Goals as goal
 
-pub loop-i-init : goal.loop-i-init
+pub loop-share-init : goal.loop-share-init
 unfolding any
-loop-i-init c = (omega arith, refl)
+loop-share-init c = refl
 
 pub returns-then-wrong_pair : goal.returns-then-wrong_pair
 returns-then-wrong_pair c =
-    let pair =
     let a = c.args in
-    wrong a.limit a.assured.now a.ceilings.now in
-    let tested : (b : Bool) → c.wrong_pair.result ≡ b
-    → pair c.loop-i.i ≡ b = λ b e. sym c.wrong_pair.ensures ∙ e in
-    sym (any_at _ pair c.loop-i.i c.loop-i-test.true (tested true c.if-wrong_pair.true))
+    let t = zip_turn a.assured.now a.ceilings.now c.loop-share.yielded c.into_iter-share-iterator.result c.loop-share.share-iterator c.next.new.self _ (cc) (cc) c.loop-share.yielded_by _ c.in-Some.is c.next.ensures.steps in
+    let e : wrong a.limit a.assured.now a.ceilings.now (length c.loop-share.yielded) ≡ true =
+    rw (← t.2 0, ← t.3 0) (sym c.wrong_pair.ensures ∙ c.if-wrong_pair.true) in
+    sym (any_at _ (wrong a.limit a.assured.now a.ceilings.now) (length c.loop-share.yielded) t.0 e)
 
-pub loop-i-smaller : goal.loop-i-smaller
-loop-i-smaller c = omega arith
-
-pub loop-i-preserved : goal.loop-i-preserved
-loop-i-preserved c =
-    let pair =
+pub loop-share-preserved : goal.loop-share-preserved
+loop-share-preserved c =
     let a = c.args in
-    wrong a.limit a.assured.now a.ceilings.now in
-    let tested : (b : Bool) → c.wrong_pair.result ≡ b
-    → pair c.loop-i.i ≡ b = λ b e. sym c.wrong_pair.ensures ∙ e in
-    (omega arith, any_more pair c.loop-i.i c.loop-i.invariant.1 (tested false c.if-wrong_pair.false))
-
-pub returns : goal.returns
-returns c =
-    let e : c.loop-i.i ≡ length c.args.assured.now = omega arith in
-    sym (rw (← e) c.loop-i.invariant.1)
+    let t = zip_turn a.assured.now a.ceilings.now c.loop-share.yielded c.into_iter-share-iterator.result c.loop-share.share-iterator c.next.new.self _ (cc) (cc) c.loop-share.yielded_by _ c.in-Some.is c.next.ensures.steps in
+    let e : wrong a.limit a.assured.now a.ceilings.now (length c.loop-share.yielded) ≡ false =
+    rw (← t.2 0, ← t.3 0) (sym c.wrong_pair.ensures ∙ c.if-wrong_pair.false) in
+    rw (length_push c.loop-share.yielded (c.in-Some.share, c.in-Some.ceiling))
+    (any_more (wrong a.limit a.assured.now a.ceilings.now) (length c.loop-share.yielded) c.loop-share.invariant e)

@@ -2,7 +2,7 @@
 use mathlib.Core.Path.{◌≡◌}
 use mathlib.Core.Bool.{Bool, false}
 use mathlib.Core.List.{List}
-use Prim.Native.Nat.{ℕ, ◌≤◌, ◌-◌}
+use Prim.Native.Nat.{ℕ}
 use lib.ListN.{length, get_or}
 use Rattle.counting.specs.Counting.{any}
 use Rattle.desk.specs.Checks.{wrong_pair}
@@ -11,8 +11,5 @@ use Rattle.opening.proofs.some_pair_wrong.Given as goal
 abbrev pub wrong : ℕ → List ℕ → List ℕ → ℕ → Bool
 wrong limit assured ceilings i = wrong_pair limit (get_or assured i 0) (get_or ceilings i 0)
 
-abbrev pub invariant-loop-i : goal.invariant-loop-i
-invariant-loop-i l = (l.i ≤ length l.assured) × (any l.i (wrong l.limit l.assured l.ceilings) ≡ false)
-
-abbrev pub decreases-loop-i : goal.decreases-loop-i
-decreases-loop-i l = length l.assured - l.i
+abbrev pub invariant-loop-share : goal.invariant-loop-share
+invariant-loop-share l = any (length l.yielded) (wrong l.limit l.assured l.ceilings) ≡ false

@@ -17,6 +17,6 @@ returns c =
     let modules = c.modules.ensures in
     let advance = c.advance-ended in
     let all_hold = c.all_hold in
-    let held = rw c.unplaced.ensures at all_hold.ensures in
+    let held = all_hold.ensures in
     λ e. overlapping-at start.args.m advance.result start.requires.1.1 (rw modules at advance.ensures)
     (omega (arith, ltb-true advance.result.free all_hold.result e, held))

@@ -7,35 +7,24 @@ use Rattle.counting.proofs.Tests.{clash}
 use Rattle.bits.proofs.Walks.{walk_first, walk_next, walk_less}
 use Rattle.overlaps.proofs.overlapping.Goals as goal
 
-pub below32-todo-requires : goal.below32-todo-requires
-below32-todo-requires c = omega (arith, c.count.ensures, c.requires.0.few)
+pub below-requires : goal.below-requires
+below-requires c = omega (arith, c.count.ensures, c.requires.0.few)
 
-pub loop-todo-init : goal.loop-todo-init
-loop-todo-init c = rw (c.below32-todo.ensures, c.count.ensures, c.unplaced.ensures) (walk_first _ _)
-
-pub lowest32-k-requires : goal.lowest32-k-requires
-lowest32-k-requires c = pos_of_ne-zero c.loop-todo-test.true
+pub loop-k-init : goal.loop-k-init
+loop-k-init c = rw (c.into_iter-k-iterator.ensures.into_iter_gives, c.members-k-items.ensures, c.below.ensures, c.count.ensures) (walk_first _ _)
 
 pub no_room_for-requires : goal.no_room_for-requires
 no_room_for-requires c =
     let pre = c.requires in
-    (pre.0, (pre.1, omega (arith, c.loop-todo.invariant.below _ c.lowest32-k.ensures.1, pre.0.few)))
+    (pre.0, (pre.1, omega (arith, c.loop-k.invariant.below _ c.in-Some.ensures.steps.1, pre.0.few)))
 
 pub returns-then-no_room_for : goal.returns-then-no_room_for
 returns-then-no_room_for c = λ e. c.no_room_for.ensures c.if-no_room_for.true
 
-pub without_lowest32-todo-requires : goal.without_lowest32-todo-requires
-without_lowest32-todo-requires c = pos_of_ne-zero c.loop-todo-test.true
-
-pub loop-todo-smaller : goal.loop-todo-smaller
-loop-todo-smaller c =
-    let low = c.lowest32-k.ensures in
-    rw (c.without_lowest32-todo.ensures _ low.1 low.2) (walk_less _ _ low.1)
-
-pub loop-todo-preserved : goal.loop-todo-preserved
-loop-todo-preserved c =
-    let low = c.lowest32-k.ensures in
-    rw (c.without_lowest32-todo.ensures _ low.1 low.2) (walk_next _ c.loop-todo.invariant)
+pub loop-k-preserved : goal.loop-k-preserved
+loop-k-preserved c =
+    let low = c.in-Some.ensures.steps in
+    rw (c.in-Some.ensures.steps.3) (walk_next _ c.loop-k.invariant)
 
 pub returns : goal.returns
 returns c = λ e. clash false e refl

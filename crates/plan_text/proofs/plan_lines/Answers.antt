@@ -18,8 +18,8 @@ overflow_add-jobs c =
       fits = omega (arith, ap (λ (r : Reading). r.count) c.read-found.ensures, few c.args.sheet.now);
     }
 
-pub read16-end-requires : goal.read16-end-requires
-read16-end-requires c =
+pub read-end-requires : goal.read-end-requires
+read-end-requires c =
     omega (arith, c.requires, ap (λ (r : Reading). r.count) c.read-found.ensures, few c.args.sheet.now)
 
 pub overflow_cast-jobs : goal.overflow_cast-jobs
@@ -30,4 +30,4 @@ overflow_cast-jobs c =
 
 pub returns : goal.returns
 returns c =
-    rw (c.with_rows.ensures, c.plan_line-text.ensures, adding_more, c.read16-end.ensures, c.read-found.ensures) refl
+    rw (c.with_rows.ensures, c.plan_line-text.ensures, adding_more, c.read-end.ensures, c.read-found.ensures) refl

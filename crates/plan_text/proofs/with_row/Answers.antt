@@ -7,8 +7,8 @@ returns c =
     rw (
       c.with_line.ensures,
       c.label_in-label.ensures.0,
-      c.read64-modules.ensures,
-      c.read16-end.ensures,
-      c.read16-start.ensures,
+      c.read-modules.ensures,
+      c.read-end.ensures,
+      c.read-start.ensures,
     )
     refl

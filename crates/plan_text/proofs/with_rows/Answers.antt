@@ -11,7 +11,7 @@ use Rattle.plan_text.proofs.with_rows.Goals as goal
 
 pub loop-j-init : goal.loop-j-init
 unfolding adding joined
-loop-j-init c = (omega arith, refl)
+loop-j-init c = refl
 
 pub offset_bounds-found-j : goal.offset_bounds-found-j
 offset_bounds-found-j c =
@@ -27,13 +27,10 @@ with_row-next-requires c =
 
 pub loop-j-preserved : goal.loop-j-preserved
 loop-j-preserved c =
-    let loop = c.loop-j in (
-      omega arith,
-      rw (c.with_row-next.ensures, loop.invariant.1, adding_more, c.requires.0) (ap (adding _) (joined_more loop.j _)),
-    )
+    let loop = c.loop-j in rw (c.with_row-next.ensures, loop.invariant, adding_more, c.requires.0) (ap (adding _) (joined_more loop.j _))
 
 pub returns : goal.returns
 returns c =
     let loop = c.loop-j in
     let all : loop.j ≡ c.args.found.count = omega arith in
-    rw (loop.invariant.1, all, c.requires.0) refl
+    rw (loop.invariant, all, c.requires.0) refl

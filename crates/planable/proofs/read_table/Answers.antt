@@ -1,22 +1,19 @@
 -- `planable::read_table` meets its contract.
+use mathlib.Core.Path.{sym}
+use Rattle.std.proofs.lemmas.Result.{err_from_is_err_and}
 use Rattle.planable.proofs.Tables.{places_read, few_read, sums_read}
-use Rattle.planable.proofs.Planable.{not_read, reads_well, is_read}
 use Rattle.planable.proofs.read_table.Goals as goal
 
-pub returns-then-refusal-ne0 : goal.returns-then-refusal-ne0
-returns-then-refusal-ne0 c =
-    let read = c.read-found in
-    rw read.ensures (not_read c.args.sheet.now _ (rw read.ensures at c.if-refusal-ne0.true))
+pub returns-in_err-found : goal.returns-in_err-found
+returns-in_err-found c =
+    let p = err_from_is_err_and c.from_residual.result c.from_residual.ensures.1 in
+    rw (p.1, p.2) (record { refusal = c.in_err-found.ensures.refusal; table = tt })
 
-pub table_of-jobs-requires : goal.table_of-jobs-requires
-table_of-jobs-requires c =
+pub table_of-requires : goal.table_of-requires
+table_of-requires c =
     let s = c.args.sheet.now in
-    let read = c.read-found in
-    let well = reads_well s (rw read.ensures at c.if-refusal-ne0.false) in
-    rw read.ensures (places_read s well, (few_read s well, sums_read s well))
+    let well = sym c.in_ok-found.ensures.refusal in
+    rw c.in_ok-found.ensures.answer (places_read s well, (few_read s well, sums_read s well))
 
 pub returns : goal.returns
-returns c =
-    let read = c.read-found in
-    is_read c.args.sheet.now (rw read.ensures at c.if-refusal-ne0.false) _
-    (rw read.ensures at c.table_of-jobs.ensures)
+returns c = record { refusal = c.in_ok-found.ensures.refusal; table = rw c.in_ok-found.ensures.answer at c.table_of.ensures }

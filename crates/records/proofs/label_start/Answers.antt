@@ -9,17 +9,17 @@ use Rattle.records.proofs.label_start.Goals as goal
 
 pub loop-i-init : goal.loop-i-init
 unfolding sum
-loop-i-init c = (omega arith, refl, omega arith)
+loop-i-init c = (refl, omega arith)
 
 pub loop-i-preserved : goal.loop-i-preserved
 unfolding sum
 loop-i-preserved c =
     let v = c.loop-i in
-    (omega arith, rw add-one (ap₂ ◌+◌ v.invariant.1 c.label_length-total.ensures.0), omega arith)
+    (rw add-one (ap₂ ◌+◌ v.invariant.0 c.label_length-total.ensures.0), omega arith)
 
 pub returns : goal.returns
 returns c =
     let v = c.loop-i in
     let a = c.args in
     let e : v.i ≡ a.job = omega arith in
-    (v.invariant.1 ∙ ap (λ k. label_lengths k (jobs_in a.jobs)) e, omega arith)
+    (v.invariant.0 ∙ ap (λ k. label_lengths k (jobs_in a.jobs)) e, omega arith)

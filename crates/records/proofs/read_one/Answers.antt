@@ -8,4 +8,4 @@ unfolding record_at
 returns c =
     let third = c in
     let second = third in
-    rw (second.read16.ensures, second.read32.ensures, third.read16-2.ensures, c.read16-3.ensures) refl
+    rw (second.read.ensures, second.read-2.ensures, third.read-3.ensures, c.read-4.ensures) refl

@@ -12,15 +12,14 @@ use Rattle.records.proofs.survey.Goals as goal
 
 pub loop-i-init : goal.loop-i-init
 unfolding sum any
-loop-i-init c = (omega arith, refl, refl, omega arith)
+loop-i-init c = (refl, refl, omega arith)
 
 pub loop-i-preserved : goal.loop-i-preserved
 unfolding sum any
 loop-i-preserved c =
     let v = c.loop-i in (
-      omega arith,
-      rw add-one (ap₂ ◌+◌ v.invariant.1 c.label_length-total.ensures.0),
-      rw add-one (c.either-found.ensures ∙ ap₂ ◌||◌ v.invariant.2 c.faulty.ensures),
+      rw add-one (ap₂ ◌+◌ v.invariant.0 c.label_length-total.ensures.0),
+      rw add-one (ap₂ ◌||◌ v.invariant.1 c.faulty-found.ensures),
       omega arith,
     )
 
@@ -28,6 +27,6 @@ pub returns : goal.returns
 returns c =
     let v = c.loop-i in
     let e : v.i ≡ c.args.count = omega arith in (
-      v.invariant.1 ∙ ap (λ k. label_lengths k (jobs_in c.args.jobs)) e,
-      v.invariant.2 ∙ ap (λ k. any k (λ m. faulty c.args.count (jobs_in c.args.jobs m))) e,
+      v.invariant.0 ∙ ap (λ k. label_lengths k (jobs_in c.args.jobs)) e,
+      v.invariant.1 ∙ ap (λ k. any k (λ m. faulty c.args.count (jobs_in c.args.jobs m))) e,
     )

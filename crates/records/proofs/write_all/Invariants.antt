@@ -1,7 +1,7 @@
 -- `records::write_all` meets its contract: the first i records stand in front, and behind them what was there.
 use mathlib.Core.Path.{◌≡◌}
 use mathlib.Core.List.{List, ◌++◌}
-use Prim.Native.Nat.{ℕ, ◌-◌, ◌*◌, ◌≤◌}
+use Prim.Native.Nat.{ℕ, ◌*◌}
 use lib.ListN.{length, drop}
 use Rattle.counting.specs.Counting.{joined}
 use Rattle.sheet_format.specs.declared.Job.{Job}
@@ -15,7 +15,4 @@ written jobs n = joined n (λ i. record_bytes (jobs_in jobs i))
 
 abbrev pub invariant-loop-i : goal.invariant-loop-i
 invariant-loop-i l =
-    (l.i ≤ l.count) × (l.part ≡ written l.jobs l.i ++ drop (record_size * l.i) l.initial.part) × (length l.part ≡ length l.initial.part)
-
-abbrev pub decreases-loop-i : goal.decreases-loop-i
-decreases-loop-i l = l.count - l.i
+    (l.part ≡ written l.jobs l.i ++ drop (record_size * l.i) l.initial.part) × (length l.part ≡ length l.initial.part)

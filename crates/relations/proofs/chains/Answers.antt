@@ -9,20 +9,20 @@ use Rattle.relations.proofs.Chaining.{chains-none}
 use Rattle.relations.proofs.chains.Goals as goal
 
 pub loop-k-init : goal.loop-k-init
-loop-k-init c = (search rules, chains-none _)
+loop-k-init c = chains-none _
 
 pub lengthen-tails-requires : goal.lengthen-tails-requires
 lengthen-tails-requires c =
     let at = c in
-    (at.requires, (c.loop-k.invariant.1, omega (arith, c.loop-k-test.true, at.count-n.ensures, at.requires.few)))
+    (at.requires, (c.loop-k.invariant, omega (arith, c.loop-k-test.true, at.count-n.ensures, at.requires.few)))
 
 pub loop-k-preserved : goal.loop-k-preserved
-loop-k-preserved c = (search rules, c.lengthen-tails.ensures)
+loop-k-preserved c = c.lengthen-tails.ensures
 
 pub returns : goal.returns
 returns c =
     let loop = c.loop-k in
     let at = c in
     let t = at.args.jobs.now in
-    let e : loop.k ≡ count_of t = omega (arith, loop.invariant.0, c.loop-k-test.false, at.count-n.ensures) in
-    subst (λ (n : ℕ). ChainsOf t loop.tails.at n) e loop.invariant.1
+    let e : loop.k ≡ count_of t = omega (arith, loop.auto.k-end, c.loop-k-test.false, at.count-n.ensures) in
+    subst (λ (n : ℕ). ChainsOf t loop.tails.at n) e loop.invariant

@@ -4,7 +4,4 @@ use Rattle.relations.specs.Relations.{ChainsOf}
 use Rattle.relations.proofs.chains.Given as goal
 
 abbrev pub invariant-loop-k : goal.invariant-loop-k
-invariant-loop-k l = (l.k ≤ l.n) × ChainsOf l.jobs l.tails.at l.k
-
-abbrev pub decreases-loop-k : goal.decreases-loop-k
-decreases-loop-k l = l.n - l.k
+invariant-loop-k l = ChainsOf l.jobs l.tails.at l.k

@@ -4,7 +4,4 @@ use Rattle.relations.proofs.Waiting.{LatersTo}
 use Rattle.relations.proofs.later_jobs.Given as goal
 
 abbrev pub invariant-loop-i : goal.invariant-loop-i
-invariant-loop-i l = (l.i ≤ l.n) × LatersTo l.jobs l.i l.of
-
-abbrev pub decreases-loop-i : goal.decreases-loop-i
-decreases-loop-i l = l.n - l.i
+invariant-loop-i l = LatersTo l.jobs l.i l.of

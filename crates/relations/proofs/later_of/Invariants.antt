@@ -4,7 +4,4 @@ use Rattle.relations.specs.Relations.{LaterOf}
 use Rattle.relations.proofs.later_of.Given as goal
 
 abbrev pub invariant-loop-k : goal.invariant-loop-k
-invariant-loop-k l = (l.k ≤ l.n) × LaterOf l.jobs l.i l.k l.set
-
-abbrev pub decreases-loop-k : goal.decreases-loop-k
-decreases-loop-k l = l.n - l.k
+invariant-loop-k l = LaterOf l.jobs l.i l.k l.set

@@ -5,6 +5,3 @@ use Rattle.relations.proofs.lengthen.Given as goal
 
 abbrev pub invariant-loop-j : goal.invariant-loop-j
 invariant-loop-j l = Lengthening l.jobs l.k l.tails.at l.next l.j
-
-abbrev pub decreases-loop-j : goal.decreases-loop-j
-decreases-loop-j l = l.n - l.j

@@ -8,7 +8,4 @@ use Rattle.tables.specs.Tables.{earlier_at}
 use Rattle.relations.proofs.longest_behind.Given as goal
 
 abbrev pub invariant-loop-i : goal.invariant-loop-i
-invariant-loop-i l = (l.i ≤ l.n) × (l.r ≡ largest l.i (λ k. only (bit (earlier_at l.jobs k) l.j) (get_or l.tails k 0)))
-
-abbrev pub decreases-loop-i : goal.decreases-loop-i
-decreases-loop-i l = l.n - l.i
+invariant-loop-i l = l.r ≡ largest l.i (λ k. only (bit (earlier_at l.jobs k) l.j) (get_or l.tails k 0))

@@ -2,8 +2,8 @@
 use mathlib.Core.Path.{refl, sym, ◌∙◌}
 use Rattle.relations.proofs.with_later.Goals as goal
 
-pub returns-then-test32 : goal.returns-then-test32
-returns-then-test32 c = c.set32.ensures ∙ rw (sym c.test32.ensures ∙ c.if-test32.true) refl
+pub returns-then-has : goal.returns-then-has
+returns-then-has c = c.with.ensures ∙ rw (sym c.has.ensures ∙ c.if-has.true) refl
 
 pub returns : goal.returns
-returns c = rw (sym c.test32.ensures ∙ c.if-test32.false) refl
+returns c = rw (sym c.has.ensures ∙ c.if-has.false) refl

@@ -1,10 +1,6 @@
 -- `releases::ended` meets its contract.
-use lib.Count.{ones}
 use Rattle.releases.proofs.Laws.{Ending}
 use Rattle.releases.proofs.ended.Given as goal
 
-abbrev pub invariant-loop-todo : goal.invariant-loop-todo
-invariant-loop-todo l = Ending l.jobs l.release l.set l.latest l.todo
-
-abbrev pub decreases-loop-todo : goal.decreases-loop-todo
-decreases-loop-todo l = ones l.todo
+abbrev pub invariant-loop-i : goal.invariant-loop-i
+invariant-loop-i l = Ending l.jobs l.release l.set l.latest l.i-iterator.left

@@ -7,7 +7,4 @@ use Rattle.releases.specs.Releases.{first_at}
 use Rattle.releases.proofs.firsts_of.Given as goal
 
 abbrev pub invariant-loop-k : goal.invariant-loop-k
-invariant-loop-k l = (l.k ≤ most_jobs) × Put (λ x. x) (replicate most_jobs 0) l.next l.k (first_at l.at l.least)
-
-abbrev pub decreases-loop-k : goal.decreases-loop-k
-decreases-loop-k l = most_jobs - l.k
+invariant-loop-k l = Put (λ x. x) (replicate most_jobs 0) l.next l.k (first_at l.at l.least)

@@ -8,7 +8,7 @@ pub ended-least-requires : goal.ended-least-requires
 ended-least-requires c =
     let count = c in
     let args = count.args in
-    let is = rw (c.earlier.ensures, count.count-count.ensures) at c.below32-before.ensures in
+    let is = rw (c.earlier.ensures, count.count-count.ensures) at c.below-before.ensures in
     rw is (λ i b. omega (arith, before_below args.jobs.now args.set args.k (count_of args.jobs.now) i b, count.requires.0.few))
 
 pub returns : goal.returns
@@ -17,12 +17,12 @@ returns c =
     let below = ended in
     let count = below in
     let args = count.args in
-    let is = rw (below.earlier.ensures, count.count-count.ensures) at below.below32-before.ensures in
+    let is = rw (below.earlier.ensures, count.count-count.ensures) at below.below-before.ensures in
     let least = rw is at ended.ended-least.ensures in (
-      omega (arith, c.larger.ensures),
+      omega (arith, c.max.ensures),
       λ x own others. omega (
         arith,
-        c.larger.ensures,
+        c.max.ensures,
         own,
         least x (λ i b.
             let what = before_is args.jobs.now args.set args.k (count_of args.jobs.now) i b in

@@ -10,7 +10,7 @@ pub loop-k-init : goal.loop-k-init
 loop-k-init c =
     let put = c.firsts_of-first.ensures in
     let pre = c.requires in
-    (omega arith, put.size ∙ length-replicate {A = ℕ} 20 0, firsts pre.0 put pre.1)
+    (put.size ∙ length-replicate {A = ℕ} 20 0, firsts pre.0 put pre.1)
 
 pub raised-r-requires : goal.raised-r-requires
 raised-r-requires c =
@@ -29,26 +29,16 @@ bounds-next-k c =
     let count = test in
     omega (arith, test.loop-k-test.true, count.count-count.ensures, count.requires.0.few)
 
-pub overflow_add-k : goal.overflow_add-k
-overflow_add-k c =
-    let test = c in
-    let count = test in
-    record { fits = omega (arith, test.loop-k-test.true, count.count-count.ensures, count.requires.0.few) }
-
-pub loop-k-smaller : goal.loop-k-smaller
-loop-k-smaller c = omega (arith, c.loop-k-test.true)
-
 pub loop-k-preserved : goal.loop-k-preserved
 loop-k-preserved c =
     let test = c in
     let inv = test.loop-k.invariant in
     let count = test in
     let raised = c.raised-r.ensures in (
-      omega (arith, test.loop-k-test.true),
-      length-set test.loop-k.next test.loop-k.k c.raised-r.result ∙ inv.1,
-      raised_more inv.2 _ _ (omega (arith, test.loop-k-test.true, count.count-count.ensures))
-          (omega (arith, inv.1, test.loop-k-test.true, count.count-count.ensures, count.requires.0.few)) raised.0 raised.1,
+      length-set test.loop-k.next test.loop-k.k c.raised-r.result ∙ inv.0,
+      raised_more inv.1 _ _ (omega (arith, test.loop-k-test.true, count.count-count.ensures))
+          (omega (arith, inv.0, test.loop-k-test.true, count.count-count.ensures, count.requires.0.few)) raised.0 raised.1,
     )
 
 pub returns : goal.returns
-returns c = c.loop-k.invariant.2
+returns c = c.loop-k.invariant.1

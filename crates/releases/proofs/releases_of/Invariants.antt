@@ -7,7 +7,4 @@ use Rattle.releases.specs.Releases.{Releases}
 use Rattle.releases.proofs.releases_of.Given as goal
 
 abbrev pub invariant-loop-k : goal.invariant-loop-k
-invariant-loop-k l = (l.k ≤ l.count) × (length l.next ≡ most_jobs) × Releases l.jobs l.at l.set l.least l.next
-
-abbrev pub decreases-loop-k : goal.decreases-loop-k
-decreases-loop-k l = l.count - l.k
+invariant-loop-k l = (length l.next ≡ most_jobs) × Releases l.jobs l.at l.set l.least l.next

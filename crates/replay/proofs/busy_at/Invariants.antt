@@ -1,11 +1,7 @@
 -- `replay::busy_at` meets its contract.
 use mathlib.Core.Path.{◌≡◌}
-use Prim.Native.Nat.{◌≤◌, ◌-◌}
 use Rattle.replay.specs.Slots.{busy_at}
 use Rattle.replay.proofs.busy_at.Given as goal
 
 abbrev pub invariant-loop-i : goal.invariant-loop-i
-invariant-loop-i l = (l.i ≤ l.count) × (l.set ≡ busy_at l.slots l.i l.rest l.t)
-
-abbrev pub decreases-loop-i : goal.decreases-loop-i
-decreases-loop-i l = l.count - l.i
+invariant-loop-i l = l.set ≡ busy_at l.slots l.i l.rest l.t

@@ -1,18 +1,12 @@
 -- `replay::replay` meets its contract.
 use mathlib.Core.Path.{◌≡◌}
-use Prim.Native.Nat.{◌-◌, ◌≤◌}
 use lib.ListN.{take}
 use Rattle.schedule.specs.ListPlan.{part_of}
 use Rattle.tables.specs.Tables.{sheet_of, count_of}
-use Rattle.tables.specs.Part.{part_in}
 use Rattle.placement.specs.Part.{IsPart}
 use Rattle.replay.proofs.PlacedSlots.{SlotsOf}
 use Rattle.replay.proofs.replay.Given as goal
 
 abbrev pub invariant-loop-k : goal.invariant-loop-k
-invariant-loop-k l =
-    (l.count ≡ count_of l.jobs) × (l.k ≤ l.count) × IsPart (sheet_of l.jobs) (take l.k l.order) (part_in l.part)
+invariant-loop-k l = (l.count ≡ count_of l.jobs) × IsPart (sheet_of l.jobs) (take l.k l.order) l.part
     × SlotsOf (sheet_of l.jobs) (part_of (sheet_of l.jobs) (take l.k l.order)) l.slots
-
-abbrev pub decreases-loop-k : goal.decreases-loop-k
-decreases-loop-k l = l.count - l.k

@@ -10,18 +10,16 @@ use Rattle.runner.proofs.step.Goals as goal
 pub returns-then-look-ne0 : goal.returns-then-look-ne0
 returns-then-look-ne0 c =
     let a = c.args in
-    wrong-desk a.desk a.runner
-    (look-refused a.desk a.runner.controller (λ z. c.if-look-ne0.true (ap (λ (r : Looked). r.refusal) c.look.ensures ∙ z)))
-
-pub returns-then-not-kept : goal.returns-then-not-kept
-returns-then-not-kept c =
-    let of-desk : not_of_desk c.args.desk c.args.runner.controller ≡ false = look-granted _ _ (ap (λ (r : Looked). r.refusal) (sym c.look.ensures) ∙ c.if-look-ne0.false) in
-    let a = c.args in
-    not-kept a.desk a.runner of-desk (sym c.test_kept-kept.ensures.ok ∙ c.if-not-kept.true)
+    rw c.number.ensures (wrong-desk a.desk a.runner
+    (look-refused a.desk a.runner.controller (λ z. c.if-look-ne0.true (ap (λ (r : Looked). r.refusal) c.look.ensures ∙ z))))
 
 pub step_kept-requires : goal.step_kept-requires
 step_kept-requires c =
     let of-desk : not_of_desk c.args.desk c.args.runner.controller ≡ false = look-granted _ _ (ap (λ (r : Looked). r.refusal) (sym c.look.ensures) ∙ c.if-look-ne0.false) in
-    let k = c.test_kept-kept.ensures in
-    let ok = c.if-not-kept.false in
-    record { desk = of-desk; kept = sym k.ok ∙ ok; table = k.table ok }
+    let k = c.in-Some.ensures in
+    record { desk = of-desk; kept = k.0; table = k.1 }
+
+pub returns-in-None : goal.returns-in-None
+returns-in-None c =
+    let of-desk : not_of_desk c.args.desk c.args.runner.controller ≡ false = look-granted _ _ (ap (λ (r : Looked). r.refusal) (sym c.look.ensures) ∙ c.if-look-ne0.false) in
+    rw c.number-in-None.ensures (not-kept c.args.desk c.args.runner of-desk c.in-None.ensures)

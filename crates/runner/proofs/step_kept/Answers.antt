@@ -31,7 +31,7 @@ last_minute-last-requires c =
 pub returns-then-last-runner : goal.returns-then-last-runner
 returns-then-last-runner c =
     let a = c.args in
-    past a.desk a.runner a.jobs.now c.requires c.last_minute-last.result c.last_minute-last.ensures c.if-last-runner.true
+    rw c.number.ensures (past a.desk a.runner a.jobs.now c.requires c.last_minute-last.result c.last_minute-last.ensures c.if-last-runner.true)
 
 pub slice_bounds-card-end-2 : goal.slice_bounds-card-end-2
 slice_bounds-card-end-2 c =

@@ -11,7 +11,7 @@ use borrow.Author.Rules.{rules}
 use Rattle.runner.proofs.test_kept.Goals as goal
 
 pub returns-then-not-places_ok : goal.returns-then-not-places_ok
-returns-then-not-places_ok c = not_whole c.args.runner (sym c.places_ok.ensures ∙ c.if-not-places_ok.true) _
+returns-then-not-places_ok c = not_whole c.args.runner (sym c.places_ok.ensures ∙ c.if-not-places_ok.true)
 
 pub slice_bounds-sheet-end : goal.slice_bounds-sheet-end
 slice_bounds-sheet-end c =
@@ -28,13 +28,6 @@ slice_bounds-front-end c =
     && zeros_behind longest_card c.args.runner.card_len c.args.runner.card)
     ≡ true = sym c.places_ok.ensures ∙ c.if-not-places_ok.false in
     sym (length-take-le _ c.args.runner.sheet (omega (arith, sheet-places, sheet-inside c.args.runner whole)))
-
-pub returns-then-checked-ne0 : goal.returns-then-checked-ne0
-returns-then-checked-ne0 c =
-    let whole : (zeros_behind longest_sheet c.args.runner.sheet_len c.args.runner.sheet
-    && zeros_behind longest_card c.args.runner.card_len c.args.runner.card)
-    ≡ true = sym c.places_ok.ensures ∙ c.if-not-places_ok.false in
-    not_planable c.args.runner whole c.front-checked.result c.front-checked.ensures c.if-checked-ne0.true _
 
 pub slice_bounds-card-end : goal.slice_bounds-card-end
 slice_bounds-card-end c =
@@ -57,11 +50,25 @@ kept_fits-requires c =
     let whole : (zeros_behind longest_sheet c.args.runner.sheet_len c.args.runner.sheet
     && zeros_behind longest_card c.args.runner.card_len c.args.runner.card)
     ≡ true = sym c.places_ok.ensures ∙ c.if-not-places_ok.false in
-    (ready c.args.runner whole c.front-checked.result c.front-checked.ensures c.if-checked-ne0.false).fit
+    (ready c.args.runner whole c.in-Ok.jobs c.in-Ok.ensures).fit
 
-pub returns : goal.returns
-returns c =
+pub returns-then-kept_fits : goal.returns-then-kept_fits
+returns-then-kept_fits c =
     let whole : (zeros_behind longest_sheet c.args.runner.sheet_len c.args.runner.sheet
     && zeros_behind longest_card c.args.runner.card_len c.args.runner.card)
     ≡ true = sym c.places_ok.ensures ∙ c.if-not-places_ok.false in
-    tested c.args.runner whole c.front-checked.result c.front-checked.ensures c.if-checked-ne0.false c.kept_fits.result c.kept_fits.ensures
+    (tested c.args.runner whole c.in-Ok.jobs c.in-Ok.ensures c.kept_fits.result c.kept_fits.ensures ∙ c.if-kept_fits.true, c.in-Ok.ensures.table)
+
+pub returns-else-kept_fits : goal.returns-else-kept_fits
+returns-else-kept_fits c =
+    let whole : (zeros_behind longest_sheet c.args.runner.sheet_len c.args.runner.sheet
+    && zeros_behind longest_card c.args.runner.card_len c.args.runner.card)
+    ≡ true = sym c.places_ok.ensures ∙ c.if-not-places_ok.false in
+    tested c.args.runner whole c.in-Ok.jobs c.in-Ok.ensures c.kept_fits.result c.kept_fits.ensures ∙ c.if-kept_fits.false
+
+pub returns-in-Err : goal.returns-in-Err
+returns-in-Err c =
+    let whole : (zeros_behind longest_sheet c.args.runner.sheet_len c.args.runner.sheet
+    && zeros_behind longest_card c.args.runner.card_len c.args.runner.card)
+    ≡ true = sym c.places_ok.ensures ∙ c.if-not-places_ok.false in
+    not_planable c.args.runner whole _ c.in-Err.ensures

@@ -4,8 +4,7 @@ use Prim.Native.Nat.{◌<◌}
 use native.Mathlib.Omega.{arith}
 use lib.Count.{ones}
 use Rattle.tables.specs.Tables.{count_of}
-use Rattle.tables.specs.Part.{part_in, word_of}
-use Rattle.tables.specs.Prepared.{related_in}
+use Rattle.tables.specs.Part.{word_of}
 use Rattle.placement.proofs.Parts.{ends_fit}
 use Rattle.candidates.proofs.Children.{word_within}
 use Rattle.search.proofs.Turns.{visit_leaf, visit_all, visit_remember}
@@ -22,7 +21,7 @@ try_children-passed_over-requires t c =
     let p = c.requires in
     let known = p.0.going.known in
     let few = known.fit.few in
-    let part = part_in c.args.part.now in
+    let part = c.args.part.now in
     record {
       few = few;
       placed = known.is.figures.profile.few;
@@ -55,9 +54,6 @@ try_children-place-requires t c =
     let p = c.requires in
     choice_placeable p.0 p.1
 
-pub try_children-last-requires : goal.try_children-last-requires
-try_children-last-requires t c = tt
-
 pub try_children-settled_now-same_now-requires : goal.try_children-settled_now-same_now-requires
 try_children-settled_now-same_now-requires t c = tt
 
@@ -67,7 +63,7 @@ try_children-visit-requires t c =
     let pre = past.requires in
     let p = pre in
     let child = c.place.ensures in
-    (omega (arith, c.decreases, choice_fewer p.0 p.1 child), rw (c.settled_now-same_now.ensures, c.last.ensures) (choice_searching p.0 p.1 child))
+    (omega (arith, c.decreases, choice_fewer p.0 p.1 child), rw (c.settled_now-same_now.ensures) (choice_searching p.0 p.1 child))
 
 pub try_children-shape_of-memory : goal.try_children-shape_of-memory
 try_children-shape_of-memory t c = c.visit.auto.memory
@@ -102,9 +98,6 @@ visit-returns-then-used_up t c =
 pub visit-count-count-requires : goal.visit-count-count-requires
 visit-count-count-requires t c = tt
 
-pub visit-unplaced-unplaced-requires : goal.visit-unplaced-unplaced-requires
-visit-unplaced-unplaced-requires t c = tt
-
 pub visit-finished-requires : goal.visit-finished-requires
 visit-finished-requires t c = omega (arith, c.count-count.ensures, c.requires.going.known.fit.few)
 
@@ -112,7 +105,7 @@ pub visit-returns-then-unplaced-eq0 : goal.visit-returns-then-unplaced-eq0
 visit-returns-then-unplaced-eq0 t c =
     let a = c.args in
     let p = c.requires in
-    let all : (part_in a.part.now).placed ≡ count_of a.jobs.now = omega (arith, p.going.known.is.figures.sizes, ap ones c.unplaced-unplaced.ensures, c.if-unplaced-eq0.true) in
+    let all : a.part.now.placed ≡ count_of a.jobs.now = omega (arith, p.going.known.is.figures.sizes, c.if-unplaced-eq0.true) in
     let finished = rw c.count-count.ensures at c.finished.ensures in
     record { outcome = visit_leaf p.going.known all finished; settled = p.settled_so; remembered = p.going.remembered; size = refl; limit = c.used_up.ensures.limit }
 
@@ -123,7 +116,7 @@ pub visit-cut_off-requires : goal.visit-cut_off-requires
 visit-cut_off-requires t c =
     let past = c in
     let p = past.requires in
-    ((p.going, p.slated), (c.starts_of-starts.ensures, omega (arith, p.going.known.is.figures.sizes, ap ones c.unplaced-unplaced.ensures, c.if-unplaced-eq0.false)))
+    ((p.going, p.slated), (c.starts_of-starts.ensures, omega (arith, p.going.known.is.figures.sizes, c.if-unplaced-eq0.false)))
 
 pub visit-none_found-requires-then-cut_off : goal.visit-none_found-requires-then-cut_off
 visit-none_found-requires-then-cut_off t c = tt
@@ -141,7 +134,7 @@ pub visit-to_try-untried-requires : goal.visit-to_try-untried-requires
 visit-to_try-untried-requires t c =
     let past = c in
     let p = past.requires in
-    rw past.unplaced-unplaced.ensures (trying p.going.known c.starts_of-starts.ensures)
+    trying p.going.known c.starts_of-starts.ensures
 
 pub visit-next_choice-c-requires : goal.visit-next_choice-c-requires
 visit-next_choice-c-requires t c =
@@ -201,10 +194,10 @@ visit-returns-then-found t c =
       | visit-then-found-via-then-found w ↦ inl w.if-found.true
       | visit-then-found-via-else-found+then-left-eq0 w ↦ inr w.if-left-eq0.true
     ] in
-    record { outcome = found_below (word_of (part_in front.args.part.now)) past.loop-c.c.job try.outcome over; settled = try.settled; remembered = try.remembered; size = try.size ∙ inv.1.0 ∙ far.cut_off.ensures.size; limit = λ e. try.limit (inv.1.1 (front.used_up.ensures.limit e)) }
+    record { outcome = found_below (word_of front.args.part.now) past.loop-c.c.job try.outcome over; settled = try.settled; remembered = try.remembered; size = try.size ∙ inv.1.0 ∙ far.cut_off.ensures.size; limit = λ e. try.limit (inv.1.1 (front.used_up.ensures.limit e)) }
 
-pub visit-clear32-untried-requires : goal.visit-clear32-untried-requires
-visit-clear32-untried-requires t c =
+pub visit-without-untried-requires : goal.visit-without-untried-requires
+visit-without-untried-requires t c =
     let past = c in
     let far = past in
     let front = far in
@@ -212,8 +205,8 @@ visit-clear32-untried-requires t c =
     let chosen = choice.some (chosen_low choice past.loop-c-test.true) in
     omega (arith, chosen.0, front.requires.going.known.fit.few)
 
-pub visit-set32-tried-requires : goal.visit-set32-tried-requires
-visit-set32-tried-requires t c =
+pub visit-with-tried-requires : goal.visit-with-tried-requires
+visit-with-tried-requires t c =
     let past = c in
     let far = past in
     let front = far in
@@ -236,7 +229,7 @@ visit-loop-c-smaller t c =
     let far = past in
     let choice = far.loop-c.invariant.0.choice in
     let fewer = chosen_in choice (chosen_low choice past.loop-c-test.true) in
-    rw c.clear32-untried.ensures (omega (arith, fewer))
+    rw c.without-untried.ensures (omega (arith, fewer))
 
 pub visit-loop-c-preserved : goal.visit-loop-c-preserved
 visit-loop-c-preserved t c =
@@ -244,14 +237,14 @@ visit-loop-c-preserved t c =
     let far = past in
     let front = far in
     let edge = front in
-    let clear32 = c.clear32-untried in
+    let without = c.without-untried in
     let p = edge.requires in
     let loop = far.loop-c in
     let sweep = loop.invariant.0 in
     let low = chosen_low sweep.choice past.loop-c-test.true in
     let try = past.try_children-found in
-    let next = rw (clear32.ensures, front.count-count.ensures) at c.next_choice-c-in-loop-c.ensures in (
-      rw (clear32.ensures, c.set32-tried.ensures)
+    let next = rw (without.ensures, front.count-count.ensures) at c.next_choice-c-in-loop-c.ensures in (
+      rw (without.ensures, c.with-tried.ensures)
           (sweep_next p.going.known front.starts_of-starts.ensures sweep low (try.ensures.outcome.miss c.if-found.false c.if-left-eq0.false) next),
       (try.ensures.settled, (try.ensures.remembered, (try.auto.memory ∙ loop.invariant.1.1.1.0, (try.ensures.size ∙ loop.invariant.1.1.1.1.0, λ e. try.ensures.limit (loop.invariant.1.1.1.1.1 e))))),
     )
@@ -275,16 +268,15 @@ visit-returns t c =
     let far = past in
     let front = far in
     let starts-of = far.starts_of-starts in
-    let unplaced = far.unplaced-unplaced in
     let to-try-place = past.to_try-untried in
     let a = front.args in
     let p = front.requires in
     let g = p.going in
     let loop = c.loop-c in
     let swept = sweep_all g.known starts-of.ensures loop.invariant.0 c.loop-c-test.false in
-    let to-try = rw unplaced.ensures at to-try-place.ensures in
-    let all = all_tried g.known starts-of.ensures a.target to-try-place.result (related_in a.prepared.now) g.tabled.related to-try swept in
-    let left : 0 < ones (part_in a.part.now).unplaced = omega (arith, ap ones unplaced.ensures, far.if-unplaced-eq0.false) in
+    let to-try = to-try-place.ensures in
+    let all = all_tried g.known starts-of.ensures a.target to-try-place.result a.prepared.now.related g.tabled.related to-try swept in
+    let left : 0 < ones a.part.now.unplaced = omega (arith, far.if-unplaced-eq0.false) in
     let cut = visit_all g.known a.target left all in
     let added = rw far.count-count.ensures at c.remember.ensures in
     record { outcome = rw c.none_found-2.ensures (none_outcome cut); settled = loop.invariant.1.0; remembered = visit_remember g.known a.target loop.invariant.1.1.0 cut added; size = loop.invariant.1.1.1.1.0 ∙ past.cut_off.ensures.size; limit = λ e. loop.invariant.1.1.1.1.1 (far.used_up.ensures.limit e) }

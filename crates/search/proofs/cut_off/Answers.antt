@@ -3,7 +3,6 @@ use mathlib.Core.Path.{refl}
 use Prim.Native.Nat.{suc, ◌<◌}
 use native.Mathlib.Omega.{arith}
 use lib.Count.{ones}
-use Rattle.tables.specs.Part.{part_in}
 use Rattle.bounds.proofs.Cuts.{bounding, hopeless_cut}
 use Rattle.bounds.proofs.Shortages.{fitted_cut}
 use Rattle.search.proofs.Turns.{recall_cut}
@@ -19,7 +18,7 @@ returns-then-hopeless c =
     let pre = c.requires in
     let a = c.args in
     let g = pre.0.0 in
-    let left : 0 < ones (part_in a.part.now).unplaced = omega (arith, g.known.is.figures.sizes, pre.1.1) in
+    let left : 0 < ones a.part.now.unplaced = omega (arith, g.known.is.figures.sizes, pre.1.1) in
     let cut = hopeless_cut g.known pre.1.0 a.prepared.now a.target g.tabled.chains g.tabled.heads left (c.hopeless.ensures c.if-hopeless.true) in
     record { fails = λ _. cut; size = refl }
 
@@ -32,7 +31,7 @@ returns-then-recall c =
     let pre = asked.requires in
     let a = asked.args in
     let g = pre.0.0 in
-    let left : 0 < ones (part_in a.part.now).unplaced = omega (arith, g.known.is.figures.sizes, pre.1.1) in
+    let left : 0 < ones a.part.now.unplaced = omega (arith, g.known.is.figures.sizes, pre.1.1) in
     let hit = rw (asked.count.ensures, c.changeover.ensures) at c.recall.ensures in
     let cut = recall_cut g.known pre.1.0 (suc a.target) left g.remembered (hit c.if-recall.true) in
     record { fails = λ _. cut; size = refl }

@@ -1,6 +1,5 @@
 -- `search::decide` meets its contract.
 use native.Mathlib.Omega.{arith}
-use Rattle.tables.specs.Part.{part_in}
 use Rattle.candidates.proofs.Children.{first_word}
 use Rattle.search.proofs.Recalls.{remembered_less, remembered_until}
 use Rattle.search.proofs.Whole.{enter, none_between, rounded_outcome}
@@ -27,7 +26,7 @@ returns c =
     let past = c in
     let rounded = c.rounded-goal in
     let jobs = past.args.jobs.now in
-    let word = first_word jobs (part_in c.first_part-part.result) past.requires.0 c.first_part-part.ensures in
+    let word = first_word jobs c.first_part-part.result past.requires.0 c.first_part-part.ensures in
     let seek = c.seek.ensures in
     let between = none_between jobs past.args.target rounded.result rounded.ensures in
     record { outcome = rounded_outcome rounded.ensures.below between (rw word at seek.outcome); remembered = remembered_until _ between seek.remembered; limit = seek.limit }

@@ -1,14 +1,10 @@
 -- `search::ends_by` meets its contract.
 use mathlib.Core.Path.{ap, ◌∙◌}
 use Prim.Native.Nat.{ℕ}
-use lib.ListN.{length, replicate, length-replicate}
+use lib.ListN.{length, replicate}
 use Rattle.tables.specs.Tables.{sheet_of}
 use Rattle.search.proofs.Recalls.{remembered-none}
-use Rattle.tables.specs.Prepared.{prepared_size}
 use Rattle.search.proofs.ends_by.Goals as goal
-
-pub begin-listed-requires : goal.begin-listed-requires
-begin-listed-requires c = (length-replicate {A = ℕ} prepared_size 0, c.requires)
 
 pub some_ends_by-ends-requires : goal.some_ends_by-ends-requires
 some_ends_by-ends-requires c =

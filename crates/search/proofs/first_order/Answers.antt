@@ -40,12 +40,7 @@ go_on-requires c =
     let past = c in
     let loop = past.loop-k in
     let h = loop.invariant.1.0 in
-    (h.going.known, rw c.index.ensures (settled_next h (omega (arith, loop.invariant.0, past.loop-k-test.true)) (c.settle_place-best.ensures.placed (λ e. omega (arith, c.if-left-eq0.false, e)))))
-
-pub overflow_add-k : goal.overflow_add-k
-overflow_add-k c =
-    let past = c in
-    omega (arith, past.loop-k-test.true)
+    (h.going.known, rw c.from.ensures (settled_next h (omega (arith, loop.invariant.0, past.loop-k-test.true)) (c.settle_place-best.ensures.placed (λ e. omega (arith, c.if-left-eq0.false, e)))))
 
 pub loop-k-preserved : goal.loop-k-preserved
 loop-k-preserved c =
@@ -53,7 +48,7 @@ loop-k-preserved c =
     let loop = past.loop-k in
     let settle = c.settle_place-best in
     let go = c.go_on.ensures in
-    let next = stands_next loop.invariant.1.0 (omega (arith, loop.invariant.0, past.loop-k-test.true)) _ (settle.ensures.placed (λ e. omega (arith, c.if-left-eq0.false, e))) settle.ensures.remembered c.index.ensures in
+    let next = stands_next loop.invariant.1.0 (omega (arith, loop.invariant.0, past.loop-k-test.true)) _ (settle.ensures.placed (λ e. omega (arith, c.if-left-eq0.false, e))) settle.ensures.remembered c.from.ensures in
     (loop.invariant.0, (next go.0 go.1.0 go.1.1, (settle.auto.memory ∙ loop.invariant.1.1.0, λ e. settle.ensures.limit (loop.invariant.1.1.1 e))))
 
 pub shape_of-memory : goal.shape_of-memory

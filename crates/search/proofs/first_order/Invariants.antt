@@ -3,14 +3,10 @@ use mathlib.Core.Path.{◌≡◌}
 use Prim.Native.Nat.{◌-◌}
 use lib.ListN.{length}
 use Rattle.tables.specs.Tables.{count_of}
-use Rattle.tables.specs.Part.{part_in}
 use Rattle.search.proofs.Placings.{Standing}
 use Rattle.search.specs.Search.{Unlimited}
 use Rattle.search.proofs.first_order.Given as goal
 
 abbrev pub invariant-loop-k : goal.invariant-loop-k
 invariant-loop-k l = (l.count ≡ count_of l.jobs)
-    × (Standing l.jobs l.prepared (part_in l.part) l.best l.memory l.k × ((length l.memory ≡ length l.initial.memory) × Unlimited l.initial.left l.left))
-
-abbrev pub decreases-loop-k : goal.decreases-loop-k
-decreases-loop-k l = l.count - l.k
+    × (Standing l.jobs l.prepared l.part l.best l.memory l.k × ((length l.memory ≡ length l.initial.memory) × Unlimited l.initial.left l.left))

@@ -14,7 +14,7 @@ lowest-soon-requires c =
     let past = c in
     let a = past.args in
     record {
-      fit = past.requires.1.0;
+      fit = past.requires.0;
       tabled = c.begin-listed.ensures.tabled;
       best_is = c.begin-listed.ensures.listed;
       remembered = remembered-none (sheet_of a.jobs.now) _ (length a.memory.now) c.begin-listed.result.end past.clear.ensures;
@@ -36,14 +36,14 @@ pub improved-better-requires : goal.improved-better-requires
 improved-better-requires c =
     let past = c in
     let far = past in
-    (far.requires.1.0, c.lowest-soon.ensures.lowest.is)
+    (far.requires.0, c.lowest-soon.ensures.lowest.is)
 
 pub lowest-requires : goal.lowest-requires
 lowest-requires c =
     let past = c in
     let far = past in
     record {
-      fit = far.requires.1.0;
+      fit = far.requires.0;
       tabled = past.begin-listed.ensures.tabled;
       best_is = c.improved-better.ensures.is;
       remembered = remembered_less _ _ (omega (arith, c.improved-better.ensures.no_later)) c.lowest-soon.ensures.remembered;

@@ -1,15 +1,11 @@
 -- `search::run` meets its contract.
 use mathlib.Core.Path.{refl, ap, ◌∙◌}
 use Prim.Native.Nat.{ℕ, suc}
-use lib.ListN.{length, replicate, length-replicate}
+use lib.ListN.{length, replicate}
 use Rattle.tables.specs.Tables.{sheet_of}
 use Rattle.search.proofs.Recalls.{remembered-none}
 use Rattle.search.proofs.Whole.{goes_on, lowest_of}
-use Rattle.tables.specs.Prepared.{prepared_size}
 use Rattle.search.proofs.run.Goals as goal
-
-pub least_order-least-requires : goal.least_order-least-requires
-least_order-least-requires c = (length-replicate {A = ℕ} prepared_size 0, c.requires)
 
 pub first_order-found-requires : goal.first_order-found-requires
 first_order-found-requires c =

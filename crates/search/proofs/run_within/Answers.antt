@@ -2,13 +2,9 @@
 use mathlib.Core.Path.{ap, ◌∙◌}
 use Prim.Native.Nat.{ℕ}
 use native.Mathlib.Omega.{arith}
-use lib.ListN.{replicate, length-replicate}
+use lib.ListN.{replicate}
 use Rattle.search.proofs.Whole.{lowest_of}
-use Rattle.tables.specs.Prepared.{prepared_size}
 use Rattle.search.proofs.run_within.Goals as goal
-
-pub least_order-least-requires : goal.least_order-least-requires
-least_order-least-requires c = (length-replicate {A = ℕ} prepared_size 0, c.requires)
 
 pub bounded-given_up-requires : goal.bounded-given_up-requires
 bounded-given_up-requires c =

@@ -3,7 +3,7 @@ use mathlib.Core.Path.{◌∙◌}
 use Prim.Native.Nat.{ℕ}
 use lib.ListN.{length-replicate}
 use Rattle.tables.specs.Tables.{sheet_of}
-use Rattle.tables.specs.Part.{part_in, word_of}
+use Rattle.tables.specs.Part.{word_of}
 use Rattle.fitting.specs.Fitting.{slate_size}
 use Rattle.bounds.proofs.Cuts.{held_later}
 use Rattle.bounds.proofs.Late.{too_late_cut}
@@ -31,7 +31,7 @@ visit-requires c =
     record {
       going = past.requires;
       slated = c.begin.ensures ∙ length-replicate {A = ℕ} slate_size 0;
-      settled_so = none_settled (sheet_of a.jobs.now) a.target (word_of (part_in a.part.now));
+      settled_so = none_settled (sheet_of a.jobs.now) a.target (word_of a.part.now);
     }
 
 pub shape_of-memory : goal.shape_of-memory

@@ -1,27 +1,12 @@
 -- `sheet::read` meets its contract.
-use mathlib.Core.Path.{◌∙◌}
-use Rattle.sheet.proofs.Answers.{trailer, refused_early}
+use mathlib.Core.Path.{sym, ◌∙◌}
+use Rattle.checking.proofs.Numbers.{number-some}
+use Rattle.sheet.proofs.Answers.{refused_is}
 use Rattle.sheet.proofs.read.Goals as goal
 
-pub returns-then-early-ne0 : goal.returns-then-early-ne0
-returns-then-early-ne0 c =
-    c.refused.ensures ∙ refused_early c.args.sheet.now c.refusal-early.result
-    c.refusal-early.ensures c.if-early-ne0.true
-
-pub offset-offset-requires : goal.offset-offset-requires
-offset-offset-requires c =
-    (trailer c.args.sheet.now c.refusal-early.result c.refusal-early.ensures
-    c.if-early-ne0.false).long
-
-pub count-count-requires : goal.count-count-requires
-count-count-requires c =
-    (trailer c.args.sheet.now c.refusal-early.result
-    c.refusal-early.ensures c.if-early-ne0.false).long
-
-pub modules-modules-requires : goal.modules-modules-requires
-modules-modules-requires c =
-    (trailer c.args.sheet.now c.refusal-early.result c.refusal-early.ensures c.if-early-ne0.false).long
-
-pub changeover-changeover-requires : goal.changeover-changeover-requires
-changeover-changeover-requires c =
-    (trailer c.args.sheet.now c.refusal-early.result c.refusal-early.ensures c.if-early-ne0.false).long
+pub returns-in-Err : goal.returns-in-Err
+returns-in-Err c =
+    let n = c.number in
+    let e = c.in-Err.refusal in
+    c.refused.ensures
+    ∙ refused_is c.args.sheet.now n.result (n.ensures ∙ c.in-Err.ensures.refusal) (λ z. number-some e (sym n.ensures ∙ z))

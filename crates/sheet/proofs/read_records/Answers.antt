@@ -1,24 +1,26 @@
 -- `sheet::read_records` meets its contract: after each record the pass knows what `After` says of the jobs that the answer has so far.
 use mathlib.Core.Path.{◌≡◌, refl, sym, ap, ◌∙◌}
+use mathlib.Core.Bool.{◌||◌}
 use mathlib.Core.List.{List}
 use Prim.Native.Nat.{ℕ}
 use native.Mathlib.Omega.{arith}
 use lib.ListN.{take, set}
 use Rattle.checking.specs.Checking.{first_failing}
-use Rattle.sheet_format.specs.Format.{job_from, offset_of, count_of, modules_of, changeover_of}
+use Rattle.sheet_format.specs.Format.{job_from, offset_of, count_of, cabinet_of}
+use Rattle.sheet_format.specs.declared.Cabinet.{Cabinet}
 use Rattle.sheet_format.specs.Checks.{trailer_checks, content_checks}
 use Rattle.sheet.specs.declared.Reading.{Reading}
-use Rattle.sheet.specs.Read.{refused, reading}
+use Rattle.sheet.specs.Read.{read_refusal}
 use Rattle.sheet.proofs.Answers.{trailer, content_is, answer_is, refused_late, read_whole}
 use Rattle.sheet.proofs.Pass.{after_none, after_more, labels_long, finds_5, finds_6, finds_7, finds-none, jobs_all, records_there}
 use Rattle.sheet.proofs.read_records.Goals as goal
 
--- the answer behind the trailer's checks, where one of 5 to 7 fails
-refused-behind : (s : List ℕ) (offset n : ℕ) {N r : ℕ}
-    → (first_failing (trailer_checks s) ≡ 0) × (offset ≡ offset_of s) × (n ≡ count_of s) × (N ≡ modules_of s) × (r ≡ changeover_of s) → (k : ℕ)
-    → k ≡ first_failing (content_checks n (job_from s offset) (take offset s)) → (k ≡ 0 → ⊥) → refused k ≡ reading s
-refused-behind s offset n pre k e h =
-    refused_late s (first_failing (trailer_checks s)) refl pre.0 k (content_is s n offset k pre.2 pre.1 e) h
+-- the first refusal behind the trailer's checks: that of 5 to 7
+behind : (s : List ℕ) (offset n : ℕ) {C : Cabinet}
+    → (first_failing (trailer_checks s) ≡ 0) × (offset ≡ offset_of s) × (n ≡ count_of s) × (C ≡ cabinet_of s) → (k : ℕ)
+    → k ≡ first_failing (content_checks n (job_from s offset) (take offset s)) → k ≡ read_refusal s
+behind s offset n pre k e =
+    refused_late s (first_failing (trailer_checks s)) refl pre.0 k (content_is s n offset k pre.2 pre.1 e)
 
 pub loop-i-init : goal.loop-i-init
 loop-i-init c =
@@ -32,11 +34,12 @@ returns-then-faulty c =
     let v = c.loop-i in
     let a = c.args in
     let s = a.sheet.now in
-    c.refused.ensures
-    ∙ refused-behind s a.offset a.count c.requires 5
-    (finds_5 s a.offset a.count v.i v.answer.jobs v.total v.wrong v.invariant.0
-    c.read_one-job.result c.loop-i-test.true c.read_one-job.ensures (sym c.faulty.ensures ∙ c.if-faulty.true))
-    (λ z. omega arith)
+    record {
+      refusal = behind s a.offset a.count c.requires 5
+          (finds_5 s a.offset a.count v.i v.answer.jobs v.total v.wrong v.invariant.0
+          c.read_one-job.result c.loop-i-test.true c.read_one-job.ensures (sym c.faulty.ensures ∙ c.if-faulty.true));
+      answer = tt;
+    }
 
 pub slice_bounds-wrong_between-end : goal.slice_bounds-wrong_between-end
 slice_bounds-wrong_between-end c =
@@ -49,9 +52,9 @@ loop-i-preserved c =
     let v = c.loop-i in
     let a = c.args in (
       after_more a.sheet.now a.offset a.count v.i v.answer.jobs v.total v.wrong v.invariant.0
-          c.read_one-job.result c.label_length.result c.wrong_between.result c.either-wrong.result
+          c.read_one-job.result c.label_length.result c.wrong_between-wrong.result (v.wrong || c.wrong_between-wrong.result)
           c.loop-i-test.true c.read_one-job.ensures (sym c.faulty.ensures ∙ c.if-faulty.false) c.label_length.ensures
-          c.wrong_between.ensures c.either-wrong.ensures,
+          c.wrong_between-wrong.ensures refl,
       ap (λ (r : Reading). record {
         refusal = r.refusal;
         jobs = set v.answer.jobs v.i c.read_one-job.result;
@@ -67,8 +70,10 @@ returns-then-total-offset c =
     let a = c.args in
     let s = a.sheet.now in
     let e : v.i ≡ a.count = omega (arith, v.invariant.0.at) in
-    c.refused-then-total-offset.ensures
-    ∙ refused-behind s a.offset a.count c.requires 6 (finds_6 s a.offset a.count v.i v.answer.jobs v.total v.wrong v.invariant.0 e c.if-total-offset.true) (λ z. omega arith)
+    record {
+      refusal = behind s a.offset a.count c.requires 6 (finds_6 s a.offset a.count v.i v.answer.jobs v.total v.wrong v.invariant.0 e c.if-total-offset.true);
+      answer = tt;
+    }
 
 pub returns-then-wrong : goal.returns-then-wrong
 returns-then-wrong c =
@@ -76,8 +81,11 @@ returns-then-wrong c =
     let a = c.args in
     let s = a.sheet.now in
     let e : v.i ≡ a.count = omega (arith, v.invariant.0.at) in
-    c.refused-then-wrong.ensures
-    ∙ refused-behind s a.offset a.count c.requires 7 (finds_7 s a.offset a.count v.i v.answer.jobs v.total v.wrong v.invariant.0 e c.if-total-offset.false c.if-wrong.true) (λ z. omega arith)
+    record {
+      refusal = behind s a.offset a.count c.requires 7
+          (finds_7 s a.offset a.count v.i v.answer.jobs v.total v.wrong v.invariant.0 e c.if-total-offset.false c.if-wrong.true);
+      answer = tt;
+    }
 
 pub returns : goal.returns
 returns c =
@@ -86,8 +94,11 @@ returns c =
     let s = a.sheet.now in
     let e : v.i ≡ a.count = omega (arith, v.invariant.0.at) in
     let k = finds-none s a.offset a.count v.i v.answer.jobs v.total v.wrong v.invariant.0 e c.if-total-offset.false c.if-wrong.false in
-    v.invariant.1
-    ∙ answer_is s a.count a.offset a.modules a.changeover v.answer.jobs c.requires.2 c.requires.1 c.requires.3
-    c.requires.4 (jobs_all s a.offset a.count v.i v.answer.jobs v.total v.wrong v.invariant.0 e)
-    ∙ read_whole s (first_failing (trailer_checks s)) refl c.requires.0 0
-    (content_is s a.count a.offset 0 c.requires.2 c.requires.1 k) refl
+    record {
+      refusal = behind s a.offset a.count c.requires 0 k;
+      answer = v.invariant.1
+          ∙ answer_is s a.count a.offset a.cabinet v.answer.jobs c.requires.2 c.requires.1 c.requires.3
+          (jobs_all s a.offset a.count v.i v.answer.jobs v.total v.wrong v.invariant.0 e)
+          ∙ read_whole s (first_failing (trailer_checks s)) refl c.requires.0 0
+          (content_is s a.count a.offset 0 c.requires.2 c.requires.1 k) refl;
+    }

@@ -13,7 +13,6 @@ use Rattle.slack.proofs.departures_of.Goals as goal
 pub loop-j-init : goal.loop-j-init
 loop-j-init c =
     let s = c.args.sheet.now in (
-      omega arith,
       c.read-found.ensures,
       rw c.read-found.ensures (few_read s (passes s c.requires).reads),
       filled_none (Departure s) _ refl,
@@ -23,10 +22,9 @@ pub loop-j-preserved : goal.loop-j-preserved
 loop-j-preserved c =
     let loop = c.loop-j in
     let inv = loop.invariant in (
-      omega arith,
+      inv.0,
       inv.1,
-      inv.2,
-      filled_more _ inv.3 (omega arith) (ap (λ (r : Reading). (jobs_in r.jobs loop.j).departure) inv.1),
+      filled_more _ inv.2 (omega arith) (ap (λ (r : Reading). (jobs_in r.jobs loop.j).departure) inv.0),
     )
 
 pub returns : goal.returns
@@ -34,6 +32,6 @@ returns c =
     let loop = c.loop-j in
     let s = c.args.sheet.now in
     let e : loop.j ≡ (reading s).count =
-    let e : c.read-found.result.count ≡ (reading s).count = ap (λ (r : Reading). r.count) loop.invariant.1 in
-    omega (arith, loop.invariant.0, c.loop-j-test.false) in
-    (rw e at loop.invariant.3).each
+    let e : c.read-found.result.count ≡ (reading s).count = ap (λ (r : Reading). r.count) loop.invariant.0 in
+    omega (arith, c.loop-j-test.false) in
+    (rw e at loop.invariant.2).each

@@ -1,7 +1,7 @@
 -- `slack::departures_of` meets its contract.
 use mathlib.Core.Path.{◌≡◌}
 use mathlib.Core.List.{List}
-use Prim.Native.Nat.{ℕ, ◌-◌, ◌≤◌}
+use Prim.Native.Nat.{ℕ, ◌≤◌}
 use Rattle.figures.specs.Figures.{most_jobs}
 use Rattle.sheet.specs.Read.{reading}
 use Rattle.marks.proofs.Steps.{Filled}
@@ -13,7 +13,4 @@ abbrev pub Departure : List ℕ → ℕ → ℕ → Type 0
 Departure s j x = x ≡ departure_on s j
 
 abbrev pub invariant-loop-j : goal.invariant-loop-j
-invariant-loop-j l = (l.j ≤ l.found.count) × (l.found ≡ reading l.sheet) × (l.found.count ≤ most_jobs) × Filled (Departure l.sheet) l.j l.of
-
-abbrev pub decreases-loop-j : goal.decreases-loop-j
-decreases-loop-j l = l.found.count - l.j
+invariant-loop-j l = (l.found ≡ reading l.sheet) × (l.found.count ≤ most_jobs) × Filled (Departure l.sheet) l.j l.of

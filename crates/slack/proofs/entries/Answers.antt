@@ -15,15 +15,12 @@ use Rattle.slack.proofs.entries.Goals as goal
 pub loop-j-init : goal.loop-j-init
 loop-j-init c =
     let a = c.args in
-    let none = c.no_slacks-answer.ensures in (
-      omega arith,
-      ap (λ (r : Slacks). record { refusal = r.refusal; jobs = r.jobs; count = a.count }) none
-          ∙ ap (λ (xs : List JobSlack). record { refusal = 0; jobs = xs; count = a.count })
-          (places-none (entry_at a.latest.now a.starts.now a.implied.now)),
-    )
+    let none = c.no_slacks-answer.ensures in ap (λ (r : Slacks). record { refusal = r.refusal; jobs = r.jobs; count = a.count }) none
+    ∙ ap (λ (xs : List JobSlack). record { refusal = 0; jobs = xs; count = a.count })
+    (places-none (entry_at a.latest.now a.starts.now a.implied.now))
 
-pub entry-one-requires : goal.entry-one-requires
-entry-one-requires c =
+pub entry-requires : goal.entry-requires
+entry-requires c =
     c.requires.1 c.loop-j.j c.loop-j-test.true
 
 pub loop-j-preserved : goal.loop-j-preserved
@@ -31,16 +28,13 @@ loop-j-preserved c =
     let loop = c.loop-j in
     let a = c.args in
     let at = entry_at a.latest.now a.starts.now a.implied.now in
-    let low : loop.j < most_jobs = omega (arith, c.requires.0, c.loop-j-test.true) in (
-      omega arith,
-      (λ i. record { refusal = (loop.invariant.1 i).refusal; jobs = set (loop.invariant.1 i).jobs loop.j (c.entry-one.ensures i); count = (loop.invariant.1 i).count })
-          ∙ ap (λ (xs : List JobSlack). record { refusal = 0; jobs = xs; count = a.count }) (places_more at loop.j low),
-    )
+    let low : loop.j < most_jobs = omega (arith, c.requires.0, c.loop-j-test.true) in (λ i. record { refusal = (loop.invariant i).refusal; jobs = set (loop.invariant i).jobs loop.j (c.entry.ensures i); count = (loop.invariant i).count })
+    ∙ ap (λ (xs : List JobSlack). record { refusal = 0; jobs = xs; count = a.count }) (places_more at loop.j low)
 
 pub returns : goal.returns
 returns c =
     let loop = c.loop-j in
     let a = c.args in
-    let e : loop.j ≡ a.count = omega (arith, loop.invariant.0, c.loop-j-test.false) in
-    loop.invariant.1
+    let e : loop.j ≡ a.count = omega (arith, c.loop-j-test.false) in
+    loop.invariant
     ∙ ap (λ (n : ℕ). record { refusal = 0; jobs = slack_places n (entry_at a.latest.now a.starts.now a.implied.now); count = a.count }) e

@@ -2,25 +2,25 @@
 use Rattle.slack.proofs.Calls.{turned_away, passed, can_search, answered}
 use Rattle.slack.proofs.slack.Goals as goal
 
-pub returns-then-refusal-ne0 : goal.returns-then-refusal-ne0
-returns-then-refusal-ne0 c =
+pub departures_of-requires : goal.departures_of-requires
+departures_of-requires c =
     let a = c.args in
-    let answer = turned_away a.sheet.now a.work.now c.front-checked.result c.front-checked.ensures c.if-refusal-ne0.true c.no_slacks.result c.no_slacks.ensures in
-    record { answer = answer.0; work = answer.1 }
-
-pub departures_of-departing-requires : goal.departures_of-departing-requires
-departures_of-departing-requires c =
-    let a = c.args in
-    passed a.sheet.now a.work.now c.front-checked.result c.front-checked.ensures c.if-refusal-ne0.false
+    passed a.sheet.now a.work.now c.in-Ok.jobs c.in-Ok.ensures
 
 pub slacks_of-requires : goal.slacks_of-requires
 slacks_of-requires c =
     let a = c.args in
-    can_search a.sheet.now a.work.now c.front-checked.result c.front-checked.ensures c.if-refusal-ne0.false c.departures_of-departing.result.of c.departures_of-departing.ensures
+    can_search a.sheet.now a.work.now c.in-Ok.jobs c.in-Ok.ensures c.departures_of.result.of c.departures_of.ensures
 
-pub returns : goal.returns
-returns c =
+pub returns-in-Ok : goal.returns-in-Ok
+returns-in-Ok c =
     let a = c.args in
-    let answer = answered a.sheet.now a.work.now c.front-checked.result c.front-checked.ensures c.if-refusal-ne0.false c.departures_of-departing.result.of c.departures_of-departing.ensures
+    let answer = answered a.sheet.now a.work.now c.in-Ok.jobs c.in-Ok.ensures c.departures_of.result.of c.departures_of.ensures
     c.slacks_of.result _ c.slacks_of.ensures.answer c.slacks_of.ensures.cleared in
+    record { answer = answer.0; work = answer.1 }
+
+pub returns-in-Err : goal.returns-in-Err
+returns-in-Err c =
+    let a = c.args in
+    let answer = turned_away a.sheet.now a.work.now c.in-Err.refusal c.in-Err.ensures c.number.result c.number.ensures c.no_slacks.result c.no_slacks.ensures in
     record { answer = answer.0; work = answer.1 }

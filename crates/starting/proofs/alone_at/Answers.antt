@@ -1,5 +1,7 @@
 -- `starting::alone_at` meets its contract.
+use Prim.Native.Nat.{◌+◌, ◌*◌}
 use lib.Bits.{bit_and}
+use lib.ListN.{get_or}
 use mathlib.Core.Path.{refl}
 use mathlib.Core.Bool.{false}
 use borrow.Author.Tests.{eqb-true}
@@ -11,5 +13,5 @@ returns-then-start-least c = λ e. clash false e refl
 
 pub returns : goal.returns
 returns c = λ e.
-    let none = eqb-true (bit_and c.args.set c.related.result) 0 e in
-    (c.if-start-least.false, rw c.related.ensures at none)
+    let none = eqb-true (bit_and c.args.set (get_or c.args.prepared.now.related (c.args.i * 3 + 2) 0)) 0 e in
+    (c.if-start-least.false, none)

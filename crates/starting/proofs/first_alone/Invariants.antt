@@ -1,10 +1,6 @@
 -- `starting::first_alone` meets its contract.
-use lib.Count.{ones}
 use Rattle.bits.proofs.Walks.{Walk}
 use Rattle.starting.proofs.first_alone.Given as goal
 
-abbrev pub invariant-loop-todo : goal.invariant-loop-todo
-invariant-loop-todo l = Walk l.set l.count l.todo
-
-abbrev pub decreases-loop-todo : goal.decreases-loop-todo
-decreases-loop-todo l = ones l.todo
+abbrev pub invariant-loop-i : goal.invariant-loop-i
+invariant-loop-i l = Walk l.set l.count l.i-iterator.left

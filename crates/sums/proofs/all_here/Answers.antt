@@ -15,9 +15,6 @@ arrival-requires c = omega (arith, c.loop-i.invariant.0, c.loop-i-test.true, c.r
 pub returns-then-arrival-ne0 : goal.returns-then-arrival-ne0
 returns-then-arrival-ne0 c = λ e. clash false e refl
 
-pub loop-i-smaller : goal.loop-i-smaller
-loop-i-smaller c = omega (arith, c.loop-i-test.true)
-
 pub loop-i-preserved : goal.loop-i-preserved
 loop-i-preserved c =
     let loop = c.loop-i in (

@@ -7,6 +7,3 @@ use Rattle.sums.proofs.all_here.Given as goal
 
 abbrev pub invariant-loop-i : goal.invariant-loop-i
 invariant-loop-i l = (l.count ≡ count_of l.jobs) × ((l.i ≤ l.count) × AllHere l.jobs l.i)
-
-abbrev pub decreases-loop-i : goal.decreases-loop-i
-decreases-loop-i l = l.count - l.i

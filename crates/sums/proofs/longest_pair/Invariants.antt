@@ -5,7 +5,4 @@ use Rattle.sums.specs.Sums.{longest_pair}
 use Rattle.sums.proofs.longest_pair.Given as goal
 
 abbrev pub invariant-loop-i : goal.invariant-loop-i
-invariant-loop-i l = (l.i ≤ l.lows) × (l.r ≡ longest_pair l.low l.i l.high l.highs l.x)
-
-abbrev pub decreases-loop-i : goal.decreases-loop-i
-decreases-loop-i l = l.lows - l.i
+invariant-loop-i l = l.r ≡ longest_pair l.low l.i l.high l.highs l.x

@@ -25,9 +25,6 @@ minutes-requires c = omega (arith, c.loop-i.invariant.0, c.loop-i-test.true, c.r
 pub arrival-requires : goal.arrival-requires
 arrival-requires c = omega (arith, c.loop-i.invariant.0, c.loop-i-test.true, c.requires)
 
-pub loop-i-smaller : goal.loop-i-smaller
-loop-i-smaller c = omega (arith, c.loop-i-test.true)
-
 pub loop-i-preserved : goal.loop-i-preserved
 loop-i-preserved c =
     let loop = c.loop-i in

@@ -8,8 +8,8 @@ use Rattle.counting.proofs.Tests.{clash}
 use Rattle.sums.proofs.Serving.{few_modules, running_narrow, too_little}
 use Rattle.sums.proofs.unserved.Goals as goal
 
-pub returns-then-ones32-gt-SERVED_JOBS : goal.returns-then-ones32-gt-SERVED_JOBS
-returns-then-ones32-gt-SERVED_JOBS c = λ e. clash false e refl
+pub returns-then-size-gt-SERVED_JOBS : goal.returns-then-size-gt-SERVED_JOBS
+returns-then-size-gt-SERVED_JOBS c = λ e. clash false e refl
 
 pub returns-then-count-eq0 : goal.returns-then-count-eq0
 returns-then-count-eq0 c = λ e. clash false e refl
@@ -34,14 +34,12 @@ returns c =
     let past = c in
     let a = past.args in
     let pre = past.requires in
-    let unplaced = past.unplaced-set in
     let sums = c.subset_sums-count in
     let behind = c.served_behind-behind in
     let reach = c.reach_from in
     let times = c.times-at_once in
     let if2 = c.if-count-eq0 in
-    let of_set = rw unplaced.ensures at sums.ensures in
     λ e.
-    let short = ltb-true (behind.result + times.result) c.left.result e in
-    too_little pre.0 pre.1 a.close of_set (omega (arith, if2.false))
-    (rw (behind.ensures.0, times.ensures, reach.ensures, c.left.ensures) at short)
+    let short = ltb-true (behind.result + times.result) c.args.part.now.left e in
+    too_little pre.0 pre.1 a.close sums.ensures (omega (arith, if2.false))
+    (rw (behind.ensures.0, times.ensures, reach.ensures) at short)

@@ -10,23 +10,20 @@ use Rattle.text.specs.Texts.{adding}
 use Rattle.text.proofs.Adding.{adding_more, adding_next}
 use Rattle.text.proofs.with_field.Goals as goal
 
-pub loop-i-init : goal.loop-i-init
+pub loop-b-init : goal.loop-b-init
 unfolding adding
-loop-i-init c = (omega arith, refl)
+loop-b-init c = refl
 
-pub loop-i-preserved : goal.loop-i-preserved
-loop-i-preserved c =
+pub loop-b-preserved : goal.loop-b-preserved
+loop-b-preserved c =
     let a = c.args in
-    let loop = c.loop-i in (
-      omega arith,
-      c.with_byte-next.ensures ∙ ap (λ (t : Text). adding t (get_or a.field.now loop.i 0 ∷ [])) loop.invariant.1
-          ∙ adding_next a.text a.field.now loop.i c.loop-i-test.true,
-    )
+    let loop = c.loop-b in c.with_byte-next.ensures ∙ ap (λ (t : Text). adding t (get_or a.field.now loop.b-index 0 ∷ [])) loop.invariant
+    ∙ adding_next a.text a.field.now loop.b-index c.loop-b-test.true
 
 pub returns : goal.returns
 returns c =
     let a = c.args in
-    let loop = c.loop-i in
-    c.with_byte.ensures ∙ ap (λ (t : Text). adding t (a.after ∷ [])) loop.invariant.1
-    ∙ adding_more a.text (take loop.i a.field.now) (a.after ∷ [])
-    ∙ ap (λ (l : List ℕ). adding a.text (l ++ (a.after ∷ []))) (take_all loop.i a.field.now (omega arith))
+    let loop = c.loop-b in
+    c.with_byte.ensures ∙ ap (λ (t : Text). adding t (a.after ∷ [])) loop.invariant
+    ∙ adding_more a.text (take loop.b-index a.field.now) (a.after ∷ [])
+    ∙ ap (λ (l : List ℕ). adding a.text (l ++ (a.after ∷ []))) (take_all loop.b-index a.field.now (omega arith))

@@ -10,18 +10,15 @@ use Rattle.text.proofs.with_hexadecimal.Goals as goal
 
 pub loop-i-init : goal.loop-i-init
 unfolding adding joined
-loop-i-init c = (omega arith, refl)
+loop-i-init c = refl
 
 pub loop-i-preserved : goal.loop-i-preserved
 loop-i-preserved c =
-    let loop = c.loop-i in (
-      omega arith,
-      rw (c.with_byte-next.ensures, c.digit.ensures, loop.invariant.1, adding_more) (ap (adding _) (joined_more loop.i _)),
-    )
+    let loop = c.loop-i in rw (c.with_byte-next.ensures, c.digit.ensures, loop.invariant, adding_more) (ap (adding _) (joined_more loop.i _))
 
 pub returns : goal.returns
 unfolding hexadecimal
 returns c =
     let loop = c.loop-i in
     let i : loop.i ≡ 16 = omega arith in
-    rw (c.with_byte.ensures, loop.invariant.1, i, adding_more) refl
+    rw (c.with_byte.ensures, loop.invariant, i, adding_more) refl

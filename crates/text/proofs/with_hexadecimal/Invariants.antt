@@ -1,13 +1,9 @@
 -- `text::with_hexadecimal` meets its contract.
 use mathlib.Core.Path.{◌≡◌}
-use Prim.Native.Nat.{◌-◌, ◌≤◌}
 use Rattle.counting.specs.Counting.{joined}
 use Rattle.text.specs.Numbers.{hex_digit}
 use Rattle.text.specs.Texts.{adding}
 use Rattle.text.proofs.with_hexadecimal.Given as goal
 
 abbrev pub invariant-loop-i : goal.invariant-loop-i
-invariant-loop-i l = (l.i ≤ 16) × (l.next ≡ adding l.initial.next (joined l.i (hex_digit l.x)))
-
-abbrev pub decreases-loop-i : goal.decreases-loop-i
-decreases-loop-i l = 16 - l.i
+invariant-loop-i l = l.next ≡ adding l.initial.next (joined l.i (hex_digit l.x))

@@ -14,6 +14,6 @@ returns-then-p-x c =
     rw (le-leb a.p a.x c.if-p-x.true)
     (c.with_byte.ensures ∙ ap (λ (d : ℕ). adding a.text (d ∷ [])) c.digit.ensures)
 
-pub returns : goal.returns
+pub returns-else-p-x : goal.returns-else-p-x
 unfolding place adding
-returns c = rw (lt-leb c.args.p c.args.x c.if-p-x.false) refl
+returns-else-p-x c = rw (lt-leb c.args.p c.args.x c.if-p-x.false) refl

@@ -8,14 +8,14 @@ pub returns-then-x-lt0 : goal.returns-then-x-lt0
 returns-then-x-lt0 c =
     rw (
       c.with_decimal.ensures,
-      c.size.ensures,
+      c.unsigned_abs.ensures.value,
       c.with_byte-next.ensures,
       adding_more,
       with_sign c.args.x c.ranges.x c.if-x-lt0.true,
     )
     refl
 
-pub returns : goal.returns
-returns c =
+pub returns-else-x-lt0 : goal.returns-else-x-lt0
+returns-else-x-lt0 c =
     let plain = without_sign c.args.x c.ranges.x c.if-x-lt0.false in
-    rw (c.with_decimal-2.ensures, c.size-2.ensures, plain) refl
+    rw (c.with_decimal-else-x-lt0.ensures, c.unsigned_abs-else-x-lt0.ensures.value, plain) refl

@@ -14,5 +14,5 @@ returns c =
     let first = second in
     let start = first in
     let a = start.args in
-    four_numbers a.part.now [] _ _ _ _ _ 0 4 2 2 2 a.offset a.count a.modules a.changeover refl start.requires refl
-    first.write32.ensures second.write16.ensures third.write16-2.ensures fourth.write16-3.ensures
+    four_numbers a.part.now [] _ _ _ _ _ 0 4 2 2 2 a.offset a.count a.cabinet.modules a.cabinet.changeover refl start.requires refl
+    first.write.ensures second.write-2.ensures third.write-3.ensures fourth.write-4.ensures

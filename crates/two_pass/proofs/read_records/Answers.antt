@@ -16,7 +16,7 @@ use Rattle.two_pass.proofs.read_records.Goals as goal
 
 pub loop-i-init : goal.loop-i-init
 unfolding no_jobs places joined sum any
-loop-i-init c = (omega arith, c.no_jobs-jobs.ensures, refl, refl, omega arith)
+loop-i-init c = (c.no_jobs-jobs.ensures, refl, refl, omega arith)
 
 pub loop-i-preserved : goal.loop-i-preserved
 unfolding sum any
@@ -26,10 +26,9 @@ loop-i-preserved c =
     c.args.offset in
     let n = c.args.count in
     let r = c.read_one-job in (
-      omega arith,
-      ap₂ (λ (l : List Job) (j : Job). set l v.i j) v.invariant.1 r.ensures ∙ place_more v.i f (omega arith),
-      rw add-one (ap₂ ◌+◌ v.invariant.2 (c.label_length-total.ensures.0 ∙ ap label_length r.ensures)),
-      rw add-one (c.either-found.ensures ∙ ap₂ ◌||◌ v.invariant.3 (c.faulty.ensures ∙ ap (faulty n) r.ensures)),
+      ap₂ (λ (l : List Job) (j : Job). set l v.i j) v.invariant.0 r.ensures ∙ place_more v.i f (omega arith),
+      rw add-one (ap₂ ◌+◌ v.invariant.1 (c.label_length-total.ensures.0 ∙ ap label_length r.ensures)),
+      rw add-one (ap₂ ◌||◌ v.invariant.2 (c.faulty-found.ensures ∙ ap (faulty n) r.ensures)),
       omega arith,
     )
 
@@ -38,7 +37,7 @@ returns c =
     let v = c.loop-i in
     let f = job_from c.args.sheet.now c.args.offset in
     let e : v.i ≡ c.args.count = omega arith in (
-      v.invariant.1 ∙ ap (λ k. places k f) e,
-      v.invariant.2 ∙ ap (λ k. label_lengths k f) e,
-      v.invariant.3 ∙ ap (λ k. any k (λ m. faulty c.args.count (f m))) e,
+      v.invariant.0 ∙ ap (λ k. places k f) e,
+      v.invariant.1 ∙ ap (λ k. label_lengths k f) e,
+      v.invariant.2 ∙ ap (λ k. any k (λ m. faulty c.args.count (f m))) e,
     )

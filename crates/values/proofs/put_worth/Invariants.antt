@@ -7,7 +7,4 @@ use Rattle.values.specs.Values.{worth_place}
 use Rattle.values.proofs.put_worth.Given as goal
 
 abbrev pub invariant-loop-k : goal.invariant-loop-k
-invariant-loop-k l = (l.k ≤ most_jobs) × Put (λ i. worth_place + i) l.initial.next.of l.next.of l.k (λ i. get_or l.weight i 0 * get_or l.value i 0)
-
-abbrev pub decreases-loop-k : goal.decreases-loop-k
-decreases-loop-k l = most_jobs - l.k
+invariant-loop-k l = Put (λ i. worth_place + i) l.initial.next.of l.next.of l.k (λ i. get_or l.weight i 0 * get_or l.value i 0)

@@ -8,6 +8,3 @@ use Rattle.weights.proofs.most_of.Given as goal
 abbrev pub invariant-loop-k : goal.invariant-loop-k
 invariant-loop-k l =
     ((l.count ≡ count_of l.jobs) × (l.modules ≡ modules_of l.jobs)) × ((l.k ≤ l.count) × MostOf l.jobs l.k l.q l.table.at)
-
-abbrev pub decreases-loop-k : goal.decreases-loop-k
-decreases-loop-k l = l.count - l.k

@@ -5,6 +5,3 @@ use Rattle.weights.proofs.outweighed.Given as goal
 
 abbrev pub invariant-loop-q : goal.invariant-loop-q
 invariant-loop-q l = l.q ≤ weightings
-
-abbrev pub decreases-loop-q : goal.decreases-loop-q
-decreases-loop-q l = weightings - l.q

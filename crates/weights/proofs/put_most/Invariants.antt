@@ -7,8 +7,4 @@ use Rattle.weights.proofs.put_most.Given as goal
 
 abbrev pub invariant-loop-x : goal.invariant-loop-x
 invariant-loop-x l =
-    (l.x ≤ widths) × (
-    Put (λ i. i * weightings + l.q) l.initial.next.most l.next.most l.x (λ i. get_or l.table i 0) × (l.next.worth ≡ l.initial.next.worth))
-
-abbrev pub decreases-loop-x : goal.decreases-loop-x
-decreases-loop-x l = widths - l.x
+    Put (λ i. i * weightings + l.q) l.initial.next.most l.next.most l.x (λ i. get_or l.table i 0) × (l.next.worth ≡ l.initial.next.worth)

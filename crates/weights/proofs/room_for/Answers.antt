@@ -1,6 +1,6 @@
 -- `weights::room_for` meets its contract.
 use native.Mathlib.Omega.{arith}
-use mathlib.Core.Path.{ap, ◌∙◌}
+use mathlib.Core.Path.{refl}
 use Prim.Native.Nat.{ℕ, ◌+◌, ◌*◌, ◌≤◌, min, max}
 use Rattle.tables.proofs.Laws.{zeros}
 use Rattle.weights.specs.Weights.{weightings}
@@ -10,12 +10,9 @@ use Rattle.weights.proofs.room_for.Goals as goal
 pub loop-i-init : goal.loop-i-init
 loop-i-init c =
     let pre = c.requires in (
-      (c.placed-placed.ensures, walk_start _ pre.0.1 pre.1.0 pre.1.1),
+      (refl, walk_start c.args.part.now pre.0.1 pre.1.0 pre.1.1),
       λ q l. room_start (λ x m. pre.0.0 (x * weightings + q) (omega (arith, pre.1.0))) (zeros weightings q),
     )
-
-pub until-requires : goal.until-requires
-until-requires c = omega (arith, c.loop-i.invariant.0.0, c.loop-i.invariant.0.1.few, c.loop-i-test.true)
 
 pub overflow_sub-to : goal.overflow_sub-to
 overflow_sub-to c = omega (arith, c.next_end-to.ensures)
@@ -33,30 +30,23 @@ with_room-room-requires c =
       λ q l. omega (arith, room_low walk (loop.invariant.1 q l) to on),
     )
 
-pub held-f-requires : goal.held-f-requires
-held-f-requires c =
-    let loop-test = c.loop-i-test in
-    let loop = c.loop-i in
-    omega (arith, loop.invariant.0.0, loop.invariant.0.1.few, loop-test.true)
-
 pub overflow_add-f : goal.overflow_add-f
 overflow_add-f c =
     let loop-test = c.loop-i-test in
     let loop = c.loop-i in
     let walk = loop.invariant.0.1 in
-    record { fits = omega (arith, c.held-f.ensures, walk_fits walk (omega (arith, loop.invariant.0.0, loop-test.true))) }
+    record { fits = omega (arith, walk_fits walk (omega (arith, loop.invariant.0.0, loop-test.true))) }
 
 pub loop-i-preserved : goal.loop-i-preserved
 loop-i-preserved c =
     let with-room = c.with_room-room in
     let next-end = c.next_end-to in
-    let until = c.until in
     let loop-test = c.loop-i-test in
     let args = c.args in
     let loop = c.loop-i in
     let walk = loop.invariant.0.1 in
-    let to = next-end.ensures ∙ ap (λ (x : ℕ). max loop.at (min x args.close)) until.ensures in
-    rw (to, c.held-f.ensures) (
+    let to = next-end.ensures in
+    rw (to) (
       (loop.invariant.0.0, walk_step walk (omega (arith, loop.invariant.0.0, loop-test.true))),
       λ q l. rw (with-room.ensures q l, to) (room-step walk (loop.invariant.1 q l)),
     )

@@ -5,30 +5,26 @@ use Prim.Native.Nat.{◌+◌, ◌*◌}
 use Rattle.bits.proofs.Walks.{walk_first, walk_next, walk_less}
 use Rattle.bits.proofs.Weighing.{weighed-none, weighed_more, weighed_small, weighed_all}
 use Rattle.tables.specs.Tables.{count_of}
-use Rattle.tables.specs.Part.{part_in}
 use Rattle.tables.proofs.Laws.{zeros}
 use Rattle.weights.specs.Weights.{weightings, most_worth}
 use Rattle.weights.proofs.set_worth.Goals as goal
 
-pub below32-todo-requires : goal.below32-todo-requires
-below32-todo-requires c = omega (arith, c.count.ensures, c.requires.0)
+pub below-requires : goal.below-requires
+below-requires c = omega (arith, c.count.ensures, c.requires.0)
 
-pub loop-todo-init : goal.loop-todo-init
-loop-todo-init c =
-    let set = (part_in c.args.part.now).unplaced in
+pub loop-k-init : goal.loop-k-init
+loop-k-init c =
+    let set = c.args.part.now.unplaced in
     let jobs = count_of c.args.jobs.now in
-    rw (c.below32-todo.ensures, c.unplaced.ensures, c.count.ensures)
+    rw (c.into_iter-k-iterator.ensures.into_iter_gives, c.members-k-items.ensures, c.below.ensures, c.count.ensures)
     (walk_first jobs set, λ q l. weighed-none set jobs _ _ (zeros weightings q))
-
-pub lowest32-k-requires : goal.lowest32-k-requires
-lowest32-k-requires c = pos_of_ne-zero c.loop-todo-test.true
 
 pub with_worth-weight-requires : goal.with_worth-weight-requires
 with_worth-weight-requires c =
-    let loop = c.loop-todo in
+    let loop = c.loop-k in
     let pre = c.requires in
-    let k = c.lowest32-k.result in
-    let member = c.lowest32-k.ensures.1 in
+    let k = c.in-Some.k in
+    let member = c.in-Some.ensures.steps.1 in
     let low = loop.invariant.0.below k member in (
       omega (arith, pre.0),
       λ q l. omega (
@@ -38,24 +34,16 @@ with_worth-weight-requires c =
       ),
     )
 
-pub without_lowest32-todo-requires : goal.without_lowest32-todo-requires
-without_lowest32-todo-requires c = pos_of_ne-zero c.loop-todo-test.true
-
-pub loop-todo-smaller : goal.loop-todo-smaller
-loop-todo-smaller c =
-    let low = c.lowest32-k.ensures in
-    rw (c.without_lowest32-todo.ensures _ low.1 low.2) (walk_less _ _ low.1)
-
-pub loop-todo-preserved : goal.loop-todo-preserved
-loop-todo-preserved c =
-    let loop = c.loop-todo in
-    let k = c.lowest32-k.result in
-    let low = c.lowest32-k.ensures in
-    rw (c.without_lowest32-todo.ensures _ low.1 low.2) (
+pub loop-k-preserved : goal.loop-k-preserved
+loop-k-preserved c =
+    let loop = c.loop-k in
+    let k = c.in-Some.k in
+    let low = c.in-Some.ensures.steps in
+    rw (c.in-Some.ensures.steps.3) (
       walk_next k loop.invariant.0,
       λ q l. rw (c.with_worth-weight.ensures q l) (weighed_more (loop.invariant.1 q l) k (loop.invariant.0.below k low.1) low.1),
     )
 
 pub returns : goal.returns
 returns c =
-    λ q l. weighed_all (c.loop-todo.invariant.1 q l) (omega (arith, c.loop-todo-test.false))
+    λ q l. weighed_all (c.loop-k.invariant.1 q l) (omega (arith, c.in-None.ensures.steps.0))

@@ -1,20 +1,14 @@
 -- `weights::set_worth` meets its contract.
 use Prim.Native.Nat.{ℕ, ◌+◌, ◌*◌, ◌<◌}
-use lib.Count.{ones}
 use lib.ListN.{get_or}
 use Rattle.bits.proofs.Walks.{Walk}
 use Rattle.bits.proofs.Weighing.{Weighed}
 use Rattle.tables.specs.Tables.{count_of}
-use Rattle.tables.specs.Part.{part_in}
-use Rattle.tables.specs.Prepared.{worth_in}
 use Rattle.weights.specs.Weights.{weightings}
 use Rattle.weights.proofs.set_worth.Given as goal
 
-abbrev pub invariant-loop-todo : goal.invariant-loop-todo
-invariant-loop-todo l =
-    Walk (part_in l.part).unplaced (count_of l.jobs) l.todo
+abbrev pub invariant-loop-k : goal.invariant-loop-k
+invariant-loop-k l =
+    Walk l.part.unplaced (count_of l.jobs) l.k-iterator.left
     × ((q : ℕ) → q < weightings
-    → Weighed (part_in l.part).unplaced (count_of l.jobs) (λ k. get_or (worth_in l.prepared) (k * weightings + q) 0) l.todo (get_or l.weight.of q 0))
-
-abbrev pub decreases-loop-todo : goal.decreases-loop-todo
-decreases-loop-todo l = ones l.todo
+    → Weighed l.part.unplaced (count_of l.jobs) (λ k. get_or l.prepared.worth (k * weightings + q) 0) l.k-iterator.left (get_or l.weight.of q 0))

@@ -4,7 +4,4 @@ use Rattle.weights.specs.Weights.{weightings, WeightedTo}
 use Rattle.weights.proofs.weightings.Given as goal
 
 abbrev pub invariant-loop-q : goal.invariant-loop-q
-invariant-loop-q l = (l.q ≤ weightings) × WeightedTo l.jobs l.all.worth l.all.most l.q
-
-abbrev pub decreases-loop-q : goal.decreases-loop-q
-decreases-loop-q l = weightings - l.q
+invariant-loop-q l = WeightedTo l.jobs l.all.worth l.all.most l.q

@@ -9,7 +9,7 @@ use borrow.Author.Rules.{rules}
 use Rattle.weights.proofs.with_job.Goals as goal
 
 pub loop-x-init : goal.loop-x-init
-loop-x-init c = (search rules, put-none _ _ _)
+loop-x-init c = put-none _ _ _
 
 pub most_with-requires : goal.most_with-requires
 most_with-requires c =
@@ -24,11 +24,11 @@ loop-x-preserved c =
     let loop-test = c.loop-x-test in
     let size = length-replicate {A = ℕ} widths 0 in
     let low : loop.x < widths = omega (arith, pre.1.1, loop-test.true) in
-    (search rules, put_more loop.invariant.1 _ (λ k m e. omega arith) (omega arith) c.most_with.ensures)
+    put_more loop.invariant _ (λ k m e. omega arith) (omega arith) c.most_with.ensures
 
 pub returns : goal.returns
 returns c =
     let loop = c.loop-x in
     let args = c.args in
-    let e : loop.x ≡ args.modules + 1 = omega (arith, loop.invariant.0, c.loop-x-test.false) in
-    rw e at loop.invariant.1
+    let e : loop.x ≡ args.modules + 1 = omega (arith, loop.auto.x-end, c.loop-x-test.false) in
+    rw e at loop.invariant

@@ -10,6 +10,3 @@ invariant-loop-k l =
     ((l.count ≡ count_of l.jobs) × (l.k ≤ l.count))
     × (Put (λ i. i * weightings + l.q) l.initial.next.worth l.next.worth l.k (λ i. kept_at l.jobs i * weight_in (modules_of l.jobs) l.q (need_at l.jobs i))
     × (l.next.most ≡ l.initial.next.most))
-
-abbrev pub decreases-loop-k : goal.decreases-loop-k
-decreases-loop-k l = l.count - l.k

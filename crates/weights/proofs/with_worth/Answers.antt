@@ -1,6 +1,6 @@
 -- `weights::with_worth` meets its contract.
 use native.Mathlib.Omega.{arith}
-use mathlib.Core.Path.{◌≡◌}
+use mathlib.Core.Path.{◌≡◌, refl}
 use Prim.Native.Nat.{ℕ}
 use lib.ListN.{length-replicate}
 use Rattle.weights.specs.Weights.{weightings}
@@ -9,26 +9,23 @@ use borrow.Author.Rules.{rules}
 use Rattle.weights.proofs.with_worth.Goals as goal
 
 pub loop-q-init : goal.loop-q-init
-loop-q-init c = (search rules, put-none _ _ _)
-
-pub worth-requires : goal.worth-requires
-worth-requires c = omega (arith, c.requires.0, c.loop-q-test.true)
+loop-q-init c = put-none _ _ _
 
 pub overflow_add-next : goal.overflow_add-next
 overflow_add-next c =
     let loop-test = c.loop-q-test in
     let loop = c.loop-q in
     let pre = c.requires in
-    record { fits = omega (arith, c.worth.ensures, pre.1 loop.q loop-test.true) }
+    record { fits = omega (arith, pre.1 loop.q loop-test.true) }
 
 pub loop-q-preserved : goal.loop-q-preserved
 loop-q-preserved c =
     let loop-test = c.loop-q-test in
     let loop = c.loop-q in
     let size = length-replicate {A = ℕ} weightings 0 in
-    (search rules, put_more loop.invariant.1 _ (λ i m e. omega arith) (omega (arith, loop-test.true)) (omega (arith, c.worth.ensures)))
+    put_more loop.invariant _ (λ i m e. omega arith) (omega (arith, loop-test.true)) refl
 
 pub returns : goal.returns
 returns c =
-    let e : c.loop-q.q ≡ weightings = omega (arith, c.loop-q.invariant.0, c.loop-q-test.false) in
-    rw e at c.loop-q.invariant.1.each
+    let e : c.loop-q.q ≡ weightings = omega (arith, c.loop-q.auto.q-end, c.loop-q-test.false) in
+    rw e at c.loop-q.invariant.each

@@ -11,18 +11,18 @@ returns-then-free-ge-LIMIT c = sym (filled_above c.args.sums c.args.free c.if-fr
 pub loop-s-init : goal.loop-s-init
 loop-s-init c = (omega (arith, c.if-free-ge-LIMIT.false), omega arith, λ x l m. absurd (omega arith))
 
-pub test64-requires : goal.test64-requires
-test64-requires c = omega (arith, c.loop-s.invariant.0, c.loop-s.invariant.1)
+pub has-requires : goal.has-requires
+has-requires c = omega (arith, c.loop-s.invariant.0, c.loop-s.invariant.1)
 
-pub returns-then-test64 : goal.returns-then-test64
-returns-then-test64 c =
+pub returns-then-has : goal.returns-then-has
+returns-then-has c =
     let loop = c.loop-s in
-    filled_is _ _ _ loop.invariant.0 loop.invariant.1 (inl (sym c.test64.ensures ∙ c.if-test64.true)) loop.invariant.2
+    filled_is _ _ _ loop.invariant.0 loop.invariant.1 (inl (sym c.has.ensures ∙ c.if-has.true)) loop.invariant.2
 
 pub loop-s-preserved : goal.loop-s-preserved
 loop-s-preserved c =
     let loop = c.loop-s in
-    let none = sym c.test64.ensures ∙ c.if-test64.false in
+    let none = sym c.has.ensures ∙ c.if-has.false in
     (loop.invariant.0, omega (arith, loop.invariant.1), none_above _ _ _ none loop.invariant.2)
 
 pub returns : goal.returns

@@ -5,32 +5,21 @@ use Rattle.bits.proofs.Walks.{walk_less}
 use Rattle.widths.proofs.Sums.{summed-none, summed_more, summed_all}
 use Rattle.widths.proofs.sums_of.Goals as goal
 
-pub loop-todo-init : goal.loop-todo-init
-loop-todo-init c = rw (c.below32-todo.ensures, c.count.ensures) (summed-none _ _)
-
-pub lowest32-j-requires : goal.lowest32-j-requires
-lowest32-j-requires c = pos_of_ne-zero c.loop-todo-test.true
+pub loop-j-init : goal.loop-j-init
+loop-j-init c = rw (c.into_iter-j-iterator.ensures.into_iter_gives, c.members-j-items.ensures, c.below.ensures, c.count.ensures) (summed-none _ _)
 
 pub need-requires : goal.need-requires
 need-requires c =
-    let inv = c.loop-todo.invariant in
+    let inv = c.loop-j.invariant in
     let count = c in
-    omega (arith, inv.walk.below _ c.lowest32-j.ensures.1, count.requires.few)
+    omega (arith, inv.walk.below _ c.in-Some.ensures.steps.1, count.requires.few)
 
-pub without_lowest32-todo-requires : goal.without_lowest32-todo-requires
-without_lowest32-todo-requires c = pos_of_ne-zero c.loop-todo-test.true
-
-pub loop-todo-smaller : goal.loop-todo-smaller
-loop-todo-smaller c =
-    let low = c.lowest32-j.ensures in
-    rw (c.without_lowest32-todo.ensures _ low.1 low.2) (walk_less _ _ low.1)
-
-pub loop-todo-preserved : goal.loop-todo-preserved
-loop-todo-preserved c =
+pub loop-j-preserved : goal.loop-j-preserved
+loop-j-preserved c =
     let need = c in
-    let low = need.lowest32-j.ensures in
-    rw (c.without_lowest32-todo.ensures _ low.1 low.2)
-    (summed_more need.loop-todo.invariant _ _ low.1 (rw need.need.ensures at c.with_width-sums.ensures))
+    let low = need.in-Some.ensures.steps in
+    rw (c.in-Some.ensures.steps.3)
+    (summed_more need.loop-j.invariant _ _ low.1 (rw need.need.ensures at c.with_width-sums.ensures))
 
 pub returns : goal.returns
-returns c = summed_all c.loop-todo.invariant (omega (arith, c.loop-todo-test.false))
+returns c = summed_all c.loop-j.invariant (omega (arith, c.in-None.ensures.steps.0))

@@ -1,43 +1,20 @@
 -- `desk::Desk::places_ok` meets its contract: each place that was passed is right.
-use mathlib.Core.Path.{◌≡◌, refl, sym, ◌∙◌}
-use native.Mathlib.Omega.{arith}
+use mathlib.Core.Path.{refl, sym, ◌∙◌}
 use Rattle.counting.specs.Counting.{every}
-use Rattle.desk.specs.Desk.{most_controllers}
 use Rattle.desk.specs.Checks.{place_ok_at}
 use Rattle.counting.proofs.Loops.{every_more, every-not}
 use Rattle.desk.proofs.Desk.places_ok.Goals as goal
 
 pub loop-i-init : goal.loop-i-init
 unfolding every
-loop-i-init c = (omega arith, refl)
-
-pub overflow_cast-i : goal.overflow_cast-i
-overflow_cast-i c = omega arith
-
-pub place_ok_at-requires : goal.place_ok_at-requires
-place_ok_at-requires c = c.loop-i-test.true
+loop-i-init c = refl
 
 pub returns-then-not-place_ok_at : goal.returns-then-not-place_ok_at
 returns-then-not-place_ok_at c =
-    let lent = c.args.self in
-    sym (every-not _ (place_ok_at lent) c.loop-i.i c.loop-i-test.true
+    sym (every-not _ (place_ok_at c.args.self) c.loop-i.i c.loop-i-test.true
     (sym c.place_ok_at.ensures ∙ c.if-not-place_ok_at.true))
-
-pub overflow_add-i : goal.overflow_add-i
-overflow_add-i c = omega arith
-
-pub loop-i-smaller : goal.loop-i-smaller
-loop-i-smaller c = omega arith
 
 pub loop-i-preserved : goal.loop-i-preserved
 loop-i-preserved c =
-    let lent = c.args.self in (
-      omega arith,
-      every_more (place_ok_at lent) c.loop-i.i c.loop-i.invariant.1
-          (sym c.place_ok_at.ensures ∙ c.if-not-place_ok_at.false),
-    )
-
-pub returns : goal.returns
-returns c =
-    let e : c.loop-i.i ≡ most_controllers = omega arith in
-    sym (rw (← e) c.loop-i.invariant.1)
+    every_more (place_ok_at c.args.self) c.loop-i.i c.loop-i.invariant
+    (sym c.place_ok_at.ensures ∙ c.if-not-place_ok_at.false)

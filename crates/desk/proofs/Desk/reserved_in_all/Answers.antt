@@ -1,5 +1,5 @@
 -- `desk::Desk::reserved_in_all` meets its contract: the total is that of the places passed, each within the limit.
-use mathlib.Core.Path.{◌≡◌, refl, ap, ◌∙◌}
+use mathlib.Core.Path.{refl, ap, ◌∙◌}
 use Prim.Native.Nat.{ℕ, ◌+◌, ◌≤◌, ◌<◌}
 use native.Mathlib.Omega.{arith}
 use Rattle.counting.specs.Counting.{sum}
@@ -13,46 +13,21 @@ use Rattle.desk.proofs.Desk.reserved_in_all.Goals as goal
 
 pub loop-i-init : goal.loop-i-init
 unfolding sum
-loop-i-init c = (omega arith, refl)
-
-pub reserved_at-total-requires : goal.reserved_at-total-requires
-reserved_at-total-requires c =
-    let inside : c.loop-i.i < most_controllers = omega (arith, c.requires.0) in
-    inside
+loop-i-init c = refl
 
 pub overflow_add-total : goal.overflow_add-total
 overflow_add-total c =
-    let lent = c.args.self in
-    let inside : c.loop-i.i < most_controllers = omega (arith, c.requires.0) in
-    let small : (i : ℕ) → i < lent.count → reserved lent i ≤ most_power = λ i l.
+    let d = c.args.self in
     let p = c.requires in
-    let d = lent in
+    let small : (i : ℕ) → i < d.count → reserved d i ≤ most_power = λ i l.
     let m = p.1 in
     omega (arith, place_small d i (place_says d i (every-at most_controllers (place_ok_at d) p.2 i (omega (arith, p.0))))) in
-    let t = c.loop-i.invariant.1 in
-    let s = sum_most c.loop-i.i (reserved lent) most_power (λ k h. small k (omega arith)) in
-    let i = inside in
+    let t = c.loop-i.invariant in
+    let s = sum_most c.loop-i.i (reserved d) most_power (λ k h. small k (omega arith)) in
     let r = c.reserved_at-total.ensures in
-    omega (arith, small c.loop-i.i c.loop-i-test.true)
-
-pub overflow_add-i : goal.overflow_add-i
-overflow_add-i c =
-    let inside : c.loop-i.i < most_controllers = omega (arith, c.requires.0) in
-    omega (arith, inside)
-
-pub loop-i-smaller : goal.loop-i-smaller
-loop-i-smaller c = omega arith
+    omega (arith, p.0, small c.loop-i.i c.loop-i-test.true)
 
 pub loop-i-preserved : goal.loop-i-preserved
 loop-i-preserved c =
-    let lent = c.args.self in (
-      omega arith,
-      ap (λ (r : ℕ). c.loop-i.total + r) c.reserved_at-total.ensures
-          ∙ sum_more (reserved lent) c.loop-i.i c.loop-i.total c.loop-i.invariant.1,
-    )
-
-pub returns : goal.returns
-returns c =
-    let lent = c.args.self in
-    let e : c.loop-i.i ≡ lent.count = omega arith in
-    rw (← e) c.loop-i.invariant.1
+    ap (λ (r : ℕ). c.loop-i.total + r) c.reserved_at-total.ensures
+    ∙ sum_more (reserved c.args.self) c.loop-i.i c.loop-i.total c.loop-i.invariant

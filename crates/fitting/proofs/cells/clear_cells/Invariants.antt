@@ -4,7 +4,4 @@ use Rattle.weights.specs.Weights.{Put}
 use Rattle.fitting.proofs.cells.clear_cells.Given as goal
 
 abbrev pub invariant-loop-i : goal.invariant-loop-i
-invariant-loop-i l = (l.i ≤ l.n) × Put (λ x. 0 + x) l.initial.slate l.slate l.i (λ x. 0)
-
-abbrev pub decreases-loop-i : goal.decreases-loop-i
-decreases-loop-i l = l.n - l.i
+invariant-loop-i l = Put (λ x. 0 + x) l.initial.slate l.slate l.i (λ x. 0)

@@ -5,7 +5,4 @@ use Rattle.fitting.specs.Fitting.{row_at}
 use Rattle.fitting.proofs.cells.lift_cells.Given as goal
 
 abbrev pub invariant-loop-i : goal.invariant-loop-i
-invariant-loop-i l = (l.i ≤ l.n) × Put (λ x. l.at + x) l.initial.slate l.slate l.i (λ x. max (row_at l.initial.slate l.from x) l.least)
-
-abbrev pub decreases-loop-i : goal.decreases-loop-i
-decreases-loop-i l = l.n - l.i
+invariant-loop-i l = Put (λ x. l.at + x) l.initial.slate l.slate l.i (λ x. max (row_at l.initial.slate l.from x) l.least)

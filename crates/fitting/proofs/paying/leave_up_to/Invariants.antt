@@ -6,6 +6,3 @@ use Rattle.fitting.proofs.paying.leave_up_to.Given as goal
 
 abbrev pub invariant-loop-k : goal.invariant-loop-k
 invariant-loop-k l = length l.slate ≡ length l.initial.slate
-
-abbrev pub decreases-loop-k : goal.decreases-loop-k
-decreases-loop-k l = l.count + 1 - l.k

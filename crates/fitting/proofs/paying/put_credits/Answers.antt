@@ -2,4 +2,4 @@
 use Rattle.fitting.proofs.paying.put_credits.Goals as goal
 
 pub returns : goal.returns
-returns c = c.loop-count.invariant.1
+returns c = c.loop-count.invariant

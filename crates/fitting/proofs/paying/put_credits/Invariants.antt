@@ -6,7 +6,4 @@ use Rattle.figures.specs.Figures.{most_jobs}
 use Rattle.fitting.proofs.paying.put_credits.Given as goal
 
 abbrev pub invariant-loop-count : goal.invariant-loop-count
-invariant-loop-count l = (l.count ≤ most_jobs + 1) × (length l.slate ≡ length l.initial.slate)
-
-abbrev pub decreases-loop-count : goal.decreases-loop-count
-decreases-loop-count l = most_jobs + 1 - l.count
+invariant-loop-count l = length l.slate ≡ length l.initial.slate

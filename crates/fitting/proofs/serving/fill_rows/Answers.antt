@@ -67,11 +67,6 @@ overflow_add-from c =
     let past = c in
     record { fits = omega (arith, c.loop-i.invariant.0.1.0, room_more past.args.frame.cols c.loop-i.i past.args.count c.loop-i-test.true past.requires.0.1.1) }
 
-pub overflow_add-i : goal.overflow_add-i
-overflow_add-i c =
-    let past = c in
-    record { fits = omega (arith, past.requires.1.0.few, c.loop-i-test.true) }
-
 pub loop-i-preserved : goal.loop-i-preserved
 loop-i-preserved c =
     let past = c in

@@ -9,6 +9,3 @@ abbrev pub invariant-loop-i : goal.invariant-loop-i
 invariant-loop-i l =
     ((l.i ≤ l.count) × ((l.from ≡ l.frame.cols * l.i) × (length l.slate ≡ slate_size)))
     × RowOf l.jobs l.frame (λ k. get_or l.release k 0) (λ k. get_or l.value k 0) l.order l.i (row_at l.slate l.from)
-
-abbrev pub decreases-loop-i : goal.decreases-loop-i
-decreases-loop-i l = l.count - l.i

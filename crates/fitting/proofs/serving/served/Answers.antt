@@ -1,7 +1,6 @@
 -- `fitting::serving::served` meets its contract.
 use native.Mathlib.Omega.{arith}
-use mathlib.Core.Path.{ap, ◌∙◌}
-use Prim.Native.Nat.{ℕ, min, max}
+use mathlib.Core.Path.{refl}
 use Rattle.weights.proofs.Walks.{walk_start, walk_fits, walk_step}
 use Rattle.lanes.proofs.Laws.{serve_start, serve-step, serve-done, serve_low, serve_all_low, reach_falls}
 use borrow.Author.Rules.{rules}
@@ -13,12 +12,9 @@ reach_from-reach-requires c = (c.requires.0, (search rules, c.requires.0.0.befor
 pub loop-i-init : goal.loop-i-init
 loop-i-init c =
     let s = c.requires.1 in (
-      (c.placed-placed.ensures, (c.requires.0, search rules)),
-      (s, (walk_start _ s.profile s.narrow s.before, serve_start s c.reach_from-reach.result c.reach_from-reach.ensures)),
+      (refl, (c.requires.0, search rules)),
+      (s, (walk_start c.args.part.now s.profile s.narrow s.before, serve_start s c.reach_from-reach.result c.reach_from-reach.ensures)),
     )
-
-pub until-requires : goal.until-requires
-until-requires c = omega (arith, c.loop-i.invariant.0.0, c.loop-i.invariant.1.1.0.few, c.loop-i-test.true)
 
 pub reach_from-next-requires : goal.reach_from-next-requires
 reach_from-next-requires c =
@@ -49,14 +45,10 @@ overflow_add-total c =
     let low = serve_low inv.0 inv.1.0 inv.1.1 next.result (omega (arith, next.ensures, falls)) in
     rw c.wide.ensures (record { fits = omega (arith, low) })
 
-pub held-f-requires : goal.held-f-requires
-held-f-requires c =
-    omega (arith, c.loop-i.invariant.0.0, c.loop-i.invariant.1.1.0.few, c.loop-i-test.true)
-
 pub overflow_add-f : goal.overflow_add-f
 overflow_add-f c =
     let inv = c.loop-i.invariant in
-    record { fits = omega (arith, c.held-f.ensures, walk_fits inv.1.1.0 (omega (arith, inv.0.0, c.loop-i-test.true))) }
+    record { fits = omega (arith, walk_fits inv.1.1.0 (omega (arith, inv.0.0, c.loop-i-test.true))) }
 
 pub loop-i-preserved : goal.loop-i-preserved
 loop-i-preserved c =
@@ -66,11 +58,11 @@ loop-i-preserved c =
     let s = inv.1.0 in
     let walk = inv.1.1.0 in
     let next = c.reach_from-next in
-    let to = c.next_end-to.ensures ∙ ap (λ (x : ℕ). max loop.at (min x past.args.frame.close)) c.until.ensures in
+    let to = c.next_end-to.ensures in
     let step = serve-step s walk inv.1.1.1 c.next_end-to.result next.result to next.ensures in
     let on = walk_step walk (omega (arith, inv.0.0, c.loop-i-test.true)) in (
       (inv.0.0, (inv.0.1.0, omega (arith, c.next_end-to.ensures, inv.0.1.1))),
-      (s, (rw (to, c.held-f.ensures) on, rw c.wide.ensures step)),
+      (s, (rw (to) on, rw c.wide.ensures step)),
     )
 
 pub overflow_mul-result : goal.overflow_mul-result

@@ -5,10 +5,10 @@ use borrow.Author.Rules.{rules}
 use Rattle.fitting.proofs.turning.double_shares.Goals as goal
 
 pub loop-i-init : goal.loop-i-init
-loop-i-init c = (search rules, refl)
+loop-i-init c = refl
 
 pub loop-i-preserved : goal.loop-i-preserved
-loop-i-preserved c = (search rules, simp length-set c.loop-i.invariant.1)
+loop-i-preserved c = simp length-set c.loop-i.invariant
 
 pub returns : goal.returns
-returns c = c.loop-i.invariant.1
+returns c = c.loop-i.invariant

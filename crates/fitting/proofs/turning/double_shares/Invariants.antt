@@ -5,7 +5,4 @@ use Prim.Native.Nat.{◌-◌, ◌≤◌}
 use Rattle.fitting.proofs.turning.double_shares.Given as goal
 
 abbrev pub invariant-loop-i : goal.invariant-loop-i
-invariant-loop-i l = (l.i ≤ l.count) × (length l.slate ≡ length l.initial.slate)
-
-abbrev pub decreases-loop-i : goal.decreases-loop-i
-decreases-loop-i l = l.count - l.i
+invariant-loop-i l = length l.slate ≡ length l.initial.slate

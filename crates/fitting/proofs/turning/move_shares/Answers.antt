@@ -5,12 +5,12 @@ use borrow.Author.Rules.{rules}
 use Rattle.fitting.proofs.turning.move_shares.Goals as goal
 
 pub loop-i-init : goal.loop-i-init
-loop-i-init c = (search rules, refl)
+loop-i-init c = refl
 
 pub loop-i-preserved : goal.loop-i-preserved
 loop-i-preserved c =
     let past = c in
-    (search rules, simp length-set past.loop-i.invariant.1)
+    simp length-set past.loop-i.invariant
 
 pub returns : goal.returns
-returns c = c.loop-i.invariant.1
+returns c = c.loop-i.invariant

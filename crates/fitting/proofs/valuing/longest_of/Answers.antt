@@ -11,7 +11,7 @@ kept-requires c = omega (arith, c.requires.few, c.loop-k.invariant.0, c.loop-k-t
 
 pub loop-k-preserved : goal.loop-k-preserved
 loop-k-preserved c =
-    ((c.loop-k.invariant.0.0, search rules), omega (arith, c.larger-longest.ensures, c.loop-k.invariant.1))
+    ((c.loop-k.invariant.0.0, search rules), omega (arith, c.max-longest.ensures, c.loop-k.invariant.1))
 
 pub returns : goal.returns
 returns c = c.loop-k.invariant.1

@@ -6,6 +6,3 @@ use Rattle.fitting.proofs.valuing.longest_of.Given as goal
 
 abbrev pub invariant-loop-k : goal.invariant-loop-k
 invariant-loop-k l = ((l.count ≡ count_of l.jobs) × (l.k ≤ l.count)) × (0 < l.longest)
-
-abbrev pub decreases-loop-k : goal.decreases-loop-k
-decreases-loop-k l = l.count - l.k

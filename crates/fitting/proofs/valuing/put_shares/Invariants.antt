@@ -7,6 +7,3 @@ use Rattle.fitting.proofs.valuing.put_shares.Given as goal
 
 abbrev pub invariant-loop-k : goal.invariant-loop-k
 invariant-loop-k l = ((l.count ≡ count_of l.jobs) × (l.k ≤ l.count)) × (length l.slate ≡ length l.initial.slate)
-
-abbrev pub decreases-loop-k : goal.decreases-loop-k
-decreases-loop-k l = l.count - l.k

@@ -9,12 +9,8 @@ use Rattle.fitting.proofs.valuing.values_of.Goals as goal
 pub loop-k-init : goal.loop-k-init
 loop-k-init c = ((c.count-count.ensures, search rules), (search rules, valued-none _ _ _))
 
-pub test32-left-requires : goal.test32-left-requires
-test32-left-requires c = omega (arith, c.requires.few, c.loop-k.invariant.0, c.loop-k-test.true)
-
-pub overflow_add-k : goal.overflow_add-k
-overflow_add-k c =
-    record { fits = omega (arith, c.requires.few, c.loop-k.invariant.0, c.loop-k-test.true) }
+pub has-left-requires : goal.has-left-requires
+has-left-requires c = omega (arith, c.requires.few, c.loop-k.invariant.0, c.loop-k-test.true)
 
 pub offset_bounds-slate-k : goal.offset_bounds-slate-k
 offset_bounds-slate-k c =
@@ -41,7 +37,7 @@ loop-k-preserved c =
       (inv.0.0, search rules),
       (
         search rules,
-        valued_more c.args.set inv.1.1 loop.k _ low value.0 (rw c.kept.ensures at value.1.0) (rw c.test32-left.ensures at value.1.1),
+        valued_more c.args.set inv.1.1 loop.k _ low value.0 (rw c.kept.ensures at value.1.0) (rw c.has-left.ensures at value.1.1),
       ),
     )
 

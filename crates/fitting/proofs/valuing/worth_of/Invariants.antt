@@ -11,6 +11,3 @@ use Rattle.fitting.proofs.valuing.worth_of.Given as goal
 abbrev pub invariant-loop-k : goal.invariant-loop-k
 invariant-loop-k l =
     ((l.count ≡ count_of l.jobs) × (l.k ≤ l.count)) × ((l.total ≡ sum l.k (λ i. need_at l.jobs i * get_or l.value i 0)) × (l.total ≤ most_modules * top_value * l.k))
-
-abbrev pub decreases-loop-k : goal.decreases-loop-k
-decreases-loop-k l = l.count - l.k

@@ -7,6 +7,3 @@ use Rattle.values.proofs.serving.reach_of.Given as goal
 
 abbrev pub invariant-loop-k : goal.invariant-loop-k
 invariant-loop-k l = (l.count ≡ count_of l.jobs) × ((l.k ≤ l.count) × Reached l.jobs l.value l.k l.step l.reach.at)
-
-abbrev pub decreases-loop-k : goal.decreases-loop-k
-decreases-loop-k l = l.count - l.k

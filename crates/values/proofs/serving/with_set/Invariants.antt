@@ -5,6 +5,3 @@ use Rattle.values.proofs.serving.with_set.Given as goal
 
 abbrev pub invariant-loop-x : goal.invariant-loop-x
 invariant-loop-x l = l.width ≤ l.x
-
-abbrev pub decreases-loop-x : goal.decreases-loop-x
-decreases-loop-x l = steps - l.x

@@ -21,7 +21,7 @@ overflow_add-value c =
 pub loop-x-preserved : goal.loop-x-preserved
 loop-x-preserved c =
     let loop = c.loop-x in
-    let larger = c.larger in
+    let larger = c.max in
     let args = c.args in
     let pre = c.requires in
     let loop-test = c.loop-x-test in

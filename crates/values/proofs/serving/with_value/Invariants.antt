@@ -6,6 +6,3 @@ use Rattle.values.proofs.serving.with_value.Given as goal
 
 abbrev pub invariant-loop-x : goal.invariant-loop-x
 invariant-loop-x l = (l.width ≤ l.x) × Put (λ y. y) l.old l.next l.x (most_with l.old l.width l.value)
-
-abbrev pub decreases-loop-x : goal.decreases-loop-x
-decreases-loop-x l = steps - l.x

@@ -4,14 +4,14 @@ use borrow.Author.Rules.{rules}
 use Rattle.values.proofs.valuing.first_shares.Goals as goal
 
 pub loop-k-init : goal.loop-k-init
-loop-k-init c = (c.count-count.ensures, search rules)
+loop-k-init c = c.count-count.ensures
 
 pub kept-requires : goal.kept-requires
-kept-requires c = omega (arith, c.requires, c.loop-k.invariant.0, c.loop-k-test.true)
+kept-requires c = omega (arith, c.requires, c.loop-k.invariant, c.loop-k-test.true)
 
 pub bounds-next-k : goal.bounds-next-k
 bounds-next-k c =
     let loop-test = c.loop-k-test in
     let loop = c.loop-k in
     let pre = c.requires in
-    omega (arith, pre, loop.invariant.0, loop-test.true)
+    omega (arith, pre, loop.invariant, loop-test.true)

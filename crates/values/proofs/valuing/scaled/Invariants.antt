@@ -4,7 +4,4 @@ use Rattle.figures.specs.Figures.{most_jobs}
 use Rattle.values.proofs.valuing.scaled.Given as goal
 
 abbrev pub invariant-loop-k : goal.invariant-loop-k
-invariant-loop-k l = (l.k ≤ most_jobs) × (0 < l.top)
-
-abbrev pub decreases-loop-k : goal.decreases-loop-k
-decreases-loop-k l = most_jobs - l.k
+invariant-loop-k l = 0 < l.top

@@ -5,6 +5,3 @@ use Rattle.values.proofs.valuing.turn.Given as goal
 
 abbrev pub invariant-loop-k : goal.invariant-loop-k
 invariant-loop-k l = l.k ≤ most_jobs
-
-abbrev pub decreases-loop-k : goal.decreases-loop-k
-decreases-loop-k l = most_jobs - l.k

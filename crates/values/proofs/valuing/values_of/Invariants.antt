@@ -9,6 +9,3 @@ use Rattle.values.proofs.valuing.values_of.Given as goal
 
 abbrev pub invariant-loop-k : goal.invariant-loop-k
 invariant-loop-k l = ((l.count ≡ count_of l.jobs) × (l.k ≤ l.count)) × ((length l.next ≡ most_jobs) × Valued l.jobs l.step l.next)
-
-abbrev pub decreases-loop-k : goal.decreases-loop-k
-decreases-loop-k l = l.count - l.k

@@ -7,7 +7,7 @@ pub own_weights-best-requires : goal.own_weights-best-requires
 own_weights-best-requires c = c.requires
 
 pub loop-q-init : goal.loop-q-init
-loop-q-init c = (search rules, c.own_weights-best.ensures)
+loop-q-init c = c.own_weights-best.ensures
 
 pub weighting-other-requires : goal.weighting-other-requires
 weighting-other-requires c = (c.requires, c.loop-q-test.true)
@@ -16,7 +16,7 @@ pub heavier-best-requires : goal.heavier-best-requires
 heavier-best-requires c = c.requires
 
 pub loop-q-preserved : goal.loop-q-preserved
-loop-q-preserved c = (search rules, chosen_of c.heavier-best.ensures c.loop-q.invariant.1 c.weighting-other.ensures)
+loop-q-preserved c = chosen_of c.heavier-best.ensures c.loop-q.invariant c.weighting-other.ensures
 
 pub returns : goal.returns
-returns c = c.loop-q.invariant.1
+returns c = c.loop-q.invariant

@@ -5,7 +5,4 @@ use Rattle.values.specs.Values.{Chosen}
 use Rattle.values.proofs.weighing.chosen.Given as goal
 
 abbrev pub invariant-loop-q : goal.invariant-loop-q
-invariant-loop-q l = (l.q ≤ weightings) × Chosen l.jobs l.best.weight l.best.most
-
-abbrev pub decreases-loop-q : goal.decreases-loop-q
-decreases-loop-q l = weightings - l.q
+invariant-loop-q l = Chosen l.jobs l.best.weight l.best.most

@@ -5,7 +5,4 @@ use Rattle.weights.specs.Weights.{widths, Put}
 use Rattle.values.proofs.weighing.counted.Given as goal
 
 abbrev pub invariant-loop-x : goal.invariant-loop-x
-invariant-loop-x l = (l.x ≤ l.modules + 1) × Put (λ y. y) (replicate widths 0) l.next l.x (λ y. y)
-
-abbrev pub decreases-loop-x : goal.decreases-loop-x
-decreases-loop-x l = l.modules + 1 - l.x
+invariant-loop-x l = Put (λ y. y) (replicate widths 0) l.next l.x (λ y. y)

@@ -4,10 +4,10 @@ use borrow.Author.Rules.{rules}
 use Rattle.values.proofs.weighing.lengths.Goals as goal
 
 pub loop-k-init : goal.loop-k-init
-loop-k-init c = (c.count-count.ensures, search rules)
+loop-k-init c = c.count-count.ensures
 
 pub kept-requires : goal.kept-requires
-kept-requires c = omega (arith, c.requires, c.loop-k.invariant.0, c.loop-k-test.true)
+kept-requires c = omega (arith, c.requires, c.loop-k.invariant, c.loop-k-test.true)
 
 pub bounds-next-k : goal.bounds-next-k
-bounds-next-k c = omega (arith, c.requires, c.loop-k.invariant.0, c.loop-k-test.true)
+bounds-next-k c = omega (arith, c.requires, c.loop-k.invariant, c.loop-k-test.true)

@@ -5,7 +5,4 @@ use Rattle.tables.specs.Tables.{count_of}
 use Rattle.values.proofs.weighing.lengths.Given as goal
 
 abbrev pub invariant-loop-k : goal.invariant-loop-k
-invariant-loop-k l = (l.count ≡ count_of l.jobs) × (l.k ≤ l.count)
-
-abbrev pub decreases-loop-k : goal.decreases-loop-k
-decreases-loop-k l = l.count - l.k
+invariant-loop-k l = l.count ≡ count_of l.jobs

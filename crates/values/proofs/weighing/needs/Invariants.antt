@@ -9,6 +9,3 @@ use Rattle.values.proofs.weighing.needs.Given as goal
 
 abbrev pub invariant-loop-k : goal.invariant-loop-k
 invariant-loop-k l = ((l.count ≡ count_of l.jobs) × (l.k ≤ l.count)) × Put (λ i. i) (replicate most_jobs 0) l.next l.k (need_at l.jobs)
-
-abbrev pub decreases-loop-k : goal.decreases-loop-k
-decreases-loop-k l = l.count - l.k

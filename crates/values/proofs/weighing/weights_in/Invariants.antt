@@ -11,6 +11,3 @@ abbrev pub invariant-loop-k : goal.invariant-loop-k
 invariant-loop-k l =
     ((l.count ≡ count_of l.jobs) × (l.k ≤ l.count))
     × Put (λ i. i) (replicate most_jobs 0) l.next l.k (λ i. weight_in (modules_of l.jobs) l.q (need_at l.jobs i))
-
-abbrev pub decreases-loop-k : goal.decreases-loop-k
-decreases-loop-k l = l.count - l.k

@@ -1,8 +1,0 @@
--- the code is the definition
-use Rattle.std.proofs.Common.{refl}
-use Rattle.bits.specs.Bits.{bit}
-use Rattle.bits.proofs.test64.Goals as goal
-
-pub returns : goal.returns
-unfolding bit
-returns c = refl

@@ -1,9 +1,0 @@
--- `fitting::turning::traced` meets its contract.
-use Prim.Native.Nat.{◌≤◌}
-use Rattle.fitting.proofs.turning.traced.Given as goal
-
-abbrev pub invariant-loop-i : goal.invariant-loop-i
-invariant-loop-i l = l.i ≤ l.count
-
-abbrev pub decreases-loop-i : goal.decreases-loop-i
-decreases-loop-i l = l.i

@@ -1,8 +1,0 @@
--- `minutes::book` meets its contract.
-use Rattle.minutes.proofs.book.Goals as goal
-
-pub returns-then-claiming : goal.returns-then-claiming
-returns-then-claiming c = rw c.if-claiming.true c.claim.ensures
-
-pub returns : goal.returns
-returns c = rw c.if-claiming.false c.hand_back.ensures

@@ -1,2 +1,0 @@
--- Laws of the prepared table.
-pub mod Filling
