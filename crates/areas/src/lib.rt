@@ -52,13 +52,13 @@ pub fn crowded(part: &Part, modules: u16, l: u16, close: u16) -> bool
 // ---- from a job's head on
 
 // For how long a job that starts from minute `first` on keeps its modules behind minute a, at least.
-fn late_minutes(kept: u16, first: u16, a: u16) -> u16
+fn late_minutes(kept: u16, first: u32, a: u16) -> u16
     ensures { result ≡ minutes_behind first a kept }
 {
-    if a <= first {
+    if (a as u32) <= first {
         return kept;
     }
-    let before = a - first;
+    let before = a - (first as u16);
     if kept <= before {
         return 0;
     }
@@ -106,10 +106,11 @@ fn late_job(
     requires { ((Fit jobs.now) × (HeldLater part.now)) × ((k < count_of jobs.now) × (target ≤ close)) }
     ensures { result ≡ true → TooLate jobs.now prepared.now part.now target close }
 {
-    let a = prepared.heads[k];
-    if (target as u32) < (a as u32) + (prepared.tails[k] as u32) {
+    let head = prepared.heads[k];
+    if (target as u64) < (head as u64) + (prepared.tails[k] as u64) {
         return true;
     }
+    let a = head as u16;
     let last = part.last;
     if a <= last {
         return false;

@@ -18,13 +18,13 @@ use tables::{Jobs, Part, Prepared};
 // ---- chains
 
 // Whether a job that starts at `start` (NO_MINUTE: it may not come next), and the chain behind it, last until `end`.
-fn too_long(start: u16, tail: u16, end: u16) -> bool
+fn too_long(start: u16, tail: u32, end: u16) -> bool
     ensures { result ≡ true → (start < no_minute) × (end ≤ start + tail) }
 {
     if start == NO_MINUTE {
         return false;
     }
-    end as u32 <= (start as u32) + (tail as u32)
+    end as u64 <= (start as u64) + (tail as u64)
 }
 
 // Whether that is so of some job of the set.

@@ -77,10 +77,10 @@ struct Ranked {
 const NO_RANK: u32 = 4294901760;
 
 // The rank of a job.
-fn rank_of(start: u16, chain: u16) -> u32
-    ensures { (result ≡ start * 65536 + (65535 - chain)) × (start ≤ 65535) }
+fn rank_of(start: u16, chain: u32) -> u32
+    ensures { (result ≡ start * 65536 + (65535 - chain % 65536)) × (start ≤ 65535) }
 {
-    (start as u32) * 65536 + (65535 - chain as u32)
+    (start as u32) * 65536 + (65535 - chain % 65536)
 }
 
 // The choice so far, or job j where its rank is less.

@@ -73,9 +73,13 @@ pub fn of_all(jobs: &Jobs) -> Heads
 }
 
 // The first minute at which job k can start from minute l on.
-pub fn first_start(prepared: &Prepared, l: u16, k: usize) -> u16
+pub fn first_start(prepared: &Prepared, l: u16, k: usize) -> u32
     requires { k < most_jobs }
     ensures { result ≡ max l (get_or prepared.now.heads k 0) }
 {
-    l.max(prepared.heads[k])
+    let head = prepared.heads[k];
+    if head <= (l as u32) {
+        return l as u32;
+    }
+    head
 }

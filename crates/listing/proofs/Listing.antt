@@ -30,7 +30,26 @@ use Rattle.candidates.specs.declared.Choice.{Choice}
 use Rattle.candidates.specs.Candidates.{Known, theory_part, JobStart, JobStarts, ChoiceOf}
 use Rattle.candidates.proofs.Children.{first_known, word_at, word_within, start_low, child_placeable, child_known}
 use Rattle.listing.specs.declared.Found.{Found}
-use Rattle.listing.specs.Listing.{Finished, OrderOf, NextJob, OneMore, Tried, Improved}
+use Rattle.listing.specs.Listing.{BytesOf, Finished, OrderOf, NextJob, OneMore, Tried, Improved}
+
+-- ---- an order in bytes
+
+pub bytes-none : (order : List ℕ) → BytesOf order 0 (replicate 20 0)
+bytes-none order = record { size = length-replicate {A = ℕ} 20 0; each = λ k l. absurd (omega arith) }
+
+pub bytes_more : {order r : List ℕ} {n : ℕ} → BytesOf order n r → n < 20 → BytesOf order (n + 1) (set r n (get_or order n 0 % 256))
+bytes_more {order} {r} {n} h few = record { size = length-set r n v ∙ h.size; each = λ k l. go k l (less-or-not k n) }
+  where
+    v : ℕ
+    v = get_or order n 0 % 256
+
+    go : (k : ℕ) → k < n + 1 → (k < n) ⊎ (n ≤ k) → get_or (set r n v) k 0 ≡ get_or order k 0 % 256
+    go k l (inl m) = get_or-set_other r n k v 0 (λ e. absurd (omega arith)) ∙ h.each k m
+    go k l (inr m) = let e : k ≡ n = omega arith in rw e (get_or-set_same r n v 0 (omega (arith, h.size)))
+
+-- bytes of more numbers are bytes of fewer
+pub bytes_fewer : {order r : List ℕ} {n m : ℕ} → BytesOf order n r → m ≤ n → BytesOf order m r
+bytes_fewer h few = record { size = h.size; each = λ k l. h.each k (omega arith) }
 
 module _ {t : Jobs} {part : Part} (known : Known t part) where
   abbrev S : Sheet
@@ -63,8 +82,16 @@ module _ {t : Jobs} {part : Part} (known : Known t part) where
     pub end_is : largest jobs (λ i. get_or part.ends i 0) ≡ end_of S w
     end_is = largest_same jobs _ _ (λ i l. known.is.figures.ends i l ∙ ap (λ b. only b (finish S P.plan i)) (placed i l))
 
-    pub word_is : {r : List ℕ} → r ≡ part.order → take jobs r ≡ w
-    word_is e = rw e (ap (λ (k : ℕ). take k part.order) (sym all) ∙ known.is.word)
+    pub word_is : (r : List ℕ) → BytesOf part.order jobs r → take jobs r ≡ w
+    word_is r h =
+        let long = length-take-le jobs r (omega (arith, h.size, known.fit.few)) in
+        ext_get_or 0 (take jobs r) w (omega (arith, size)) (λ k l. same k (omega arith))
+      where
+        same : (k : ℕ) → k < jobs → get_or (take jobs r) k 0 ≡ get_or w k 0
+        same k l =
+            let in_word : k < part.placed = omega (arith, known.is.figures.sizes) in
+            let small = word_within known k in_word in
+            get_or-take jobs r k 0 l ∙ omega (arith, h.each k l, word_at known k in_word, known.fit.few)
 
     short : largest jobs (λ i. get_or part.ends i 0) ≤ last_end
     short = largest-le jobs (λ i. get_or part.ends i 0) last_end (λ i l.
@@ -74,12 +101,14 @@ module _ {t : Jobs} {part : Part} (known : Known t part) where
 
     -- the order of a part-plan that has placed every job
     pub finished_order : {target : ℕ} {r : Found} → Finished part jobs target r → OrderOf S r
-    finished_order {r = r} h = record {
-      size = ap length h.order ∙ known.is.figures.places;
-      order = subst (Order S) (sym (word_is h.order)) whole;
-      end = ap (end_of S) (word_is h.order) ∙ sym end_is ∙ sym h.end;
-      low = omega (arith, short, h.end);
-    }
+    finished_order {r = r} h =
+        let bytes = bytes_fewer h.order known.fit.few in
+        record {
+          size = h.order.size;
+          order = subst (Order S) (sym (word_is r.order bytes)) whole;
+          end = ap (end_of S) (word_is r.order bytes) ∙ sym end_is ∙ sym h.end;
+          low = omega (arith, short, h.end);
+        }
 
   -- ---- no job may come next, and some is left
 

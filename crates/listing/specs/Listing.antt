@@ -1,5 +1,5 @@
 -- Orders with their ends: that of a list plan, and those that random moves lead to.
-use Rattle.std.specs.Prelude.{◌≡◌, false, not, List, ℕ, ◌+◌, ◌≤◌, ◌<◌, ltb, length, get_or, take, replicate}
+use Rattle.std.specs.Prelude.{◌≡◌, false, not, List, ℕ, ◌+◌, ◌%◌, ◌≤◌, ◌<◌, ltb, length, get_or, take, replicate}
 use Rattle.counting.specs.Counting.{largest}
 use Rattle.figures.specs.Figures.{most_jobs, no_minute}
 use Rattle.schedule.specs.Plan.{Sheet}
@@ -13,9 +13,15 @@ use Rattle.listing.specs.declared.Found.{Found}
 
 -- ---- the order of a part-plan
 
--- the order of a part-plan that has placed every job, where it ends by the target
+-- the first `count` numbers of an order, a byte for each
+pub record BytesOf (order : List ℕ) (count : ℕ) (r : List ℕ) : Type 0 where
+  pub size : length r ≡ most_jobs
+  pub each : (k : ℕ) → k < count → get_or r k 0 ≡ get_or order k 0 % 256
+
+-- the order of a part-plan that has placed every job, where it ends by the target; of its numbers all are put into bytes, what stands behind
+-- the placed jobs too
 pub record Finished (p : Part) (count target : ℕ) (r : Found) : Type 0 where
-  pub order : r.order ≡ p.order
+  pub order : BytesOf p.order most_jobs r.order
   pub end : r.end ≡ largest count (λ i. get_or p.ends i 0)
   pub hit : r.hit ≡ not (ltb target r.end)
 

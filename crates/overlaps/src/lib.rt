@@ -15,11 +15,11 @@ use tables::{Jobs, Part, Prepared};
 
 // The modules of a job that must have them at minute m, as it starts from minute `first` on and keeps them for so long, and starts so early
 // that its chain ends by the target; 0 where it need not.
-fn must_hold(need: u16, kept: u16, first: u16, tail: u16, target: u16, m: u16) -> u16
+fn must_hold(need: u16, kept: u16, first: u32, tail: u32, target: u16, m: u16) -> u16
     ensures { result ≡ only (must_run first tail target m kept) need }
 {
-    if (target as u32) <= (m as u32) + (tail as u32) {
-        if (m as u32) < (first as u32) + (kept as u32) {
+    if (target as u64) <= (m as u64) + (tail as u64) {
+        if (m as u64) < (first as u64) + (kept as u64) {
             return need;
         }
     }
@@ -80,15 +80,15 @@ fn no_room_for(
     ensures { result ≡ true → Overlapping jobs.now prepared.now part.now l target }
 {
     let tail = prepared.tails[k];
-    if target < tail {
+    if (target as u32) < tail {
         return false;
     }
-    let m = target - tail;
+    let m = target - (tail as u16);
     if m < l {
         return false;
     }
     let first = heads::first_start(prepared, l, k);
-    if (first as u32) + (jobs.kept(k) as u32) <= (m as u32) {
+    if (first as u64) + (jobs.kept(k) as u64) <= (m as u64) {
         return false;
     }
     no_room_at(jobs, prepared, part, gone, free, l, target, m)

@@ -1,7 +1,6 @@
 -- What the prepared table says of the jobs.
 use Rattle.tables.specs.declared.Jobs.{Jobs}
 use Rattle.tables.specs.declared.Prepared.{Prepared}
-use Rattle.std.specs.Prelude.{List, ℕ}
 use Rattle.tables.specs.Tables.{count_of}
 use Rattle.relations.specs.Relations.{ChainsOf, Related}
 use Rattle.heads.specs.Heads.{HeadsOf}

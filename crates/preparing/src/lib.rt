@@ -1,10 +1,22 @@
 // The prepared table: what is made of the jobs once for a search.
 #![tactic(auto)]
 
+ghost use Rattle.std.specs.Prelude.{◌≡◌};
 ghost use Rattle.tables.specs.Tables.{Fit};
 ghost use Rattle.preparing.specs.Preparing.{Begun, Tabled};
 
 use tables::{Jobs, Prepared};
+
+// A list of numbers as wider ones.
+fn widened<const N: usize>(list: &[u16; N]) -> [u32; N]
+    ensures { result ≡ list.now }
+{
+    let mut wide = [0u32; N];
+    for i in 0..N {
+        wide[i] = list[i] as u32;
+    }
+    wide
+}
 
 // All but the tables of the lanes.
 pub fn prepare(prepared: &mut Prepared, jobs: &Jobs)
@@ -15,15 +27,15 @@ pub fn prepare(prepared: &mut Prepared, jobs: &Jobs)
     let heads = heads::of_all(jobs);
     let relations = relations::relate(jobs);
     let weights = weights::weightings(jobs);
-    let tails = chains.at;
+    let tails = widened(&chains.at);
     prepared.tails = tails;
-    let heads = heads.at;
+    let heads = widened(&heads.at);
     prepared.heads = heads;
     let related = relations.of;
     prepared.related = related;
     let worth = weights.worth;
     prepared.worth = worth;
-    let most = weights.most;
+    let most = widened(&weights.most);
     prepared.most = most;
 }
 

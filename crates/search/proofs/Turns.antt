@@ -22,7 +22,7 @@ use Rattle.candidates.specs.Candidates.{Known, theory_part, JobStarts}
 use Rattle.candidates.proofs.Starting.{none_before}
 use Rattle.listing.specs.declared.Found.{Found}
 use Rattle.listing.specs.Listing.{Finished}
-use Rattle.listing.proofs.Listing.{whole, end_is, word_is, finished_order}
+use Rattle.listing.proofs.Listing.{bytes_fewer, whole, end_is, word_is, finished_order}
 use Rattle.search.proofs.Recalls.{remembered_adds, hit_cut}
 use Rattle.search.specs.Search.{Remembered, Fails, Outcome}
 
@@ -48,10 +48,10 @@ module _ {t : Jobs} {part : Part} (known : Known t part) where
     pub visit_leaf : {target : ℕ} {r : Found} {left : ℕ} → Finished part jobs target r → Outcome S target w r left
     unfolding CannotBeat
     visit_leaf {target} {r} f = record {
-      size = ap length f.order ∙ known.is.figures.places;
+      size = f.order.size;
       hit = λ h. record {
         order = (finished_order known all f).order;
-        begins = ([], word_is known all f.order ∙ sym (append-nil w));
+        begins = ([], word_is known all r.order (bytes_fewer f.order known.fit.few) ∙ sym (append-nil w));
         end = (finished_order known all f).end;
         within = ltb-false target r.end (not-true _ (sym f.hit ∙ h));
       };

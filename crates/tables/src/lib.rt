@@ -114,7 +114,7 @@ pub struct Part {
     pub until: [u16; MOST_JOBS],
     pub held: [u16; MOST_JOBS],
     // The jobs as they were placed.
-    pub order: [u8; MOST_JOBS],
+    pub order: [u16; MOST_JOBS],
     // The last start, and the modules that are free then.
     pub last: u16,
     pub free: u16,
@@ -132,13 +132,13 @@ pub struct Part {
 #[derive(Clone, Copy)]
 pub struct Prepared {
     // The longest chain that begins with each job, and the minute before which it cannot start.
-    pub tails: [u16; MOST_JOBS],
-    pub heads: [u16; MOST_JOBS],
+    pub tails: [u32; MOST_JOBS],
+    pub heads: [u32; MOST_JOBS],
     // Three sets of related jobs for each job.
     pub related: [u32; RELATED_PLACES],
     // Five weightings: the worth of each job, and the most that can stand on so many modules.
     pub worth: [u32; WORTH_PLACES],
-    pub most: [u16; MOST_PLACES],
+    pub most: [u32; MOST_PLACES],
     // The tables of the lanes.
     pub lanes: [u32; LANES_PLACES],
 }

@@ -189,7 +189,7 @@ fn with_room(room: Totals, prepared: &Prepared, x: u16, minutes: u16) -> Totals
     let row = (x as usize) * WEIGHTINGS;
     let mut next = [0u32; WEIGHTINGS];
     for q in 0..WEIGHTINGS {
-        let most = prepared.most[row + q];
+        let most = prepared.most[row + q] as u16;
         next[q] = room.of[q] + counting::times(most, minutes);
     }
     Totals { of: next }

@@ -1,5 +1,6 @@
 -- `candidates::next_choice` meets its contract.
 use mathlib.Core.Path.{refl}
+use Prim.Native.Nat.{◌%◌}
 use lib.ListN.{get_or}
 use native.Mathlib.Omega.{arith}
 use native.Mathlib.Nat.{pos_of_ne-zero}
@@ -27,7 +28,7 @@ loop-j-preserved c =
     let rank = c.rank_of.ensures in
     let choose = c.choose-c in
     rw (c.in-Some.ensures.steps.3)
-    (choosing-step a.at.now a.set a.count loop.j-iterator.left c.in-Some.j (get_or a.prepared.now.tails c.in-Some.j 0) loop.c.job loop.c.rank
+    (choosing-step a.at.now a.set a.count loop.j-iterator.left c.in-Some.j (get_or a.prepared.now.tails c.in-Some.j 0 % 65536) loop.c.job loop.c.rank
     choose.result.job choose.result.rank rank.1 loop.invariant c.in-Some.ensures.steps.1 (rw rank.0 at choose.ensures))
 
 pub returns : goal.returns

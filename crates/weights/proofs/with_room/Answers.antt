@@ -11,6 +11,20 @@ use Rattle.weights.proofs.with_room.Goals as goal
 pub loop-q-init : goal.loop-q-init
 loop-q-init c = put-none _ _ _
 
+pub overflow_cast-most : goal.overflow_cast-most
+overflow_cast-most c =
+    let loop-test = c.loop-q-test in
+    let loop = c.loop-q in
+    let args = c.args in
+    let pre = c.requires in
+    record {
+      fits = omega (
+        arith,
+        pre.0.1 (args.x * weightings + loop.q)
+            (omega (arith, pre.0.0, loop-test.true)),
+      );
+    }
+
 pub overflow_add-next : goal.overflow_add-next
 overflow_add-next c =
     let loop-test = c.loop-q-test in
