@@ -11,16 +11,15 @@ use sheet_format::checks::outside;
 use sheet_format::layout::{FIRST_LABEL_BYTE, LAST_LABEL_BYTE, SPACE};
 use sheet_format::{Job, label_length};
 
-// Whether some byte is no label byte.
+// Whether some byte is no label byte. Every byte is looked at: without an exit the bytes of a label are compared several at a time.
 fn wrong_bytes(bytes: &[u8]) -> bool
     ensures { result ≡ wrong_bytes bytes.now }
 {
+    let mut found = false;
     for b in bytes {
-        if outside(FIRST_LABEL_BYTE, LAST_LABEL_BYTE, *b as usize) {
-            return true;
-        }
+        found |= outside(FIRST_LABEL_BYTE, LAST_LABEL_BYTE, *b as usize);
     }
-    false
+    found
 }
 
 // Whether a label has a byte that is none of a label, or begins or ends with a space.

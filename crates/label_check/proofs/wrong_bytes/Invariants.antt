@@ -1,6 +1,6 @@
--- `label_check::wrong_bytes` meets its contract: none of the bytes before this one is wrong.
+-- `label_check::wrong_bytes` meets its contract: after i bytes it is known whether one of them is wrong.
 use mathlib.Core.Path.{◌≡◌}
-use mathlib.Core.Bool.{Bool, false}
+use mathlib.Core.Bool.{Bool}
 use mathlib.Core.List.{List}
 use Prim.Native.Nat.{ℕ}
 use lib.ListN.{get_or}
@@ -14,4 +14,4 @@ abbrev pub wrong : List ℕ → ℕ → Bool
 wrong bytes k = outside first_label_byte last_label_byte (get_or bytes k 0)
 
 abbrev pub invariant-loop-b : goal.invariant-loop-b
-invariant-loop-b l = any l.b-index (wrong l.bytes) ≡ false
+invariant-loop-b l = l.found ≡ any l.b-index (wrong l.bytes)
