@@ -42,7 +42,9 @@ fn moved_on(order: &[u8; MOST_JOBS], a: usize, b: usize) -> [u8; MOST_JOBS]
     requires { (a ≤ b) × (b < most_jobs) }
 {
     let mut next = *order;
-    next[a..b + 1].rotate_left(1);
+    let taken = order[a];
+    next[a..b].copy_from_slice(&order[a + 1..b + 1]);
+    next[b] = taken;
     next
 }
 
@@ -51,7 +53,9 @@ fn moved_back(order: &[u8; MOST_JOBS], a: usize, b: usize) -> [u8; MOST_JOBS]
     requires { (a ≤ b) × (b < most_jobs) }
 {
     let mut next = *order;
-    next[a..b + 1].rotate_right(1);
+    let taken = order[b];
+    next[a + 1..b + 1].copy_from_slice(&order[a..b]);
+    next[a] = taken;
     next
 }
 

@@ -158,7 +158,7 @@ fn write_parts(
     let offset = labels.len();
     let end = offset + RECORD_SIZE * count;
     let length = end + TRAILER_SIZE;
-    out[..offset].copy_from_slice(labels);
+    words::copy(&mut out[..offset], labels);
     records::write_all(&mut out[offset..end], jobs, count);
     trailer::write(&mut out[end..length], offset as u32, count as u16, cabinet);
     length

@@ -1,4 +1,4 @@
-// Numbers of several bytes, little-endian, at a place of a lent slice.
+// Numbers of several bytes, little-endian, at a place of a lent slice; bytes copied into one.
 #![tactic(auto)]
 
 ghost use Rattle.std.specs.Prelude.{◌≡◌, ℕ, ◌+◌, ◌≤◌, length};
@@ -70,5 +70,15 @@ impl Number for u64 {
 
     fn write(s: &mut [u8], at: usize, x: u64) {
         s[at..at + 8].copy_from_slice(&x.to_le_bytes());
+    }
+}
+
+// Copies bytes over a part as long as they are. In a loop: std's copy of one slice to another calls memmove, and the archive needs none.
+pub fn copy(part: &mut [u8], bytes: &[u8])
+    requires { length part.old ≡ length bytes.now }
+    ensures { part.new ≡ bytes.now }
+{
+    for i in 0..bytes.len() {
+        part[i] = bytes[i];
     }
 }

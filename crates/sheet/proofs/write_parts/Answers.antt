@@ -7,22 +7,22 @@ use Rattle.sheet_format.specs.Format.{jobs_in}
 use Rattle.sheet.proofs.Writes.{parts_are}
 use Rattle.sheet.proofs.write_parts.Goals as goal
 
-pub slice_bounds-copy_from_slice-end-2 : goal.slice_bounds-copy_from_slice-end-2
-slice_bounds-copy_from_slice-end-2 c =
+pub slice_bounds-copy-end-2 : goal.slice_bounds-copy-end-2
+slice_bounds-copy-end-2 c =
     sym (length-take-le (length c.args.labels.now) c.args.out.now (omega
     arith))
 
-pub copy_from_slice-requires : goal.copy_from_slice-requires
-copy_from_slice-requires c =
+pub copy-requires : goal.copy-requires
+copy-requires c =
     length-take-le (length c.args.labels.now) c.args.out.now (omega arith)
 
 pub returns : goal.returns
 returns c =
     let a = c.args in
-    let l = c.copy_from_slice in
+    let l = c.copy in
     let r = c.write_all in
     let t = c.write in (
       refl,
-      parts_are (jobs_in a.jobs) a.count a.labels.now a.cabinet a.out.now l.new.self r.new.part t.new.part
-          l.ensures.after r.ensures t.ensures,
+      parts_are (jobs_in a.jobs) a.count a.labels.now a.cabinet a.out.now l.new.part r.new.part t.new.part
+          l.ensures r.ensures t.ensures,
     )
