@@ -53,7 +53,7 @@ pub extern "C" fn depot_plan(sheet: &[u8], card: &mut [u8], work: &mut [u8]) -> 
     ensures card { card.new ≡ card_after sheet.now card.old }
     ensures work { work.new ≡ memory_after sheet.now (length card.old) work.old }
 {
-    checking::number(planner::plan(sheet, card, work))
+    planner::plan(sheet, card, work)
 }
 
 // Planning with a limit: the search gives up after about so many part-plans, at UINT64_MAX never. Answered, or the first refusal of 1 to 10

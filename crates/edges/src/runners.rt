@@ -27,7 +27,7 @@ fn sheet_of_one() -> [u8; SHEET] {
 
 fn card_of_one() -> [u8; CARD] {
     let mut card = [0u8; CARD];
-    let _ = planner::plan(&sheet_of_one(), &mut card, &mut [0u8; 0]);
+    planner::plan(&sheet_of_one(), &mut card, &mut [0u8; 0]);
     card
 }
 

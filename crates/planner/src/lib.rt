@@ -37,7 +37,7 @@ pub fn write_best(card: &mut [u8], work: &mut [u8], jobs: &Jobs)
 
 // Planning, or the first refusal of 1 to 10 and 19. Answered, the card of the tie rule's plan is at the front of the lent card and the
 // working memory is all zero; refused, every lent byte is as before.
-pub fn plan(sheet: &[u8], card: &mut [u8], work: &mut [u8]) -> Result<(), Refusal>
+pub fn try_plan(sheet: &[u8], card: &mut [u8], work: &mut [u8]) -> Result<(), Refusal>
     ensures refusal { refusal_number result ≡ plan_refusal sheet.now (length card.old) }
     ensures card { card.new ≡ card_after sheet.now card.old }
     ensures work { work.new ≡ memory_after sheet.now (length card.old) work.old }
@@ -48,4 +48,13 @@ pub fn plan(sheet: &[u8], card: &mut [u8], work: &mut [u8]) -> Result<(), Refusa
     }
     write_best(card, work, &jobs);
     Ok(())
+}
+
+// The same as a number, for callers in C: 0, or that of the refusal.
+pub fn plan(sheet: &[u8], card: &mut [u8], work: &mut [u8]) -> u32
+    ensures refusal { result ≡ plan_refusal sheet.now (length card.old) }
+    ensures card { card.new ≡ card_after sheet.now card.old }
+    ensures work { work.new ≡ memory_after sheet.now (length card.old) work.old }
+{
+    checking::number(try_plan(sheet, card, work))
 }

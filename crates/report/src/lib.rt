@@ -16,7 +16,7 @@ pub fn report(sheet: &[u8], work: &mut [u8]) -> Text
     ensures work { work.new ≡ memory_after sheet.now longest_card work.old }
 {
     let mut card = [0u8; LONGEST_CARD];
-    match planner::plan(sheet, &mut card, work) {
+    match planner::try_plan(sheet, &mut card, work) {
         Ok(()) => plan_text::plan_lines(sheet, &card),
         Err(refusal) => plan_text::refused_line(refusal.number()),
     }

@@ -1,8 +1,8 @@
--- `planner::plan` meets its contract.
+-- `planner::try_plan` meets its contract.
 use mathlib.Core.Path.{sym, ◌∙◌}
 use Rattle.std.proofs.lemmas.Result.{err_from_is_err_and}
 use Rattle.planner.proofs.Calls.{turned_away, few_jobs, no_room, can_plan, answered}
-use Rattle.planner.proofs.plan.Goals as goal
+use Rattle.planner.proofs.try_plan.Goals as goal
 
 pub returns-in_err-jobs : goal.returns-in_err-jobs
 returns-in_err-jobs c =
