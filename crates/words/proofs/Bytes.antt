@@ -1,11 +1,12 @@
--- The bytes of a number: how many, and below 256.
+-- The bytes of a number: how many, below 256, and in two parts.
 use mathlib.Core.Path.{◌≡◌, refl, sym, ap, ap₂, ◌∙◌}
 use mathlib.Core.Logic.{◌⊎◌, inl, inr}
-use mathlib.Core.List.{List, [], ◌∷◌, ◌++◌}
+use mathlib.Core.List.{List, [], ◌∷◌, ◌++◌, append_assoc, append-nil}
 use Prim.Native.Nat.{ℕ, zero, suc, ◌+◌, ◌-◌, ◌*◌, ◌/◌, ◌%◌, ◌^◌, ◌≤◌, ◌<◌}
+use native.Mathlib.Nat.{add-zero}
 use native.Mathlib.Omega.{arith}
 use lib.ListN.{length, take, drop, length-drop, get_or-eq_default}
-use lib.Pow.{field, mod-mod-pow}
+use lib.Pow.{shr-shr, field, mod-mod-pow}
 use lib.Seq.{take-suc, get_or_at, get_or-drop}
 use Rattle.counting.specs.Counting.{joined}
 use Rattle.counting.proofs.Tests.{less-or-not}
@@ -38,6 +39,18 @@ bytes_low k x = joined_same k (λ i. x % 2 ^ (8 * k) / 2 ^ (8 * i) % 256 ∷ [])
     (sym (field (x % 2 ^ (8 * k)) 8 (8 * i))
     ∙ ap (λ (y : ℕ). y / 2 ^ (8 * i)) (ap (λ (n : ℕ). x % 2 ^ n % 2 ^ (8 + 8 * i)) e ∙ mod-mod-pow x (8 * (k - suc i)) (8 + 8 * i))
     ∙ field x 8 (8 * i)))
+
+-- the a lowest bytes, and the b above them
+pub bytes_parts : (a b x : ℕ) → bytes_of (a + b) x ≡ bytes_of a x ++ bytes_of b (x / 2 ^ (8 * a))
+unfolding joined
+bytes_parts a zero x = ap (λ (n : ℕ). bytes_of n x) (add-zero a) ∙ sym (append-nil (bytes_of a x))
+bytes_parts a (suc b) x =
+    let e : a + suc b ≡ suc (a + b) = omega arith in
+    let f : 8 * (a + b) ≡ 8 * a + 8 * b = omega arith in
+    ap (λ (n : ℕ). bytes_of n x) e
+    ∙ ap₂ (λ (s : List ℕ) (y : ℕ). s ++ (y % 256 ∷ [])) (bytes_parts a b x)
+    (ap (λ (n : ℕ). x / 2 ^ n) f ∙ sym (shr-shr x (8 * a) (8 * b)))
+    ∙ append_assoc (bytes_of a x) (bytes_of b (x / 2 ^ (8 * a))) _
 
 -- the k bytes of a list from `at` on, one by one
 pub segment : (s : List ℕ) (at k : ℕ) → at + k ≤ length s → take k (drop at s) ≡ joined k (λ i. byte_at s (at + i) ∷ [])

@@ -21,6 +21,19 @@ number_same s r a b zero h = refl
 number_same s r a b (suc k) h =
     ap₂ (λ (x y : ℕ). x * 2 ^ (8 * k) + y) (h k (le_refl _)) (number_same s r a b k (below_suc k h))
 
+-- two, four and eight bytes: a byte or a number, and another above it
+pub two_bytes : (s : List ℕ) (at : ℕ) → number_at s at 2 ≡ byte_at s at + byte_at s (at + 1) * 256
+unfolding number_at
+two_bytes s at = simp add-zero (omega arith)
+
+pub four_bytes : (s : List ℕ) (at : ℕ) → number_at s at 4 ≡ number_at s at 2 + number_at s (at + 2) 2 * 65536
+unfolding number_at
+four_bytes s at = simp (add-zero, add_assoc) (omega arith)
+
+pub eight_bytes : (s : List ℕ) (at : ℕ) → number_at s at 8 ≡ number_at s at 4 + number_at s (at + 4) 4 * 4294967296
+unfolding number_at
+eight_bytes s at = simp (add-zero, add_assoc) (omega arith)
+
 -- ---- where it stands
 
 pub number_front : (xs ys : List ℕ) (a k : ℕ) → a + k ≤ length xs → number_at (xs ++ ys) a k ≡ number_at xs a k

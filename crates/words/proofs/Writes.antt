@@ -1,14 +1,16 @@
 -- Lists with numbers written at their places: what stands there, what stands beside it, and numbers one behind another.
 use mathlib.Core.Path.{◌≡◌, sym, ap, ap₂, ◌∙◌}
 use mathlib.Core.Logic.{◌⊎◌, inl, inr, ⊎_elim}
-use mathlib.Core.List.{List, ◌∷◌, ◌++◌, append_assoc}
+use mathlib.Core.List.{List, [], ◌∷◌, ◌++◌, append_assoc}
 use Prim.Native.Nat.{ℕ, ◌+◌, ◌-◌, ◌*◌, ◌/◌, ◌%◌, ◌^◌, ◌≤◌, ◌<◌}
 use native.Mathlib.Omega.{arith}
-use native.Mathlib.Nat.{div-one}
-use lib.ListN.{length, take, drop, length-append, length-drop, get_or-append}
-use lib.Seq.{take_at, drop_at, drop-drop, length-take-le, get_or-append-add, get_or-take, get_or-drop}
+use native.Mathlib.Nat.{add_assoc, div-one}
+use native.Mathlib.Numerals.{add-one}
+use lib.ListN.{length, take, drop, set, length-append, length-drop, get_or-append}
+use lib.Seq.{sets-eq, take_at, drop_at, drop-drop, length-take-le, get_or-append-add, get_or-take, get_or-drop}
+use Rattle.counting.specs.Counting.{joined}
 use Rattle.words.specs.Words.{byte_at, number_at, bytes_of, written}
-use Rattle.words.proofs.Bytes.{bytes-length}
+use Rattle.words.proofs.Bytes.{bytes-length, bytes_low, bytes_parts}
 use Rattle.words.proofs.Numbers.{number_same, number_next}
 use Rattle.words.proofs.Parts.{whole}
 use borrow.Rule.Slice.PartMut.{put_mid}
@@ -74,6 +76,36 @@ three_numbers l p s t u v n i j k x y z e h front a b c =
 
     two : length ((p ++ bytes_of i x) ++ bytes_of j y) ≡ n + i + j
     two = length-append (p ++ bytes_of i x) (bytes_of j y) ∙ omega (arith, one, bytes-length j y)
+
+-- ---- a number in two parts
+
+pub written_parts : (s : List ℕ) (at a b x : ℕ) → at + a ≤ length s
+    → written (written s at a (x % 2 ^ (8 * a))) (at + a) b (x / 2 ^ (8 * a)) ≡ written s at (a + b) x
+unfolding written
+written_parts s at a b x h =
+    let front = length-take-le at s (omega arith) in
+    let p = take at s ++ bytes_of a x in
+    let size : length p ≡ at + a = length-append (take at s) (bytes_of a x) ∙ omega (arith, front, bytes-length a x) in
+    ap (λ (l : List ℕ). written (take at s ++ (l ++ drop (at + a) s)) (at + a) b (x / 2 ^ (8 * a))) (bytes_low a x)
+    ∙ ap (λ (l : List ℕ). written l (at + a) b (x / 2 ^ (8 * a))) (sym (append_assoc (take at s) (bytes_of a x) (drop (at + a) s)))
+    ∙ written_next s p (at + a) b (x / 2 ^ (8 * a)) size
+    ∙ append_assoc p (bytes_of b (x / 2 ^ (8 * a))) (drop (at + a + b) s)
+    ∙ append_assoc (take at s) (bytes_of a x) (bytes_of b (x / 2 ^ (8 * a)) ++ drop (at + a + b) s)
+    ∙ ap (λ (l : List ℕ). take at s ++ l)
+    (sym (append_assoc (bytes_of a x) (bytes_of b (x / 2 ^ (8 * a))) (drop (at + a + b) s))
+    ∙ ap₂ (λ (l : List ℕ) (n : ℕ). l ++ drop n s) (sym (bytes_parts a b x)) (add_assoc at a b))
+
+-- two stored bytes are a number of two bytes
+pub stored_two : (s : List ℕ) (at x : ℕ) → at + 2 ≤ length s → x < 65536
+    → set (set s at (x % 256)) (at + 1) (x / 256) ≡ written s at 2 x
+unfolding written joined
+stored_two s at x h l =
+    let low : x % 256 ≡ x / 2 ^ (8 * 0) % 256 = omega arith in
+    let high : x / 256 ≡ x / 2 ^ (8 * 1) % 256 = omega arith in
+    ap (λ (n : ℕ). set (set s at (x % 256)) n (x / 256)) (add-one at)
+    ∙ sets-eq (x % 256 ∷ x / 256 ∷ []) s at h
+    ∙ append_assoc (take at s) (x % 256 ∷ x / 256 ∷ []) (drop (at + 2) s)
+    ∙ ap₂ (λ (a b : ℕ). take at s ++ (a ∷ b ∷ drop (at + 2) s)) low high
 
 -- ---- a number's bytes in a part of the slice
 

@@ -15,9 +15,9 @@ pub loop-i-preserved : goal.loop-i-preserved
 loop-i-preserved c =
     let i = c.loop-i.i in
     let jobs = jobs_in c.args.jobs.now in
-    ap (λ (l : List Job). set l i (jobs i)) c.loop-i.invariant ∙ place_more i jobs (omega (arith, c.min-count.ensures))
+    ap (λ (l : List Job). set l i (jobs i)) c.loop-i.invariant ∙ place_more i jobs (omega (arith, c.at_most-count.ensures))
 
 pub returns : goal.returns
 returns c =
-    let e : c.loop-i.i ≡ c.min-count.result = omega arith in
-    c.loop-i.invariant ∙ ap (λ (n : ℕ). places n (jobs_in c.args.jobs.now)) (e ∙ c.min-count.ensures)
+    let e : c.loop-i.i ≡ c.at_most-count.result = omega arith in
+    c.loop-i.invariant ∙ ap (λ (n : ℕ). places n (jobs_in c.args.jobs.now)) (e ∙ c.at_most-count.ensures)
